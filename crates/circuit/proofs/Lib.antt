@@ -1,0 +1,2 @@
+-- What is proved of the circuit's definitions.
+pub mod Computing

@@ -1,0 +1,6 @@
+-- The prime field as an instance of the laws, what follows from the laws for every field, and bounds on products.
+pub mod PrimeField
+pub mod Ring
+pub mod Solver
+pub mod Sums
+pub mod Bounds

@@ -1,0 +1,4 @@
+-- What is proved of the joint run's definitions.
+pub mod Computing
+pub mod Docket
+pub mod Order

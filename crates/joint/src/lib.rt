@@ -1,0 +1,1 @@
+// All parties in one run. The definitions are in specs/.

@@ -1,0 +1,1 @@
+// One party of the online phase. The definitions are in specs/.
