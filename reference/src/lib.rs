@@ -1,0 +1,26 @@
+//! The online phase of SPDZ as document 01 has it, written a second time and independently: a source
+//! of test vectors, and a baseline for speed.
+//!
+//! Names are the field's standard terms: a party is document 01's seat, a gate its line (the gate's
+//! value is a wire), preprocessing its material, coefficients its draws, sending and receiving its
+//! speaking and hearing, a position its place, commit, reveal and opening an output its seal, reveal
+//! and show, an aborted run a stopped one, an output its score.
+
+pub mod circuit;
+pub mod docket;
+pub mod field;
+pub mod joint;
+mod local;
+pub mod party;
+pub mod plain;
+pub mod position;
+pub mod prep;
+pub mod random;
+pub mod refusal;
+pub mod requests;
+pub mod theorems;
+
+pub use field::P;
+pub use joint::{joint_run, Ending, JointResult};
+pub use party::{open, receive, send, Party, Position, Received, Round, Stage};
+pub use refusal::Refusal;

@@ -1,0 +1,43 @@
+use std::process::ExitCode;
+
+use reference::requests::{self, Size};
+
+const USAGE: &str =
+    "usage: reference docket | reference coverage SEED COUNT | reference theorems SEED COUNT";
+
+fn main() -> ExitCode {
+    let arguments: Vec<String> = std::env::args().skip(1).collect();
+    let arguments: Vec<&str> = arguments.iter().map(String::as_str).collect();
+    match arguments[..] {
+        ["docket"] => match reference::docket::print() {
+            Ok(text) => print!("{text}"),
+            Err(refusal) => {
+                eprintln!("the docket is refused: {refusal:?}");
+                return ExitCode::FAILURE;
+            }
+        },
+        ["coverage", seed, count] => {
+            let (Ok(seed), Ok(count)) = (seed.parse(), count.parse()) else {
+                return usage();
+            };
+            let answered = requests::generate(seed, count, Size::SMALL);
+            for (label, times) in requests::coverage(&answered) {
+                println!("{times:6} {label}");
+            }
+        }
+        ["theorems", seed, count] => {
+            let (Ok(seed), Ok(count)) = (seed.parse(), count.parse()) else {
+                return usage();
+            };
+            let answered = requests::generate(seed, count, Size::SMALL);
+            print!("{}", reference::theorems::theorems(&answered));
+        }
+        _ => return usage(),
+    }
+    ExitCode::SUCCESS
+}
+
+fn usage() -> ExitCode {
+    eprintln!("{USAGE}");
+    ExitCode::from(2)
+}

@@ -1,0 +1,288 @@
+//! One party: opening a run, sending and receiving.
+
+use crate::circuit::{self, Before, Gate, Shape};
+use crate::field::{self, P};
+use crate::local::Local;
+use crate::position::{can_hold, can_occur};
+use crate::refusal::{ask, ask_each, ask_elements, ask_parties, Refusal};
+
+pub use crate::position::{Position, Round, Stage};
+
+/// What a party is lent besides its scratch.
+#[derive(Clone, Copy, Debug, PartialEq, Eq)]
+pub struct Party<'a> {
+    pub parties: u32,
+    pub party: u32,
+    pub circuit: &'a [u32],
+    pub prep: &'a [u32],
+    pub inputs: &'a [u32],
+}
+
+#[derive(Clone, Copy, Debug, PartialEq, Eq)]
+pub enum Received {
+    Moved(Position),
+    Released { output: u32, position: Position },
+    Aborted(Position),
+}
+
+/// An accepted step: where it is, and what it works with.
+struct Step<'a> {
+    index: usize,
+    gate: Gate,
+    round: Round,
+    before: Before,
+    record: &'a [u32],
+    shape: Shape,
+    local: Local,
+}
+
+#[derive(Clone, Copy, PartialEq)]
+enum Half {
+    Send,
+    Receive,
+}
+
+/// Questions 1 to 12.
+fn ask_lent(lent: &Party<'_>, scratch: &[u32]) -> Result<Shape, Refusal> {
+    ask_parties(lent.parties)?;
+    ask(2, lent.party < lent.parties)?;
+    let shape = circuit::ask_circuit(lent.parties, lent.circuit)?;
+    ask(8, lent.prep.len() == shape.prep_len())?;
+    ask_elements(9, lent.prep)?;
+    ask(10, lent.inputs.len() == shape.owned[lent.party as usize])?;
+    ask_elements(11, lent.inputs)?;
+    ask(12, scratch.len() >= shape.scratch_len())?;
+    Ok(shape)
+}
+
+/// Questions 1 to 15 of sending and receiving.
+fn ask_step<'a>(
+    lent: &Party<'a>,
+    scratch: &[u32],
+    position: Position,
+    half: Half,
+) -> Result<Step<'a>, Refusal> {
+    let shape = ask_lent(lent, scratch)?;
+    let no = |number| Refusal { number, index: 0 };
+
+    let index = position.gate as usize;
+    let gate = circuit::gate(lent.circuit, index).ok_or(no(13))?;
+    let before = circuit::before(lent.circuit, lent.party, index);
+    ask(
+        13,
+        can_occur(
+            gate,
+            index + 1 == shape.gates,
+            before.pending,
+            position.stage,
+        ),
+    )?;
+    ask(13, can_hold(position.stage, position.held))?;
+
+    let round = match (position.stage, half) {
+        (Stage::Send(round), Half::Send) | (Stage::Receive(round), Half::Receive) => round,
+        _ => return Err(no(14)),
+    };
+
+    ask_scratch(
+        lent.circuit,
+        &shape,
+        index,
+        round.unchecked(before.pending),
+        scratch,
+    )?;
+    let record = &lent.prep[before.record..][..gate.record_len()];
+    let local = Local::new(lent.party as usize, lent.prep, shape.layout());
+    Ok(Step {
+        index,
+        gate,
+        round,
+        before,
+        record,
+        shape,
+        local,
+    })
+}
+
+/// Question 15: every share comes before every MAC share, and these before the opened entries, as in
+/// the scratch itself, so the first no found has the lowest index.
+fn ask_scratch(
+    circuit: &[u32],
+    shape: &Shape,
+    index: usize,
+    unchecked: usize,
+    scratch: &[u32],
+) -> Result<(), Refusal> {
+    let layout = shape.layout();
+    let values = || {
+        let lines = circuit.chunks_exact(4).take(index).enumerate();
+        lines
+            .filter(|(_, line)| circuit::has_value(line))
+            .map(|(wire, _)| wire)
+    };
+    let asked = values()
+        .map(|wire| layout.share(wire))
+        .chain(values().map(|wire| layout.mac(wire)))
+        .chain((0..unchecked).map(|entry| layout.opened(entry)))
+        .chain((0..unchecked).map(|entry| layout.opened_mac(entry)));
+    for index in asked {
+        if scratch[index] >= P {
+            return Err(Refusal { number: 15, index });
+        }
+    }
+    Ok(())
+}
+
+/// "Opening a run writes nothing and gives the speaking half of line 0", which is an in gate, as
+/// every other kind names an earlier gate.
+pub fn open(lent: &Party<'_>, scratch: &[u32]) -> Result<Position, Refusal> {
+    ask_lent(lent, scratch)?;
+    Ok(Position {
+        gate: 0,
+        stage: Stage::Send(Round::Input),
+        held: 0,
+    })
+}
+
+/// The sending half of a round: writes the party's words at the start of `out`.
+pub fn send(
+    lent: &Party<'_>,
+    scratch: &[u32],
+    position: Position,
+    coefficients: &[u32],
+    out: &mut [u32],
+) -> Result<Position, Refusal> {
+    let Step {
+        gate,
+        round,
+        before,
+        record,
+        local,
+        ..
+    } = ask_step(lent, scratch, position, Half::Send)?;
+    let wanted = if round.is_commit() {
+        round.unchecked(before.pending)
+    } else {
+        0
+    };
+    ask(16, coefficients.len() == wanted)?;
+    ask_elements(17, coefficients)?;
+    ask(18, out.len() >= round.words())?;
+
+    let mut held = 0;
+    match gate {
+        Gate::Input { owner } => {
+            out[0] = if owner == lent.party {
+                Local::input_word(record, lent.inputs[before.own_inputs])
+            } else {
+                0
+            };
+        }
+        Gate::Multiply { left, right } => {
+            out[..2].copy_from_slice(&local.multiply_words(scratch, record, left, right));
+        }
+        Gate::Output { wire } if round == Round::OpenOutput => {
+            out[0] = local.output_word(scratch, wire)
+        }
+        _ if round.is_commit() => {
+            held = local.check_share(scratch, coefficients);
+            out[0] = 1;
+        }
+        _ => out[0] = position.held,
+    }
+    Ok(Position {
+        stage: Stage::Receive(round),
+        held,
+        ..position
+    })
+}
+
+/// The receiving half of a round: reads all parties' words, the party's own among them.
+pub fn receive(
+    lent: &Party<'_>,
+    scratch: &mut [u32],
+    position: Position,
+    heard: &[u32],
+) -> Result<Received, Refusal> {
+    let step = ask_step(lent, scratch, position, Half::Receive)?;
+    let Step {
+        index,
+        gate,
+        round,
+        before,
+        record,
+        local,
+        ..
+    } = step;
+    ask(19, heard.len() == lent.parties as usize * round.words())?;
+    ask_elements(20, heard)?;
+    if round.is_commit() {
+        ask_each(21, heard, |mark| mark == 1)?;
+    }
+
+    let same_gate = |round, held| Position {
+        stage: Stage::Send(round),
+        held,
+        ..position
+    };
+    Ok(match (round, gate) {
+        (Round::Input, Gate::Input { owner }) => {
+            local.receive_input(scratch, index, record, heard[owner as usize]);
+            Received::Moved(next_gate(lent.circuit, &step, scratch))
+        }
+        (Round::Multiply, Gate::Multiply { left, right }) => {
+            let e = field::sum(heard.iter().step_by(2));
+            let d = field::sum(heard.iter().skip(1).step_by(2));
+            local.receive_multiply(
+                scratch,
+                (index, left, right),
+                record,
+                before.pending,
+                (e, d),
+            );
+            Received::Moved(next_gate(lent.circuit, &step, scratch))
+        }
+        (Round::OpenOutput, Gate::Output { wire }) => {
+            local.receive_output(scratch, wire, field::sum(heard));
+            Received::Moved(same_gate(Round::CommitOutput, 0))
+        }
+        (Round::CommitOpened, _) => Received::Moved(same_gate(Round::RevealOpened, position.held)),
+        (Round::CommitOutput, _) => Received::Moved(same_gate(Round::RevealOutput, position.held)),
+        _ if field::sum(heard) != 0 => Received::Aborted(Position {
+            gate: position.gate,
+            stage: Stage::Aborted,
+            held: 0,
+        }),
+        (Round::RevealOpened, _) => Received::Moved(same_gate(Round::OpenOutput, 0)),
+        // Question 13 leaves only the second reveal of an out gate.
+        _ => {
+            let output = local.output(scratch);
+            let position = next_gate(lent.circuit, &step, scratch);
+            Received::Released { output, position }
+        }
+    })
+}
+
+/// "Hearing does all such lines up to the next stop": works out the linear gates after the step's
+/// gate and gives the sending half of the next gate that needs a round, or the finished position.
+fn next_gate(circuit: &[u32], step: &Step<'_>, scratch: &mut [u32]) -> Position {
+    let pending = step.gate.pending_after(step.before.pending);
+    let at = |index: usize, stage| Position {
+        gate: index as u32,
+        stage,
+        held: 0,
+    };
+    for (index, gate) in circuit::gates(circuit).enumerate().skip(step.index + 1) {
+        if step.local.linear(scratch, index, gate) {
+            continue;
+        }
+        let round = match gate {
+            Gate::Input { .. } => Round::Input,
+            Gate::Multiply { .. } => Round::Multiply,
+            _ if pending > 0 => Round::CommitOpened,
+            _ => Round::OpenOutput,
+        };
+        return at(index, Stage::Send(round));
+    }
+    at(step.shape.gates - 1, Stage::Finished)
+}

@@ -1,0 +1,61 @@
+//! A circuit's meaning on plain inputs, and the round formula.
+
+use crate::circuit::{self, Gate};
+use crate::field::{add, mul, sub};
+use crate::joint::first_inputs;
+use crate::refusal::Refusal;
+
+/// The value of each gate on inputs joined in party order; None for an out gate, which has no value.
+/// Fails as questions 1 and 3 to 7 do. Panics if inputs are missing.
+pub fn values(parties: u32, circuit: &[u32], inputs: &[u32]) -> Result<Vec<Option<u32>>, Refusal> {
+    let shape = circuit::shape(parties, circuit)?;
+    let mut next_input = first_inputs(&shape);
+    let mut values: Vec<Option<u32>> = Vec::with_capacity(shape.gates);
+    for gate in circuit::gates(circuit) {
+        let value =
+            |wire: usize| values[wire].expect("an accepted circuit names gates with values");
+        values.push(match gate {
+            Gate::Input { owner } => {
+                let next = &mut next_input[owner as usize];
+                *next += 1;
+                Some(inputs[*next - 1])
+            }
+            Gate::Add { left, right } => Some(add(value(left), value(right))),
+            Gate::Sub { left, right } => Some(sub(value(left), value(right))),
+            Gate::Plus { wire, constant } => Some(add(value(wire), constant)),
+            Gate::Times { wire, constant } => Some(mul(value(wire), constant)),
+            Gate::Multiply { left, right } => Some(mul(value(left), value(right))),
+            Gate::Output { .. } => None,
+        });
+    }
+    Ok(values)
+}
+
+/// "An out line's score is the value it names": all of them, in order.
+pub fn outputs(parties: u32, circuit: &[u32], inputs: &[u32]) -> Result<Vec<u32>, Refusal> {
+    let values = values(parties, circuit, inputs)?;
+    Ok(circuit::gates(circuit)
+        .filter_map(|gate| match gate {
+            Gate::Output { wire } => values[wire],
+            _ => None,
+        })
+        .collect())
+}
+
+/// "A run takes I + M + 5 x outs - 2 x (outs with nothing unchecked) rounds", for an accepted circuit.
+pub fn rounds(circuit: &[u32]) -> usize {
+    let (mut inputs, mut products, mut outputs, mut unneeded, mut pending) = (0, 0, 0, 0, 0);
+    for gate in circuit::gates(circuit) {
+        match gate {
+            Gate::Input { .. } => inputs += 1,
+            Gate::Multiply { .. } => products += 1,
+            Gate::Output { .. } => {
+                outputs += 1;
+                unneeded += usize::from(pending == 0);
+            }
+            _ => {}
+        }
+        pending = gate.pending_after(pending);
+    }
+    inputs + products + 5 * outputs - 2 * unneeded
+}

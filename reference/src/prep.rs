@@ -1,0 +1,100 @@
+//! Good preprocessing from a generator, and the conditions for it.
+
+use crate::circuit::{self, Gate};
+use crate::field::{mul, sub, sum};
+use crate::random::Random;
+
+/// Random shares of a number, one for each party.
+fn split(random: &mut Random, parties: usize, number: u32) -> Vec<u32> {
+    let mut shares = random.elements(parties);
+    let chosen = random.below(parties);
+    let excess = sub(sum(&shares), number);
+    shares[chosen] = sub(shares[chosen], excess);
+    shares
+}
+
+/// The preprocessing of all parties.
+struct Preps {
+    key: u32,
+    lists: Vec<Vec<u32>>,
+}
+
+impl Preps {
+    fn push(&mut self, numbers: Vec<u32>) {
+        for (list, number) in self.lists.iter_mut().zip(numbers) {
+            list.push(number);
+        }
+    }
+
+    /// Shares of a number, and MAC shares of it.
+    fn push_shared(&mut self, random: &mut Random, number: u32) {
+        let parties = self.lists.len();
+        self.push(split(random, parties, number));
+        self.push(split(random, parties, mul(self.key, number)));
+    }
+}
+
+/// Good preprocessing for an accepted circuit under the given key, joined in party order. All shares
+/// and masks are random, so is a whole mask where it is not read.
+pub fn make(random: &mut Random, parties: u32, circuit: &[u32], key: u32) -> Vec<u32> {
+    let count = parties as usize;
+    let mut preps = Preps {
+        key,
+        lists: vec![Vec::new(); count],
+    };
+    preps.push(split(random, count, key));
+    for gate in circuit::gates(circuit) {
+        match gate {
+            Gate::Input { owner } => {
+                let mask = random.element();
+                preps.push_shared(random, mask);
+                let mut whole = random.elements(count);
+                whole[owner as usize] = mask;
+                preps.push(whole);
+            }
+            Gate::Multiply { .. } => {
+                let (a, b) = (random.element(), random.element());
+                preps.push_shared(random, a);
+                preps.push_shared(random, b);
+                preps.push_shared(random, mul(a, b));
+            }
+            _ => {}
+        }
+    }
+    preps.lists.concat()
+}
+
+/// Whether the joined preprocessing of all parties is good for an accepted circuit: lengths and
+/// elements as questions 8 and 9 ask, and the sentence "Material over all seats is good when".
+pub fn is_good(parties: u32, circuit: &[u32], preps: &[u32]) -> bool {
+    let Ok(shape) = circuit::shape(parties, circuit) else {
+        return false;
+    };
+    let len = shape.prep_len();
+    if preps.len() != parties as usize * len || preps.iter().any(|&x| x >= crate::P) {
+        return false;
+    }
+    let total = |index: usize| sum(preps.iter().skip(index).step_by(len));
+    let key = total(0);
+    let shared = |index: usize| total(index + 1) == mul(key, total(index));
+    let mut record = 1;
+    for gate in circuit::gates(circuit) {
+        let good = match gate {
+            Gate::Input { owner } => {
+                let whole = preps[owner as usize * len + record + 2];
+                shared(record) && whole == total(record)
+            }
+            Gate::Multiply { .. } => {
+                let product = mul(total(record), total(record + 2));
+                [0, 2, 4].into_iter().all(|number| shared(record + number))
+                    && total(record + 4) == product
+            }
+            _ => true,
+        };
+        if !good {
+            return false;
+        }
+        record += gate.record_len();
+    }
+    true
+}

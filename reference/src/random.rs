@@ -1,0 +1,161 @@
+//! A deterministic generator, and random circuits that pass questions 3 to 7.
+
+use crate::circuit::{ADD, IN, MUL, OUT, PLUS, SUB, TIMES};
+use crate::field::P;
+
+/// The splitmix64 generator.
+#[derive(Clone, Debug)]
+pub struct Random {
+    state: u64,
+}
+
+impl Random {
+    pub fn new(seed: u64) -> Random {
+        Random { state: seed }
+    }
+
+    fn bits(&mut self) -> u64 {
+        self.state = self.state.wrapping_add(0x9e37_79b9_7f4a_7c15);
+        let mut z = self.state;
+        z = (z ^ (z >> 30)).wrapping_mul(0xbf58_476d_1ce4_e5b9);
+        z = (z ^ (z >> 27)).wrapping_mul(0x94d0_49bb_1331_11eb);
+        z ^ (z >> 31)
+    }
+
+    /// Any 32-bit number.
+    pub fn number(&mut self) -> u32 {
+        (self.bits() >> 32) as u32
+    }
+
+    /// A number below `bound`, which is not 0.
+    pub fn below(&mut self, bound: usize) -> usize {
+        (self.bits() % bound as u64) as usize
+    }
+
+    /// A number from `low` to `high`, both included.
+    pub fn between(&mut self, low: usize, high: usize) -> usize {
+        low + self.below(high - low + 1)
+    }
+
+    /// True once in `times`.
+    pub fn once_in(&mut self, times: usize) -> bool {
+        self.below(times) == 0
+    }
+
+    /// Any element.
+    pub fn element(&mut self) -> u32 {
+        (self.bits() % u64::from(P)) as u32
+    }
+
+    /// An element that is not 0.
+    pub fn nonzero(&mut self) -> u32 {
+        1 + (self.bits() % u64::from(P - 1)) as u32
+    }
+
+    /// An element, often one at an end of the range.
+    pub fn edge_element(&mut self) -> u32 {
+        match self.below(8) {
+            0 => 0,
+            1 => 1,
+            2 => P - 1,
+            _ => self.element(),
+        }
+    }
+
+    pub fn pick<T: Copy>(&mut self, list: &[T]) -> T {
+        list[self.below(list.len())]
+    }
+
+    pub fn elements(&mut self, len: usize) -> Vec<u32> {
+        (0..len).map(|_| self.element()).collect()
+    }
+
+    /// Numbers of which many are no elements.
+    pub fn numbers(&mut self, len: usize) -> Vec<u32> {
+        (0..len).map(|_| self.number()).collect()
+    }
+
+    pub fn shuffle<T>(&mut self, list: &mut [T]) {
+        for last in (1..list.len()).rev() {
+            list.swap(last, self.below(last + 1));
+        }
+    }
+}
+
+const LINEAR: [u32; 4] = [ADD, SUB, PLUS, TIMES];
+
+fn any_kind(random: &mut Random) -> u32 {
+    match random.below(9) {
+        0 | 1 => IN,
+        2 | 3 => MUL,
+        4 => OUT,
+        _ => random.pick(&LINEAR),
+    }
+}
+
+/// Fills the fields of gates of the given kinds, of which the first is in.
+pub fn from_kinds(random: &mut Random, parties: u32, kinds: &[u32]) -> Vec<u32> {
+    let mut circuit = Vec::with_capacity(4 * kinds.len());
+    let mut wires: Vec<u32> = Vec::with_capacity(kinds.len());
+    for (index, &kind) in kinds.iter().enumerate() {
+        let line = if kind == IN {
+            [IN, random.below(parties as usize) as u32, 0, 0]
+        } else {
+            // The most recent wire is taken often, so that values pass through many gates.
+            let first = if random.once_in(2) {
+                wires[wires.len() - 1]
+            } else {
+                random.pick(&wires)
+            };
+            let second = if random.once_in(4) {
+                first
+            } else {
+                random.pick(&wires)
+            };
+            match kind {
+                PLUS | TIMES => [kind, first, 0, random.edge_element()],
+                OUT => [kind, first, 0, 0],
+                _ => [kind, first, second, 0],
+            }
+        };
+        if kind != OUT {
+            wires.push(index as u32);
+        }
+        circuit.extend(line);
+    }
+    circuit
+}
+
+/// An accepted circuit of `lines` gates, at least 2, of any kinds.
+pub fn circuit(random: &mut Random, parties: u32, lines: usize) -> Vec<u32> {
+    let mut kinds = vec![IN];
+    kinds.extend((2..lines).map(|_| any_kind(random)));
+    kinds.push(OUT);
+    from_kinds(random, parties, &kinds)
+}
+
+/// Gates of the smallest circuit that `rich_circuit` gives.
+pub const RICH_LINES: usize = 10;
+
+/// An accepted circuit of `lines` gates, at least `RICH_LINES`, that has every kind, an out gate with
+/// something unchecked before it, later one with nothing unchecked, and after that a mul and an add
+/// gate.
+pub fn rich_circuit(random: &mut Random, parties: u32, lines: usize) -> Vec<u32> {
+    let mut parts = [vec![PLUS, MUL, SUB], vec![TIMES], vec![MUL, ADD]];
+    for _ in RICH_LINES..lines {
+        let part = random.below(parts.len());
+        // A mul gate in the middle part would leave something unchecked before its out gate.
+        let kind = match any_kind(random) {
+            MUL if part == 1 => random.pick(&LINEAR),
+            kind => kind,
+        };
+        parts[part].push(kind);
+    }
+    let mut kinds = vec![IN];
+    for part in &mut parts {
+        random.shuffle(part);
+        kinds.append(part);
+        kinds.push(OUT);
+    }
+    from_kinds(random, parties, &kinds)
+}

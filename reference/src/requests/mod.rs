@@ -1,0 +1,268 @@
+//! Requests to all four entries with this implementation's answers: the source of test vectors.
+//!
+//! `generate` goes through a fixed rotation of cases, filled in at random: a whole run of one party by
+//! single entries, every refusal number in every entry that asks it, and accepted requests at the
+//! edges of what is accepted.
+
+mod accept;
+mod refuse;
+mod refuse_steps;
+mod rotation;
+mod scene;
+
+use crate::joint::{joint_run, Ending, JointResult};
+use crate::party::{open, receive, send, Party, Position, Received, Stage};
+use crate::refusal::Refusal;
+
+pub use rotation::{coverage, generate};
+
+/// Bounds for the circuits and the numbers of parties. A few cases need more than a small bound
+/// allows and take it: the boundaries at 8 parties and at 256 gates, and circuits of 10 gates.
+#[derive(Clone, Copy, Debug, PartialEq, Eq)]
+pub struct Size {
+    pub max_lines: usize,
+    pub max_parties: u32,
+}
+
+impl Size {
+    pub const SMALL: Size = Size {
+        max_lines: 14,
+        max_parties: 4,
+    };
+    pub const FULL: Size = Size {
+        max_lines: 256,
+        max_parties: 8,
+    };
+}
+
+/// What one party is lent, its scratch included.
+#[derive(Clone, Debug, PartialEq, Eq)]
+pub struct Lent {
+    pub parties: u32,
+    pub party: u32,
+    pub circuit: Vec<u32>,
+    pub prep: Vec<u32>,
+    pub inputs: Vec<u32>,
+    pub scratch: Vec<u32>,
+}
+
+impl Lent {
+    pub fn party(&self) -> Party<'_> {
+        Party {
+            parties: self.parties,
+            party: self.party,
+            circuit: &self.circuit,
+            prep: &self.prep,
+            inputs: &self.inputs,
+        }
+    }
+}
+
+/// A call of one entry, with the contents of every list before it.
+#[derive(Clone, Debug, PartialEq, Eq)]
+pub enum Request {
+    Open {
+        lent: Lent,
+    },
+    Send {
+        lent: Lent,
+        position: Position,
+        coefficients: Vec<u32>,
+        out: Vec<u32>,
+    },
+    Receive {
+        lent: Lent,
+        position: Position,
+        heard: Vec<u32>,
+    },
+    Joint {
+        parties: u32,
+        circuit: Vec<u32>,
+        preps: Vec<u32>,
+        inputs: Vec<u32>,
+        scratch: Vec<u32>,
+        coefficients: Vec<u32>,
+        transcript: Vec<u32>,
+        outputs: Vec<u32>,
+    },
+}
+
+/// The result of a call, and the contents of each list lent for writing after it.
+#[derive(Clone, Debug, PartialEq, Eq)]
+pub enum Answer {
+    Open {
+        result: Result<Position, Refusal>,
+    },
+    Send {
+        result: Result<Position, Refusal>,
+        out: Vec<u32>,
+    },
+    Receive {
+        result: Result<Received, Refusal>,
+        scratch: Vec<u32>,
+    },
+    Joint {
+        result: Result<JointResult, Refusal>,
+        scratch: Vec<u32>,
+        transcript: Vec<u32>,
+        outputs: Vec<u32>,
+    },
+}
+
+#[derive(Clone, Debug, PartialEq, Eq)]
+pub struct Answered {
+    pub request: Request,
+    pub answer: Answer,
+}
+
+#[derive(Clone, Copy, Debug, PartialEq, Eq)]
+pub enum Entry {
+    Open,
+    Send,
+    Receive,
+    Joint,
+}
+
+impl Request {
+    pub fn entry(&self) -> Entry {
+        match self {
+            Request::Open { .. } => Entry::Open,
+            Request::Send { .. } => Entry::Send,
+            Request::Receive { .. } => Entry::Receive,
+            Request::Joint { .. } => Entry::Joint,
+        }
+    }
+
+    /// Makes the call on copies of the lists to be written.
+    pub fn answer(&self) -> Answer {
+        match self {
+            Request::Open { lent } => Answer::Open {
+                result: open(&lent.party(), &lent.scratch),
+            },
+            Request::Send {
+                lent,
+                position,
+                coefficients,
+                out,
+            } => {
+                let mut out = out.clone();
+                let result = send(
+                    &lent.party(),
+                    &lent.scratch,
+                    *position,
+                    coefficients,
+                    &mut out,
+                );
+                Answer::Send { result, out }
+            }
+            Request::Receive {
+                lent,
+                position,
+                heard,
+            } => {
+                let mut scratch = lent.scratch.clone();
+                let result = receive(&lent.party(), &mut scratch, *position, heard);
+                Answer::Receive { result, scratch }
+            }
+            Request::Joint {
+                parties,
+                circuit,
+                preps,
+                inputs,
+                scratch,
+                coefficients,
+                transcript,
+                outputs,
+            } => {
+                let (mut scratch, mut transcript, mut outputs) =
+                    (scratch.clone(), transcript.clone(), outputs.clone());
+                let result = joint_run(
+                    *parties,
+                    circuit,
+                    preps,
+                    inputs,
+                    &mut scratch,
+                    coefficients,
+                    &mut transcript,
+                    &mut outputs,
+                );
+                Answer::Joint {
+                    result,
+                    scratch,
+                    transcript,
+                    outputs,
+                }
+            }
+        }
+    }
+
+    pub fn answered(self) -> Answered {
+        let answer = self.answer();
+        Answered {
+            request: self,
+            answer,
+        }
+    }
+}
+
+impl Answer {
+    pub fn refusal(&self) -> Option<Refusal> {
+        match self {
+            Answer::Open { result } | Answer::Send { result, .. } => result.err(),
+            Answer::Receive { result, .. } => result.err(),
+            Answer::Joint { result, .. } => result.err(),
+        }
+    }
+
+    /// Whether the call ended a run by a failing check.
+    pub fn aborted(&self) -> bool {
+        match self {
+            Answer::Receive { result, .. } => matches!(result, Ok(Received::Aborted(_))),
+            Answer::Joint { result, .. } => {
+                result.is_ok_and(|result| matches!(result.ending, Ending::Aborted { .. }))
+            }
+            _ => false,
+        }
+    }
+}
+
+impl Answered {
+    /// The entry with its refusal number, or with the round and what came of it.
+    pub fn label(&self) -> String {
+        let entry = match self.request.entry() {
+            Entry::Open => "open",
+            Entry::Send => "send",
+            Entry::Receive => "receive",
+            Entry::Joint => "joint",
+        };
+        if let Some(refusal) = self.answer.refusal() {
+            return format!("{entry} refused {:02}", refusal.number);
+        }
+        let round = match &self.request {
+            Request::Send { position, .. } | Request::Receive { position, .. } => {
+                match position.stage {
+                    Stage::Send(round) | Stage::Receive(round) => format!(" {round:?}"),
+                    Stage::Finished | Stage::Aborted => String::new(),
+                }
+            }
+            _ => String::new(),
+        };
+        let outcome = match &self.answer {
+            Answer::Receive {
+                result: Ok(Received::Released { .. }),
+                ..
+            } => " released",
+            Answer::Joint {
+                result:
+                    Ok(JointResult {
+                        ending: Ending::Finished,
+                        ..
+                    }),
+                ..
+            } => " finished",
+            answer if answer.aborted() => " aborted",
+            _ => "",
+        };
+        format!("{entry} accepted{round}{outcome}")
+    }
+}

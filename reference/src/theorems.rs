@@ -1,0 +1,218 @@
+//! Answered requests as theorems about the Rattle definitions, each proved by computation alone.
+
+use std::fmt::Write;
+
+use crate::joint::{Ending, JointResult};
+use crate::party::{Position, Received, Stage};
+use crate::refusal::Refusal;
+use crate::requests::{Answer, Answered, Lent, Request};
+
+const HEAD: &str = "\
+-- Requests of the other implementation, answered by the definitions. Made by a program, not kept.
+use Prim.Native.Nat.{ℕ}
+use mathlib.Core.Path.{_≡_, refl}
+use mathlib.Core.List.{List, [], _∷_}
+use Rattle.field.specs.Prime.{modular}
+use Rattle.circuit.specs.Round.{Input, Multiply, CommitOpened, RevealOpened, OpenOutput, CommitOutput, RevealOutput}
+use Rattle.party.specs.Position.{Send, Receive, Finished, Aborted}
+use Rattle.party.specs.Party.{Party}
+use Rattle.party.specs.Entry.{Refusal, Next, Output, Abort, openAnswer, sendAnswer, sendOut, receiveAnswer, receiveScratch}
+use Rattle.joint.specs.Joint.{Joint}
+use Rattle.joint.specs.Entry.{Done, Stopped, jointAnswer, jointScratch, jointTranscript, jointOutputs}
+use Rattle.joint.specs.Entry.{Refusal as JointRefusal}
+use Rattle.joint.proofs.Computing.{computing}
+";
+
+/// The longest circuit, in numbers, of which a whole joint run is left to the prover to compute.
+const LONGEST_RUN: usize = 160;
+
+/// Whether the prover can compute the answer within its limit of steps.
+fn is_small(one: &Answered) -> bool {
+    match &one.request {
+        Request::Joint { circuit, .. } => {
+            circuit.len() <= LONGEST_RUN || one.answer.refusal().is_some()
+        }
+        _ => true,
+    }
+}
+
+/// A file of theorems, one for each request.
+pub fn theorems(answered: &[Answered]) -> String {
+    let mut text = String::from(HEAD);
+    for (number, one) in answered.iter().enumerate().filter(|(_, one)| is_small(one)) {
+        let equations = equations(one);
+        let proofs = vec!["refl"; equations.len()].join(", ");
+        let proofs = if equations.len() == 1 {
+            proofs
+        } else {
+            format!("({proofs})")
+        };
+        let _ = write!(
+            text,
+            "\n-- {}\ncase-{number} :\n    {}\nunfolding computing\ncase-{number} = {proofs}\n",
+            one.label(),
+            equations.join("\n    × "),
+        );
+    }
+    text
+}
+
+fn equations(one: &Answered) -> Vec<String> {
+    match (&one.request, &one.answer) {
+        (Request::Open { lent }, Answer::Open { result }) => {
+            vec![format!(
+                "(openAnswer modular {} {} ≡ {})",
+                party(lent),
+                list(&lent.scratch),
+                moved(result)
+            )]
+        }
+        (
+            Request::Send {
+                lent,
+                position: at,
+                coefficients,
+                out,
+            },
+            Answer::Send { result, out: later },
+        ) => {
+            let call = format!(
+                "{} {} {} {}",
+                party(lent),
+                list(&lent.scratch),
+                position(at),
+                list(coefficients)
+            );
+            vec![
+                format!(
+                    "(sendAnswer modular {call} {} ≡ {})",
+                    out.len(),
+                    moved(result)
+                ),
+                format!("(sendOut modular {call} {} ≡ {})", list(out), list(later)),
+            ]
+        }
+        (
+            Request::Receive {
+                lent,
+                position: at,
+                heard,
+            },
+            Answer::Receive { result, scratch },
+        ) => {
+            let call = format!(
+                "{} {} {} {}",
+                party(lent),
+                list(&lent.scratch),
+                position(at),
+                list(heard)
+            );
+            let answer = match result {
+                Ok(Received::Moved(next)) => format!("Next {}", position(next)),
+                Ok(Received::Released {
+                    output,
+                    position: next,
+                }) => format!("Output {output} {}", position(next)),
+                Ok(Received::Aborted(next)) => format!("Abort {}", position(next)),
+                Err(refusal) => refused("Refusal", refusal),
+            };
+            vec![
+                format!("(receiveAnswer modular {call} ≡ {answer})"),
+                format!("(receiveScratch modular {call} ≡ {})", list(scratch)),
+            ]
+        }
+        (
+            Request::Joint {
+                parties,
+                circuit,
+                preps,
+                inputs,
+                scratch,
+                coefficients,
+                transcript,
+                outputs,
+            },
+            Answer::Joint {
+                result,
+                scratch: scratch_later,
+                transcript: transcript_later,
+                outputs: outputs_later,
+            },
+        ) => {
+            let call = format!(
+                "modular (record {{ parties = {parties}; circuit = {}; preps = {}; inputs = {}; coefficients = {} }}) {} {} {}",
+                list(circuit),
+                list(preps),
+                list(inputs),
+                list(coefficients),
+                list(scratch),
+                list(transcript),
+                list(outputs)
+            );
+            let answer = match result {
+                Ok(JointResult {
+                    ending: Ending::Finished,
+                    rounds,
+                    ..
+                }) => format!("Done {rounds}"),
+                Ok(JointResult {
+                    ending: Ending::Aborted { gate },
+                    rounds,
+                    ..
+                }) => format!("Stopped {gate} {rounds}"),
+                Err(refusal) => refused("JointRefusal", refusal),
+            };
+            vec![
+                format!("(jointAnswer {call} ≡ {answer})"),
+                format!("(jointScratch {call} ≡ {})", list(scratch_later)),
+                format!("(jointTranscript {call} ≡ {})", list(transcript_later)),
+                format!("(jointOutputs {call} ≡ {})", list(outputs_later)),
+            ]
+        }
+        _ => unreachable!("an answer of another entry"),
+    }
+}
+
+fn list(numbers: &[u32]) -> String {
+    let mut text = String::from("(");
+    for number in numbers {
+        let _ = write!(text, "{number} ∷ ");
+    }
+    text.push_str("[])");
+    text
+}
+
+fn party(lent: &Lent) -> String {
+    format!(
+        "(record {{ parties = {}; me = {}; circuit = {}; prep = {}; inputs = {} }})",
+        lent.parties,
+        lent.party,
+        list(&lent.circuit),
+        list(&lent.prep),
+        list(&lent.inputs)
+    )
+}
+
+fn position(at: &Position) -> String {
+    let stage = match at.stage {
+        Stage::Send(round) => format!("Send {round:?}"),
+        Stage::Receive(round) => format!("Receive {round:?}"),
+        Stage::Finished => String::from("Finished"),
+        Stage::Aborted => String::from("Aborted"),
+    };
+    format!(
+        "(record {{ gate = {}; stage = {stage}; held = {} }})",
+        at.gate, at.held
+    )
+}
+
+fn moved(result: &Result<Position, Refusal>) -> String {
+    match result {
+        Ok(next) => format!("Next {}", position(next)),
+        Err(refusal) => refused("Refusal", refusal),
+    }
+}
+
+fn refused(constructor: &str, refusal: &Refusal) -> String {
+    format!("{constructor} {} {}", refusal.number, refusal.index)
+}

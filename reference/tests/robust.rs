@@ -1,0 +1,168 @@
+//! No entry panics, whatever it is lent.
+
+mod common;
+
+use common::answers::{assert_refusal_is_right, assert_written_as_due};
+use reference::random::Random;
+use reference::requests::{generate, Lent, Request, Size};
+use reference::{Position, Round, Stage, P};
+
+/// Accepted requests with any number changed, and any list cut or lengthened.
+#[test]
+fn changed_requests_never_panic() {
+    let mut random = Random::new(9);
+    for mut one in generate(4, 20_000, Size::SMALL) {
+        for _ in 0..random.between(1, 3) {
+            change(&mut random, &mut one.request);
+        }
+        let answered = one.request.answered();
+        if let Some(refusal) = answered.answer.refusal() {
+            assert_refusal_is_right(&answered, refusal);
+        }
+        assert_written_as_due(&answered);
+    }
+}
+
+fn any_number(random: &mut Random) -> u32 {
+    match random.below(4) {
+        0 => random.below(10) as u32,
+        1 => random.pick(&[P - 1, P, u32::MAX]),
+        _ => random.number(),
+    }
+}
+
+fn any_stage(random: &mut Random) -> Stage {
+    let round = random.pick(&Round::ALL);
+    random.pick(&[
+        Stage::Send(round),
+        Stage::Receive(round),
+        Stage::Finished,
+        Stage::Aborted,
+    ])
+}
+
+fn change_list(random: &mut Random, list: &mut Vec<u32>) {
+    let number = any_number(random);
+    match random.below(4) {
+        0 => list.push(number),
+        1 => drop(list.pop()),
+        _ if list.is_empty() => {}
+        _ => {
+            let index = random.below(list.len());
+            list[index] = number;
+        }
+    }
+}
+
+fn change(random: &mut Random, request: &mut Request) {
+    if let Request::Send { position, .. } | Request::Receive { position, .. } = request {
+        match random.below(12) {
+            0 => return position.stage = any_stage(random),
+            1 => return position.gate = any_number(random),
+            2 => return position.held = any_number(random),
+            _ => {}
+        }
+    }
+    let number = any_number(random);
+    match request {
+        Request::Joint {
+            parties,
+            circuit,
+            preps,
+            inputs,
+            scratch,
+            coefficients,
+            transcript,
+            outputs,
+        } => {
+            let lists = [
+                circuit,
+                preps,
+                inputs,
+                scratch,
+                coefficients,
+                transcript,
+                outputs,
+            ];
+            match random.below(8) {
+                7 => *parties = number,
+                chosen => change_list(random, lists.into_iter().nth(chosen).unwrap()),
+            }
+        }
+        Request::Open { lent } | Request::Send { lent, .. } | Request::Receive { lent, .. }
+            if !random.once_in(3) =>
+        {
+            let lists = [
+                &mut lent.circuit,
+                &mut lent.prep,
+                &mut lent.inputs,
+                &mut lent.scratch,
+            ];
+            match random.below(6) {
+                5 => lent.parties = number,
+                4 => lent.party = number,
+                chosen => change_list(random, lists.into_iter().nth(chosen).unwrap()),
+            }
+        }
+        Request::Open { lent } => change_list(random, &mut lent.scratch),
+        Request::Send {
+            coefficients, out, ..
+        } => {
+            let list = if random.once_in(2) { coefficients } else { out };
+            change_list(random, list);
+        }
+        Request::Receive { heard, .. } => change_list(random, heard),
+    }
+}
+
+/// Lists of any lengths and any numbers.
+#[test]
+fn garbage_never_panics() {
+    let mut random = Random::new(10);
+    for _ in 0..60_000 {
+        let list = |random: &mut Random| {
+            let len = random.below(40);
+            (0..len).map(|_| any_number(random)).collect::<Vec<u32>>()
+        };
+        let lent = Lent {
+            parties: any_number(&mut random),
+            party: any_number(&mut random),
+            circuit: list(&mut random),
+            prep: list(&mut random),
+            inputs: list(&mut random),
+            scratch: list(&mut random),
+        };
+        let position = Position {
+            gate: any_number(&mut random),
+            stage: any_stage(&mut random),
+            held: any_number(&mut random),
+        };
+        let requests = [
+            Request::Open { lent: lent.clone() },
+            Request::Send {
+                lent: lent.clone(),
+                position,
+                coefficients: list(&mut random),
+                out: list(&mut random),
+            },
+            Request::Receive {
+                lent: lent.clone(),
+                position,
+                heard: list(&mut random),
+            },
+            Request::Joint {
+                parties: lent.parties,
+                circuit: lent.circuit,
+                preps: lent.prep,
+                inputs: lent.inputs,
+                scratch: lent.scratch,
+                coefficients: list(&mut random),
+                transcript: list(&mut random),
+                outputs: list(&mut random),
+            },
+        ];
+        for request in requests {
+            assert_written_as_due(&request.answered());
+        }
+    }
+}
