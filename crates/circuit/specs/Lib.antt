@@ -5,3 +5,5 @@ pub mod Kind
 pub mod Count
 pub mod Round
 pub mod Accept
+pub mod Valid
+pub mod Code

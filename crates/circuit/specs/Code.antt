@@ -1,0 +1,59 @@
+-- What the code's types stand for.
+-- Assumes nothing.
+use Prim.Native.Nat.{ℕ}
+use mathlib.Core.Path.{_≡_}
+use mathlib.Core.List.{List}
+use Rattle.circuit.specs.Verdict as Q
+use Rattle.circuit.specs.Gate as G
+use Rattle.circuit.specs.Kind as K
+use Rattle.circuit.specs.Count.{total, prepAt, inputAt, unchecked}
+use Rattle.circuit.specs.Round as R
+use Rattle.circuit.specs.declared.Verdict.{Verdict}
+use Rattle.circuit.specs.declared.Verdict.the-variants.{Accepted, Refused}
+use Rattle.circuit.specs.declared.Gate.{Gate}
+use Rattle.circuit.specs.declared.Gate.the-variants.{In, Add, Sub, Plus, Times, Mul, Out}
+use Rattle.circuit.specs.declared.Role.{Role}
+use Rattle.circuit.specs.declared.Role.the-variants.{Unused, Party, Wire, Constant}
+use Rattle.circuit.specs.declared.Round.{Round}
+use Rattle.circuit.specs.declared.Round.the-variants.{Input, Multiply, CommitOpened, RevealOpened, OpenOutput, CommitOutput, RevealOutput}
+use Rattle.circuit.specs.declared.Shape.{Shape}
+use Rattle.circuit.specs.declared.Tally.{Tally}
+
+-- a refusal's number and index
+unfoldable pub verdictOf : Verdict → Q.Verdict
+verdictOf Accepted = Q.Accepted
+verdictOf (Refused number index) = Q.Refused number index
+
+unfoldable pub gateOf : Gate → G.Gate
+gateOf (In s) = G.In s
+gateOf (Add x y) = G.Add x y
+gateOf (Sub x y) = G.Sub x y
+gateOf (Plus x k) = G.Plus x k
+gateOf (Times x k) = G.Times x k
+gateOf (Mul x y) = G.Mul x y
+gateOf (Out x) = G.Out x
+
+unfoldable pub roleOf : Role → K.Role
+roleOf Unused = K.Unused
+roleOf Party = K.Party
+roleOf Wire = K.Wire
+roleOf Constant = K.Constant
+
+unfoldable pub roundOf : Round → R.Round
+roundOf Input = R.Input
+roundOf Multiply = R.Multiply
+roundOf CommitOpened = R.CommitOpened
+roundOf RevealOpened = R.RevealOpened
+roundOf OpenOutput = R.OpenOutput
+roundOf CommitOutput = R.CommitOutput
+roundOf RevealOutput = R.RevealOutput
+
+unfoldable pub shapeOf : Shape → K.Shape
+shapeOf r = record { prep = r .prep; openings = r .openings; words = r .words }
+
+-- what is counted of the gates before j: where the record of gate j starts, all openings, the unchecked ones, and the inputs of party i
+pub record Tallied (c : List ℕ) (i j : ℕ) (t : Tally) : Type 0 where
+  pub prep : t .prep ≡ prepAt c j
+  pub openings : t .openings ≡ total (λ g. K.shape g .openings) c j
+  pub unchecked : t .unchecked ≡ unchecked c j
+  pub inputs : t .inputs ≡ inputAt c i j
