@@ -1,0 +1,37 @@
+-- Demand 2: "A check stops a run exactly if the revealed words do not sum to zero". Of any preprocessing, good or not.
+-- Assumes nothing.
+use Prim.Native.Nat.{ℕ, suc, _<_}
+use mathlib.Core.Path.{_≡_}
+use mathlib.Core.Bool.{true}
+use mathlib.Core.List.{List}
+use Rattle.field.specs.Ops.{Ops}
+use Rattle.circuit.specs.Round.{Round, isReveal, checkWords}
+use Rattle.party.specs.Position.{Send, finished, aborted}
+use Rattle.party.specs.Receive.{heardSum}
+use Rattle.joint.specs.Joint.{Joint}
+use Rattle.joint.specs.Run.{State, Run, said, run, begun, whole}
+use Rattle.theorems.specs.Premises.{after}
+
+module _ (O : Ops) (J : Joint) (scratch : List ℕ) where
+  -- the sum of the words revealed in round r after k rounds
+  abbrev pub revealed : ℕ → Round → ℕ
+  revealed k r = heardSum O (J .parties) checkWords 0 (said O J (after O J scratch k) r)
+
+  -- round k is a check whose revealed words do not sum to zero
+  pub record Fails (k : ℕ) (r : Round) : Type 0 where
+    pub sending : after O J scratch k .point .stage ≡ Send r
+    pub reveals : isReveal r ≡ true
+    pub nonzero : revealed k r ≡ 0 → ⊥
+
+  -- the run stopped at that check: it names its gate, the failing reveal is the last round of the transcript, and neither the scratch nor the outputs are written after it
+  pub record StopsAt (k : ℕ) (r : Round) : Type 0 where
+    pub rounds : whole O J scratch .rounds ≡ suc k
+    pub point : whole O J scratch .last .point ≡ aborted (after O J scratch k .point .gate)
+    pub bands : (i : ℕ) → whole O J scratch .last .scratch i ≡ after O J scratch k .scratch i
+    pub outputs : whole O J scratch .outputs ≡ run O J k (begun O J scratch) .outputs
+
+  pub record Stops : Type 0 where
+    -- a failing check stops the run there
+    pub stops : (k : ℕ) (r : Round) → Fails k r → StopsAt k r
+    -- and nothing else does: where no check fails, the run finishes
+    pub finishes : ((k : ℕ) (r : Round) → Fails k r → ⊥) → whole O J scratch .last .point ≡ finished (J .circuit)

@@ -1,0 +1,6 @@
+-- What is claimed of the joint run: accuracy, rounds, aborts, and secrecy.
+pub mod Premises
+pub mod Accuracy
+pub mod Abort
+pub mod Matching
+pub mod Secrecy

@@ -1,0 +1,73 @@
+-- The rule that matches preprocessing for the first inputs with preprocessing for the second.
+-- Assumes nothing.
+use Prim.Native.Nat.{ℕ, zero, suc}
+use mathlib.Core.Bool.{Bool, true, false, cond}
+use mathlib.Core.List.{List, [], _∷_, _++_}
+use lib.ListN.{getD}
+use lib.Dec.{eqb}
+use Rattle.field.specs.Ops.{Ops}
+use Rattle.circuit.specs.Gate.{Gate, In, Add, Sub, Plus, Times, Mul, Out, gate, gates}
+use Rattle.party.specs.Party.{aAt, bAt}
+use Rattle.joint.specs.Joint.{Joint, joined}
+use Rattle.joint.specs.Plain.{plainInput, value}
+use Rattle.joint.specs.Good.{wholeKey, shareSum}
+
+-- the first of n parties that is not in A, or n where all are
+unfoldable pub leftOut : (ℕ → Bool) → ℕ → ℕ
+leftOut A zero = zero
+leftOut A (suc n) = cond (A 0) (suc (leftOut (λ i. A (suc i)) n)) 0
+
+-- the lists' numbers added one by one
+unfoldable pub addLists : Ops → List ℕ → List ℕ → List ℕ
+addLists O [] ys = []
+addLists O (x ∷ xs) [] = x ∷ xs
+addLists O (x ∷ xs) (y ∷ ys) = O .add x y ∷ addLists O xs ys
+
+-- a run of n parties on inputs, for its values on plain inputs alone
+unfoldable pub plainly : ℕ → List ℕ → List ℕ → Joint
+plainly n c inputs = record { parties = n; circuit = c; preps = []; inputs = inputs; coefficients = [] }
+
+-- n parties, circuit c, the party h that carries the differences, and two sets of inputs
+module _ (O : Ops) (n : ℕ) (c : List ℕ) (h : ℕ) (x x′ : List ℕ) where
+  open Ops O using (sub, mul, add)
+
+  -- by how much the input for gate j, and value j, differ
+  unfoldable pub inputMove : ℕ → ℕ
+  inputMove j = sub (plainInput O (plainly n c x′) j) (plainInput O (plainly n c x) j)
+
+  unfoldable pub valueMove : ℕ → ℕ
+  valueMove j = sub (value O (plainly n c x′) j) (value O (plainly n c x) j)
+
+  module _ (preps : List ℕ) where
+    -- a difference of a shared number, and of its MAC, at party i: party h has it all
+    unfoldable pub moved : ℕ → ℕ → List ℕ
+    moved i d = cond (eqb i h) (d ∷ mul (wholeKey O n c preps) d ∷ []) (0 ∷ 0 ∷ [])
+
+    -- c is a times b: by how much it differs where a differs by d and b by e
+    unfoldable pub productMove : ℕ → ℕ → ℕ → ℕ
+    productMove j d e =
+        sub (mul (add (shareSum O n c preps j aAt) d) (add (shareSum O n c preps j bAt) e))
+        (mul (shareSum O n c preps j aAt) (shareSum O n c preps j bAt))
+
+    -- the differences in party i's record of gate j: masks move with the input that they hide, a and b with the values that they hide
+    unfoldable pub recordMove : ℕ → ℕ → Gate → List ℕ
+    recordMove i j (In s) = moved i (inputMove j) ++ (cond (eqb i s) (inputMove j) 0 ∷ [])
+    recordMove i j (Add y z) = []
+    recordMove i j (Sub y z) = []
+    recordMove i j (Plus y k) = []
+    recordMove i j (Times y k) = []
+    recordMove i j (Mul y z) =
+        moved i (valueMove y) ++ moved i (valueMove z) ++ moved i (productMove j (valueMove y) (valueMove z))
+    recordMove i j (Out y) = []
+
+    -- party i's differences: none in the key share, then record by record up to gate j
+    unfoldable pub prepMove : ℕ → ℕ → List ℕ
+    prepMove i zero = 0 ∷ []
+    prepMove i (suc j) = prepMove i j ++ recordMove i j (gate c j)
+
+    unfoldable pub match : List ℕ
+    match = addLists O preps (joined n (λ i. prepMove i (gates c)))
+
+-- the rule: it depends on the number of parties, the circuit, A and both sets of inputs, and on no coefficient or scratch
+unfoldable pub rule : (O : Ops) (n : ℕ) (c : List ℕ) (A : ℕ → Bool) (x x′ preps : List ℕ) → List ℕ
+rule O n c A x x′ preps = match O n c (leftOut A n) x x′ preps

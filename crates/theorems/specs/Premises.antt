@@ -1,0 +1,41 @@
+-- What the theorems ask of a joint run's lists.
+-- Assumes nothing.
+use Prim.Native.Nat.{ℕ, zero, suc, _*_, _≤_}
+use mathlib.Core.Path.{_≡_}
+use mathlib.Core.List.{List}
+use lib.ListN.{length}
+use lib.Dec.{eqb}
+use Rattle.field.specs.Ops.{Ops}
+use Rattle.circuit.specs.Verdict.{Accepted, ask, _then_, elements}
+use Rattle.circuit.specs.Count.{inCount}
+use Rattle.circuit.specs.Accept.{askCircuit}
+use Rattle.party.specs.Position.{whenSending}
+use Rattle.party.specs.Scratch.{layout, scratchSize}
+use Rattle.party.specs.Ask.{askParties}
+use Rattle.joint.specs.Joint.{Joint}
+use Rattle.joint.specs.Run.{State, begun, step}
+use Rattle.joint.specs.Good.{Good}
+
+-- the number of parties and the circuit "pass 1 and 3 to 7"
+pub record Accepts (O : Ops) (n : ℕ) (c : List ℕ) : Type 0 where
+  pub parties : askParties n ≡ Accepted
+  pub circuit : askCircuit n (O .size) c ≡ Accepted
+
+-- inputs that "pass 10 and 11"
+abbrev pub InputsPass : Ops → List ℕ → List ℕ → Type 0
+InputsPass O c inputs = (ask 10 0 (eqb (length inputs) (inCount c)) then elements 11 (O .size) inputs) ≡ Accepted
+
+-- "With good material": a joint run of an accepted circuit on good preprocessing and accepted inputs. Of the coefficients nothing is asked,
+-- of the starting scratch only that it is long enough
+pub record Honest (O : Ops) (J : Joint) (scratch : List ℕ) : Type 0 where
+  pub accepts : Accepts O (J .parties) (J .circuit)
+  pub good : Good O (J .parties) (J .circuit) (J .preps)
+  pub inputs : InputsPass O (J .circuit) (J .inputs)
+  pub room : J .parties * scratchSize (layout (J .circuit)) ≤ length scratch
+
+-- the state after k rounds, or where the run ended before
+unfoldable pub after : Ops → Joint → List ℕ → ℕ → State
+after O J scratch zero = begun O J scratch
+after O J scratch (suc k) =
+    let s = after O J scratch k in
+    whenSending (s .point .stage) s (step O J s)

@@ -1,0 +1,104 @@
+-- Demand 3: two joint runs side by side.
+-- Assumes nothing.
+use Prim.Native.Nat.{ℕ, _<_}
+use mathlib.Core.Path.{_≡_}
+use mathlib.Core.Bool.{Bool, true, false}
+use mathlib.Core.List.{List}
+use lib.ListN.{length}
+use Rattle.field.specs.Ops.{Ops}
+use Rattle.field.specs.Field.{Field}
+use Rattle.circuit.specs.Verdict.{Accepted}
+use Rattle.circuit.specs.Gate.{gates}
+use Rattle.circuit.specs.Count.{prepSize}
+use Rattle.party.specs.Party.{Party}
+use Rattle.party.specs.Scratch.{layout, scratchSize}
+use Rattle.joint.specs.Joint.{Joint, band, party}
+use Rattle.joint.specs.Run.{Run, whole}
+use Rattle.joint.specs.Entry.{verdict, jointAnswer, jointScratch}
+use Rattle.joint.specs.Plain.{scores}
+use Rattle.joint.specs.Good.{Good}
+use Rattle.theorems.specs.Premises.{Accepts, InputsPass}
+use Rattle.theorems.specs.Matching.{plainly, rule}
+
+module _ (O : Ops) (n : ℕ) (c : List ℕ) (A : ℕ → Bool) where
+  abbrev pub runOf : List ℕ → List ℕ → List ℕ → Joint
+  runOf preps inputs coefficients =
+      record { parties = n; circuit = c; preps = preps; inputs = inputs; coefficients = coefficients }
+
+  -- A party's numbers of A in the joined scratch
+  abbrev pub bandOf : List ℕ → ℕ → List ℕ
+  bandOf l i = band (scratchSize (layout c)) l i
+
+  -- what is asked: A leaves out at least one party, and the two sets of inputs agree at A's parties and give equal scores
+  pub record Compared (x x′ : List ℕ) : Type 0 where
+    pub accepts : Accepts O n c
+    pub outside : (i : ℕ) × (i < n) × (A i ≡ false)
+    pub first : InputsPass O c x
+    pub second : InputsPass O c x′
+    pub agree : (i : ℕ) → i < n → A i ≡ true → party (plainly n c x′) i .inputs ≡ party (plainly n c x) i .inputs
+    pub equal-scores : scores O (plainly n c x′) (gates c) ≡ scores O (plainly n c x) (gates c)
+
+  -- two calls of the joint run, alike in coefficients and starting scratch; t, o and t′, o′ are their transcript and output lists before
+  pub record Alike (J J′ : Joint) (scratch t o t′ o′ : List ℕ) : Type 0 where
+    -- "If each of these lists is as long in one run as in the other, both runs get the same refusal and index, or neither gets one"
+    pub refusals : length t ≡ length t′ → length o ≡ length o′ → verdict O J′ scratch t′ o′ ≡ verdict O J scratch t o
+    -- two runs that are not refused: "Equal are the number of rounds ..
+    pub answers : verdict O J scratch t o ≡ Accepted → verdict O J′ scratch t′ o′ ≡ Accepted → jointAnswer O J′ scratch t′ o′ ≡ jointAnswer O J scratch t o
+    pub rounds : verdict O J scratch t o ≡ Accepted → verdict O J′ scratch t′ o′ ≡ Accepted → whole O J′ scratch .rounds ≡ whole O J scratch .rounds
+    -- .. every word the two runs write into their transcripts ..
+    pub words : verdict O J scratch t o ≡ Accepted → verdict O J′ scratch t′ o′ ≡ Accepted → whole O J′ scratch .transcript ≡ whole O J scratch .transcript
+    -- .. and at the end every number in the scratch bands of A's seats."
+    pub bands : verdict O J scratch t o ≡ Accepted
+        → verdict O J′ scratch t′ o′ ≡ Accepted
+        → (i : ℕ)
+        → i < n
+        → A i ≡ true
+        → bandOf (jointScratch O J′ scratch t′ o′) i ≡ bandOf (jointScratch O J scratch t o) i
+
+  -- "one rule matches good material one for one with good material, A's part being the same, so that a joint run on the first inputs with any
+  -- good material and one on the second with its match, whatever the draws and starting scratch (alike in both), post the same words"
+  pub record Secret (x x′ : List ℕ) (there back : List ℕ → List ℕ) : Type 0 where
+    pub there-good : (m : List ℕ) → Good O n c m → Good O n c (there m)
+    pub back-good : (m : List ℕ) → Good O n c m → Good O n c (back m)
+    pub back-there : (m : List ℕ) → Good O n c m → back (there m) ≡ m
+    pub there-back : (m : List ℕ) → Good O n c m → there (back m) ≡ m
+    pub keeps : (m : List ℕ) → Good O n c m → (i : ℕ) → i < n → A i ≡ true → band (prepSize c) (there m) i ≡ band (prepSize c) m i
+    pub alike : (m : List ℕ)
+        → Good O n c m
+        → (coefficients scratch t o t′ o′ : List ℕ)
+        → Alike (runOf m x coefficients) (runOf (there m) x′ coefficients) scratch t o t′ o′
+
+  -- what A sees of a run that is not refused: every word, and the numbers in its own bands
+  pub record Shows (J : Joint) (scratch t o words : List ℕ) (bands : ℕ → List ℕ) : Type 0 where
+    pub accepted : verdict O J scratch t o ≡ Accepted
+    pub says : whole O J scratch .transcript ≡ words
+    pub leaves : (i : ℕ) → i < n → A i ≡ true → bandOf (jointScratch O J scratch t o) i ≡ bands i
+
+  -- a view tells nothing of the inputs: the good preprocessing that shows it on the first inputs corresponds one for one with that which
+  -- shows it on the second
+  pub record Blind (x x′ : List ℕ) (there back : List ℕ → List ℕ) (coefficients scratch t o words : List ℕ) (bands : ℕ → List ℕ) : Type 0 where
+    pub there-shows : (m : List ℕ)
+        → Good O n c m
+        → Shows (runOf m x coefficients) scratch t o words bands
+        → Good O n c (there m) × Shows (runOf (there m) x′ coefficients) scratch t o words bands
+    pub back-shows : (m : List ℕ)
+        → Good O n c m
+        → Shows (runOf m x′ coefficients) scratch t o words bands
+        → Good O n c (back m) × Shows (runOf (back m) x coefficients) scratch t o words bands
+    pub back-there : (m : List ℕ) → Good O n c m → back (there m) ≡ m
+    pub there-back : (m : List ℕ) → Good O n c m → there (back m) ≡ m
+
+-- demand 3, of a field O
+abbrev pub Secrecy : Ops → Type 0
+Secrecy O =
+    (n : ℕ) (c : List ℕ) (A : ℕ → Bool) (x x′ : List ℕ)
+    → Compared O n c A x x′
+    → Secret O n c A x x′ (rule O n c A x x′) (rule O n c A x′ x)
+
+-- for every view of A, and whatever the coefficients and the starting scratch
+abbrev pub Blindness : Ops → Type 0
+Blindness O =
+    (n : ℕ) (c : List ℕ) (A : ℕ → Bool) (x x′ : List ℕ)
+    → Compared O n c A x x′
+    → (coefficients scratch t o words : List ℕ) (bands : ℕ → List ℕ)
+    → Blind O n c A x x′ (rule O n c A x x′) (rule O n c A x′ x) coefficients scratch t o words bands
