@@ -31,6 +31,37 @@ unfoldable pub askMarks : Round → List ℕ → Verdict
 askMarks r heard = cond (isCommit r) (each (length heard) (λ k. ask 21 k (eqb (getD heard k 0) mark))) Accepted
 
 -- q is the size of the field, document 01's p
+module _ (q : ℕ) (c : List ℕ) where
+  -- the slots 0, .., k - 1 of one sort of which wanted holds: is each below q? The index is that in the scratch
+  unfoldable pub askSlots : List ℕ → ℕ → (ℕ → Bool) → (ℕ → Slot) → Verdict
+  askSlots l k wanted slot =
+      each k
+      (λ t. ask 15 (offset (layout c) (slot t)) (not (wanted t) || ltb (read (layout c) l (slot t)) q))
+
+  -- "Are the shares and MAC shares of the lines already worked out at that place, and the opened entries not yet checked, below p? 15."
+  unfoldable pub askWorked : List ℕ → ℕ → Round → Verdict
+  askWorked l j r =
+      askSlots l j (λ x. hasValue (gate c x)) Share
+      then askSlots l j (λ x. hasValue (gate c x)) Mac
+      then askSlots l (openedIn (unchecked c j) r) (λ t. true) Value
+      then askSlots l (openedIn (unchecked c j) r) (λ t. true) ValueMac
+
+  -- "Speaking: exactly the draws wanted (none outside a seal)? 16. Below p? 17. Does the outgoing list hold the words? 18."
+  unfoldable pub askSendRound : List ℕ → ℕ → List ℕ → ℕ → Round → Verdict
+  askSendRound l j coefficients room r =
+      askWorked l j r
+      then ask 16 0 (eqb (length coefficients) (coefficientsIn (unchecked c j) r))
+      then elements 17 q coefficients
+      then ask 18 0 (leb (words (gate c j) r) room)
+
+  -- "Hearing: exactly seats × words of this round? 19. All below p? 20. At a seal, all 1? 21." Of n parties
+  unfoldable pub askReceiveRound : ℕ → List ℕ → ℕ → List ℕ → Round → Verdict
+  askReceiveRound n l j heard r =
+      askWorked l j r
+      then ask 19 0 (eqb (length heard) (n * words (gate c j) r))
+      then elements 20 q heard
+      then askMarks r heard
+
 module _ (q : ℕ) (P : Party) where
   -- "Opening, speaking and hearing ask 1 to 12 of all that is lent"
   unfoldable pub askLent : List ℕ → Verdict
@@ -44,45 +75,15 @@ module _ (q : ℕ) (P : Party) where
       then elements 11 q (P .inputs)
       then ask 12 0 (leb (scratchSize (layout (P .circuit))) (length scratch))
 
-  -- the slots 0, .., k - 1 of one sort of which wanted holds: is each below q? The index is that in the scratch
-  unfoldable pub askSlots : List ℕ → ℕ → (ℕ → Bool) → (ℕ → Slot) → Verdict
-  askSlots l k wanted slot =
-      each k (λ t. ask 15 (offset (layout (P .circuit)) (slot t))
-      (not (wanted t) || ltb (read (layout (P .circuit)) l (slot t)) q))
-
-  -- "Are the shares and MAC shares of the lines already worked out at that place, and the opened entries not yet checked, below p? 15."
-  unfoldable pub askWorked : List ℕ → ℕ → Round → Verdict
-  askWorked l j r =
-      askSlots l j (λ x. hasValue (gate (P .circuit) x)) Share
-      then askSlots l j (λ x. hasValue (gate (P .circuit) x)) Mac
-      then askSlots l (openedIn (unchecked (P .circuit) j) r) (λ t. true) Value
-      then askSlots l (openedIn (unchecked (P .circuit) j) r) (λ t. true) ValueMac
-
-  -- "Speaking: exactly the draws wanted (none outside a seal)? 16. Below p? 17. Does the outgoing list hold the words? 18."
-  unfoldable pub askSendRound : List ℕ → ℕ → List ℕ → ℕ → Round → Verdict
-  askSendRound l j coefficients room r =
-      askWorked l j r
-      then ask 16 0 (eqb (length coefficients) (coefficientsIn (unchecked (P .circuit) j) r))
-      then elements 17 q coefficients
-      then ask 18 0 (leb (words (gate (P .circuit) j) r) room)
-
-  -- "Hearing: exactly seats × words of this round? 19. All below p? 20. At a seal, all 1? 21."
-  unfoldable pub askReceiveRound : List ℕ → ℕ → List ℕ → Round → Verdict
-  askReceiveRound l j heard r =
-      askWorked l j r
-      then ask 19 0 (eqb (length heard) (P .parties * words (gate (P .circuit) j) r))
-      then elements 20 q heard
-      then askMarks r heard
-
   -- "Can the place occur in this circuit, its held word below p? 13. Is it the half that is called? 14 (a finished or stopped place has neither)."
   unfoldable pub askSend : List ℕ → Position → List ℕ → ℕ → Verdict
   askSend l at coefficients room =
       askLent l
       then ask 13 0 (occurs q (P .circuit) at)
-      then whenSending (at .stage) (Refused 14 0) (askSendRound l (at .gate) coefficients room)
+      then whenSending (at .stage) (Refused 14 0) (askSendRound q (P .circuit) l (at .gate) coefficients room)
 
   unfoldable pub askReceive : List ℕ → Position → List ℕ → Verdict
   askReceive l at heard =
       askLent l
       then ask 13 0 (occurs q (P .circuit) at)
-      then whenReceiving (at .stage) (Refused 14 0) (askReceiveRound l (at .gate) heard)
+      then whenReceiving (at .stage) (Refused 14 0) (askReceiveRound q (P .circuit) (P .parties) l (at .gate) heard)
