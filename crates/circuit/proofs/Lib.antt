@@ -1,2 +1,11 @@
 -- What is proved of the circuit's definitions.
 pub mod Computing
+pub mod Tests
+pub mod Verdicts
+pub mod KindLaws
+pub mod Counts
+pub mod Rounds
+pub mod Tallies
+pub mod Gates
+pub mod Asking
+pub mod Valid

@@ -6,7 +6,7 @@ use mathlib.Core.List.{List}
 use Rattle.circuit.specs.Verdict as Q
 use Rattle.circuit.specs.Gate as G
 use Rattle.circuit.specs.Kind as K
-use Rattle.circuit.specs.Count.{total, prepAt, inputAt, unchecked}
+use Rattle.circuit.specs.Count.{total, count, prepAt, inputAt, unchecked}
 use Rattle.circuit.specs.Round as R
 use Rattle.circuit.specs.declared.Verdict.{Verdict}
 use Rattle.circuit.specs.declared.Verdict.the-variants.{Accepted, Refused}
@@ -18,6 +18,7 @@ use Rattle.circuit.specs.declared.Round.{Round}
 use Rattle.circuit.specs.declared.Round.the-variants.{Input, Multiply, CommitOpened, RevealOpened, OpenOutput, CommitOutput, RevealOutput}
 use Rattle.circuit.specs.declared.Shape.{Shape}
 use Rattle.circuit.specs.declared.Tally.{Tally}
+use Rattle.circuit.specs.declared.Totals.{Totals}
 
 -- a refusal's number and index
 unfoldable pub verdictOf : Verdict → Q.Verdict
@@ -57,3 +58,10 @@ pub record Tallied (c : List ℕ) (i j : ℕ) (t : Tally) : Type 0 where
   pub openings : t .openings ≡ total (λ g. K.shape g .openings) c j
   pub unchecked : t .unchecked ≡ unchecked c j
   pub inputs : t .inputs ≡ inputAt c i j
+
+-- what a run of the gates before j takes: its in and out gates, the words of a party and the coefficients
+pub record Totalled (c : List ℕ) (j : ℕ) (t : Totals) : Type 0 where
+  pub ins : t .ins ≡ count K.isIn c j
+  pub outs : t .outs ≡ count K.isOut c j
+  pub words : t .words ≡ R.overRun (λ i r. R.words (G.gate c i) r) c j
+  pub coefficients : t .coefficients ≡ R.overRun (λ i r. R.coefficientsIn (unchecked c i) r) c j

@@ -32,11 +32,13 @@ askMarks r heard = cond (isCommit r) (each (length heard) (λ k. ask 21 k (eqb (
 
 -- q is the size of the field, document 01's p
 module _ (q : ℕ) (c : List ℕ) where
-  -- the slots 0, .., k - 1 of one sort of which wanted holds: is each below q? The index is that in the scratch
+  -- one slot, if it is wanted: is it below q? The index is that in the scratch
+  unfoldable pub slotQuestion : List ℕ → Bool → Slot → Verdict
+  slotQuestion l wanted s = ask 15 (offset (layout c) s) (not wanted || ltb (read (layout c) l s) q)
+
+  -- the slots 0, .., k - 1 of one sort
   unfoldable pub askSlots : List ℕ → ℕ → (ℕ → Bool) → (ℕ → Slot) → Verdict
-  askSlots l k wanted slot =
-      each k
-      (λ t. ask 15 (offset (layout c) (slot t)) (not (wanted t) || ltb (read (layout c) l (slot t)) q))
+  askSlots l k wanted slot = each k (λ t. slotQuestion l (wanted t) (slot t))
 
   -- "Are the shares and MAC shares of the lines already worked out at that place, and the opened entries not yet checked, below p? 15."
   unfoldable pub askWorked : List ℕ → ℕ → Round → Verdict

@@ -3,7 +3,7 @@
 use Prim.Native.Nat.{ℕ, suc, _<_}
 use mathlib.Core.Path.{_≡_}
 use mathlib.Core.Bool.{true}
-use mathlib.Core.List.{List}
+use mathlib.Core.List.{List, _++_}
 use Rattle.field.specs.Ops.{Ops}
 use Rattle.circuit.specs.Round.{Round, isReveal, checkWords}
 use Rattle.party.specs.Position.{Send, finished, aborted}
@@ -29,6 +29,7 @@ module _ (O : Ops) (J : Joint) (scratch : List ℕ) where
     pub point : whole O J scratch .last .point ≡ aborted (after O J scratch k .point .gate)
     pub bands : (i : ℕ) → whole O J scratch .last .scratch i ≡ after O J scratch k .scratch i
     pub outputs : whole O J scratch .outputs ≡ run O J k (begun O J scratch) .outputs
+    pub transcript : whole O J scratch .transcript ≡ run O J k (begun O J scratch) .transcript ++ said O J (after O J scratch k) r
 
   pub record Stops : Type 0 where
     -- a failing check stops the run there

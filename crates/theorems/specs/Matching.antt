@@ -23,6 +23,10 @@ addLists O [] ys = []
 addLists O (x ∷ xs) [] = x ∷ xs
 addLists O (x ∷ xs) (y ∷ ys) = O .add x y ∷ addLists O xs ys
 
+-- d at party s, and 0 at every other party
+unfoldable pub only : ℕ → ℕ → ℕ → ℕ
+only s d i = cond (eqb i s) d 0
+
 -- a run of n parties on inputs, for its values on plain inputs alone
 unfoldable pub plainly : ℕ → List ℕ → List ℕ → Joint
 plainly n c inputs = record { parties = n; circuit = c; preps = []; inputs = inputs; coefficients = [] }
@@ -41,7 +45,7 @@ module _ (O : Ops) (n : ℕ) (c : List ℕ) (h : ℕ) (x x′ : List ℕ) where
   module _ (preps : List ℕ) where
     -- a difference of a shared number, and of its MAC, at party i: party h has it all
     unfoldable pub moved : ℕ → ℕ → List ℕ
-    moved i d = cond (eqb i h) (d ∷ mul (wholeKey O n c preps) d ∷ []) (0 ∷ 0 ∷ [])
+    moved i d = only h d i ∷ only h (mul (wholeKey O n c preps) d) i ∷ []
 
     -- c is a times b: by how much it differs where a differs by d and b by e
     unfoldable pub productMove : ℕ → ℕ → ℕ → ℕ
@@ -49,9 +53,10 @@ module _ (O : Ops) (n : ℕ) (c : List ℕ) (h : ℕ) (x x′ : List ℕ) where
         sub (mul (add (shareSum O n c preps j aAt) d) (add (shareSum O n c preps j bAt) e))
         (mul (shareSum O n c preps j aAt) (shareSum O n c preps j bAt))
 
-    -- the differences in party i's record of gate j: masks move with the input that they hide, a and b with the values that they hide
+    -- the differences in party i's record of gate j: a mask, and its owner's whole mask, move with the
+    -- input that they hide, a and b with the values that they hide
     unfoldable pub recordMove : ℕ → ℕ → Gate → List ℕ
-    recordMove i j (In s) = moved i (inputMove j) ++ (cond (eqb i s) (inputMove j) 0 ∷ [])
+    recordMove i j (In s) = moved i (inputMove j) ++ (only s (inputMove j) i ∷ [])
     recordMove i j (Add y z) = []
     recordMove i j (Sub y z) = []
     recordMove i j (Plus y k) = []

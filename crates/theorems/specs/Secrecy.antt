@@ -69,22 +69,23 @@ module _ (O : Ops) (n : ℕ) (c : List ℕ) (A : ℕ → Bool) where
         → Alike (runOf m x coefficients) (runOf (there m) x′ coefficients) scratch t o t′ o′
 
   -- what A sees of a run that is not refused: every word, and the numbers in its own bands
-  pub record Shows (J : Joint) (scratch t o words : List ℕ) (bands : ℕ → List ℕ) : Type 0 where
+  pub record Shows (J : Joint) (scratch t o words : List ℕ) (preps bands : ℕ → List ℕ) : Type 0 where
+    pub owns : (i : ℕ) → i < n → A i ≡ true → band (prepSize c) (J .preps) i ≡ preps i
     pub accepted : verdict O J scratch t o ≡ Accepted
     pub says : whole O J scratch .transcript ≡ words
     pub leaves : (i : ℕ) → i < n → A i ≡ true → bandOf (jointScratch O J scratch t o) i ≡ bands i
 
   -- a view tells nothing of the inputs: the good preprocessing that shows it on the first inputs corresponds one for one with that which
   -- shows it on the second
-  pub record Blind (x x′ : List ℕ) (there back : List ℕ → List ℕ) (coefficients scratch t o words : List ℕ) (bands : ℕ → List ℕ) : Type 0 where
+  pub record Blind (x x′ : List ℕ) (there back : List ℕ → List ℕ) (coefficients scratch t o words : List ℕ) (preps bands : ℕ → List ℕ) : Type 0 where
     pub there-shows : (m : List ℕ)
         → Good O n c m
-        → Shows (runOf m x coefficients) scratch t o words bands
-        → Good O n c (there m) × Shows (runOf (there m) x′ coefficients) scratch t o words bands
+        → Shows (runOf m x coefficients) scratch t o words preps bands
+        → Good O n c (there m) × Shows (runOf (there m) x′ coefficients) scratch t o words preps bands
     pub back-shows : (m : List ℕ)
         → Good O n c m
-        → Shows (runOf m x′ coefficients) scratch t o words bands
-        → Good O n c (back m) × Shows (runOf (back m) x coefficients) scratch t o words bands
+        → Shows (runOf m x′ coefficients) scratch t o words preps bands
+        → Good O n c (back m) × Shows (runOf (back m) x coefficients) scratch t o words preps bands
     pub back-there : (m : List ℕ) → Good O n c m → back (there m) ≡ m
     pub there-back : (m : List ℕ) → Good O n c m → there (back m) ≡ m
 
@@ -100,5 +101,5 @@ abbrev pub Blindness : Ops → Type 0
 Blindness O =
     (n : ℕ) (c : List ℕ) (A : ℕ → Bool) (x x′ : List ℕ)
     → Compared O n c A x x′
-    → (coefficients scratch t o words : List ℕ) (bands : ℕ → List ℕ)
-    → Blind O n c A x x′ (rule O n c A x x′) (rule O n c A x′ x) coefficients scratch t o words bands
+    → (coefficients scratch t o words : List ℕ) (preps bands : ℕ → List ℕ)
+    → Blind O n c A x x′ (rule O n c A x x′) (rule O n c A x′ x) coefficients scratch t o words preps bands

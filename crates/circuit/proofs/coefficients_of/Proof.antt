@@ -1,0 +1,22 @@
+-- `circuit::coefficients_of` meets its contract: an output takes one for each entry that was unchecked and one for the shown value.
+-- Assumes nothing.
+use mathlib.Core.Path.{sym, _∙_}
+use borrow.Author.Needs.{needs}
+use Rattle.circuit.proofs.Rounds.{coefficients-all, coefficients-none}
+use Rattle.circuit.proofs.coefficients_of.Statement.{statement}
+use Rattle.circuit.proofs.coefficients_of.Tie as tie
+
+is-out-requires : tie.Need-is-out-requires
+is-out-requires c κs = search needs
+
+add-result : tie.Need-add-result
+add-result c = search needs
+
+returns : tie.Need-returns
+returns c = sym (coefficients-all _ _ (sym (c .before .is-out .ensures) ∙ c .if1 .taken))
+
+returns-2 : tie.Need-returns-2
+returns-2 c = sym (coefficients-none _ _ (sym (c .before .is-out .ensures) ∙ c .if1 .left))
+
+pub coefficients-of-spec : {M : Type 1} → statement M
+coefficients-of-spec = tie.close (tie.spec is-out-requires add-result returns returns-2)

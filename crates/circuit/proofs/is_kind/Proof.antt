@@ -1,0 +1,17 @@
+-- `circuit::is_kind` meets its contract: its two tests are those of the definition.
+-- Assumes nothing.
+use Rattle.circuit.specs.Accept.{isKind}
+use Rattle.circuit.proofs.Tests.{tests}
+use Rattle.circuit.proofs.is_kind.Statement.{statement}
+use Rattle.circuit.proofs.is_kind.Tie as tie
+
+returns : tie.Need-returns
+unfolding isKind
+returns c = search tests
+
+returns-2 : tie.Need-returns-2
+unfolding isKind
+returns-2 c = search tests
+
+pub is-kind-spec : {M : Type 1} → statement M
+is-kind-spec = tie.close (tie.spec returns returns-2)

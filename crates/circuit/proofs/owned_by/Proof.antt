@@ -1,0 +1,76 @@
+-- `circuit::owned_by` meets its contract: an in gate names its owner, and no other gate has one.
+-- Assumes nothing.
+use borrow.Author.Needs.{needs}
+use Rattle.circuit.specs.Gate.{kind, first}
+use Rattle.circuit.specs.Kind.{isIn, ownedBy}
+use Rattle.circuit.specs.Code.{gateOf}
+use Rattle.circuit.proofs.owned_by.Statement.{statement}
+use Rattle.circuit.proofs.owned_by.Tie as tie
+
+enum-known-g : tie.Need-enum-known-g
+enum-known-g c = search needs
+
+enum-told : tie.Need-enum-told
+enum-told c = search needs
+
+enum-told-2 : tie.Need-enum-told-2
+enum-told-2 c = search needs
+
+enum-told-3 : tie.Need-enum-told-3
+enum-told-3 c = search needs
+
+enum-told-4 : tie.Need-enum-told-4
+enum-told-4 c = search needs
+
+enum-told-5 : tie.Need-enum-told-5
+enum-told-5 c = search needs
+
+enum-told-6 : tie.Need-enum-told-6
+enum-told-6 c = search needs
+
+returns : tie.Need-returns
+unfolding ownedBy isIn kind first gateOf
+returns c = rw (c .before .g .given .1)
+
+returns-2 : tie.Need-returns-2
+unfolding ownedBy isIn kind first gateOf
+returns-2 c = rw (c .enum-told .given .1)
+
+returns-3 : tie.Need-returns-3
+unfolding ownedBy isIn kind first gateOf
+returns-3 c = rw (c .enum-told2 .given .1)
+
+returns-4 : tie.Need-returns-4
+unfolding ownedBy isIn kind first gateOf
+returns-4 c = rw (c .enum-told3 .given .1)
+
+returns-5 : tie.Need-returns-5
+unfolding ownedBy isIn kind first gateOf
+returns-5 c = rw (c .enum-told4 .given .1)
+
+returns-6 : tie.Need-returns-6
+unfolding ownedBy isIn kind first gateOf
+returns-6 c = rw (c .enum-told5 .given .1)
+
+returns-7 : tie.Need-returns-7
+unfolding ownedBy isIn kind first gateOf
+returns-7 c = rw (c .enum-told6 .given .1)
+
+pub owned-by-spec : {M : Type 1} → statement M
+owned-by-spec =
+    tie.close
+    (tie.spec
+    enum-known-g
+    enum-told
+    enum-told-2
+    enum-told-3
+    enum-told-4
+    enum-told-5
+    enum-told-6
+    returns
+    returns-2
+    returns-3
+    returns-4
+    returns-5
+    returns-6
+    returns-7)

@@ -1,0 +1,59 @@
+-- `circuit::totals_before` meets its contract: the totals so far are those of the gates passed, and what waits is what is unchecked.
+-- Assumes nothing.
+use Prim.Native.Nat.{_≤_, _-_}
+use mathlib.Core.Path.{_≡_, refl, _∙_}
+use native.Mathlib.Omega.{arith}
+use denote.Ref.{now}
+use borrow.Author.Needs.{needs}
+use Rattle.circuit.specs.Round.{overRun}
+use Rattle.circuit.specs.Count.{total, count, unchecked}
+use Rattle.circuit.specs.Code.{Totalled}
+use Rattle.circuit.proofs.Counts.{unchecked-few, unchecked-more}
+use Rattle.circuit.proofs.totals_before.Statement.{statement}
+use Rattle.circuit.proofs.totals_before.Tie as tie
+
+abbrev Inv-loop : tie.InvT-loop
+Inv-loop c count t₀ waiting₀ j₀ t waiting j = (j ≤ count) × (waiting ≡ unchecked c j) × Totalled c j t
+
+abbrev μ-loop : tie.MeasureT-loop
+μ-loop c count t₀ waiting₀ j₀ t waiting j = count - j
+
+loop-holds : tie.Need-loop-holds Inv-loop μ-loop
+unfolding total count unchecked overRun
+loop-holds c = (search needs, refl, record { ins = refl; outs = refl; words = refl; coefficients = refl })
+
+total-gate-requires : tie.Need-total-gate-requires Inv-loop μ-loop
+total-gate-requires c κs = search needs
+
+gate-at-requires : tie.Need-gate-at-requires Inv-loop μ-loop
+gate-at-requires c κs = search needs
+
+unchecked-after-requires : tie.Need-unchecked-after-requires Inv-loop μ-loop
+unchecked-after-requires c κs = omega (arith, c .before .before .before .loop .inv .1, unchecked-few (now (c .before .before .before .before .before .args .c)) (c .before .before .before .loop .j))
+
+add-j : tie.Need-add-j Inv-loop μ-loop
+add-j c = search needs
+
+loop-less : tie.Need-loop-less Inv-loop μ-loop
+loop-less c = search needs
+
+loop-again : tie.Need-loop-again Inv-loop μ-loop
+loop-again c = (search needs, c .unchecked-after .ensures ∙ cc (c .before .gate-at .ensures, c .before .before .before .before .loop .inv .1, unchecked-more (now (c .before .before .before .before .before .before .args .c)) (c .before .before .before .before .loop .j)), c .before .before .total-gate .ensures)
+
+returns : tie.Need-returns Inv-loop μ-loop
+returns c = let l = c .before .loop in let e : l .j ≡ c .before .before .before .args .count = omega (arith, l .inv .0) in rw e at (l .inv .2)
+
+pub totals-before-spec : {M : Type 1} → statement M
+totals-before-spec =
+    tie.close
+    (tie.spec
+    Inv-loop
+    μ-loop
+    loop-holds
+    total-gate-requires
+    gate-at-requires
+    unchecked-after-requires
+    add-j
+    loop-less
+    loop-again
+    returns)

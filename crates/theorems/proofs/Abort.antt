@@ -1,0 +1,232 @@
+-- A check stops a run exactly if the revealed words do not sum to zero. Where a run stands after k rounds depends on the circuit and on
+-- which checks passed alone; so this holds of any preprocessing.
+-- Assumes nothing.
+use Prim.Native.Nat.{ℕ, zero, suc, _+_, _-_, _*_, _<_}
+use mathlib.Core.Path.{_≡_, refl, sym, ap, subst, _∙_}
+use mathlib.Core.Bool.{Bool, true, false, cond, _&&_}
+use mathlib.Core.List.{List, [], _++_, append-nil}
+use native.Mathlib.Omega.{arith}
+use lib.Dec.{eqb}
+use borrow.Author.Tests.{eqb-false, ne-eqb}
+use Rattle.field.specs.Ops.{Ops}
+use Rattle.field.specs.Field.{Field}
+use Rattle.field.specs.Prime.{prime}
+use Rattle.field.proofs.PrimeField.{primeField}
+use Rattle.circuit.specs.Gate.{gates}
+use Rattle.circuit.specs.Round.{Round, Input, Multiply, CommitOpened, RevealOpened, OpenOutput, CommitOutput, RevealOutput, isReveal}
+use Rattle.circuit.specs.Round.{checkWords, rounds, overRun}
+use Rattle.circuit.specs.Valid.{Valid}
+use Rattle.circuit.proofs.Valid.{valid}
+use Rattle.party.specs.Position.{Point, Stage, Send, Receive, Finished, Aborted, finished, aborted, follow}
+use Rattle.party.specs.Receive.{heardSum, passes, next, received}
+use Rattle.party.specs.Entry.{releases}
+use Rattle.joint.specs.Joint.{Joint, party}
+use Rattle.joint.specs.Run.{State, Run, begun, said, step, released, run, whole, mostRounds}
+use Rattle.theorems.specs.Premises.{Accepts, after}
+use Rattle.theorems.specs.Abort.{Fails, StopsAt, Stops}
+use Rattle.theorems.proofs.Bools.{differ}
+use Rattle.theorems.proofs.Points.{Fits, FitsStage, spentStage, spent, goes-start, fits-follow, spent-follow, spent-le}
+use Rattle.theorems.proofs.Rounds.{ones, rounds-le}
+use Rattle.theorems.proofs.Runs.{Idle, longer, run-ended, first, last-first, first-longer, after-step, after-idle, rounds-first}
+
+module _ (O : Ops) (J : Joint) (scratch : List ℕ) where
+  -- the state after k rounds
+  abbrev state : ℕ → State
+  state k = after O J scratch k
+
+  -- the rounds that a run is given
+  abbrev allowed : ℕ
+  allowed = mostRounds O J * gates (J .circuit)
+
+  -- does the check of round r after k rounds pass?
+  abbrev passed : ℕ → Round → Bool
+  passed k r = passes O (J .parties) r (said O J (state k) r)
+
+  -- A check that does not pass is a failing one.
+  fails : (k : ℕ) (r : Round) → state k .point .stage ≡ Send r → passed k r ≡ false → Fails O J scratch k r
+  unfolding passes
+  fails k r e h = go (isReveal r) refl h
+    where
+      sum : ℕ
+      sum = heardSum O (J .parties) checkWords 0 (said O J (state k) r)
+
+      go : (b : Bool) → isReveal r ≡ b → cond b (eqb sum 0) true ≡ false → Fails O J scratch k r
+      go true q h = record { sending = e; reveals = q; nonzero = eqb-false sum 0 h }
+      go false q h = differ refl h
+
+  -- A failing check does not pass.
+  not-passed : (k : ℕ) (r : Round) → Fails O J scratch k r → passed k r ≡ false
+  unfolding passes
+  not-passed k r f = rw (f .reveals) (ne-eqb _ 0 (f .nonzero))
+
+  -- where a run stands after k rounds: it is going, and k rounds lie behind it; it is finished; or a check failed before
+  data Standing (k : ℕ) : Type 0 where
+    going : (r : Round) → state k .point .stage ≡ Send r → FitsStage (J .circuit) (state k .point .gate) (Send r)
+        → spent (J .circuit) ones (state k .point) ≡ k
+        → Standing k
+    over : state k .point ≡ finished (J .circuit) → Standing k
+    failed : (m : ℕ) (r : Round) → Fails O J scratch m r → state k .point .stage ≡ Aborted → Standing k
+
+  -- A point that fits is one where a round is sent, or the end.
+  stands : (k : ℕ) → Fits (J .circuit) (state k .point) → spent (J .circuit) ones (state k .point) ≡ k → Standing k
+  unfolding finished
+  stands k f s = go (state k .point .stage) refl
+    where
+      fits : (g : Stage) → state k .point .stage ≡ g → FitsStage (J .circuit) (state k .point .gate) g
+      fits g e = subst (FitsStage (J .circuit) (state k .point .gate)) e f
+
+      go : (g : Stage) → state k .point .stage ≡ g → Standing k
+      go (Send r) e = going r e (fits (Send r) e) s
+      go (Receive r) e = absurd (fits (Receive r) e)
+      go Finished e = over (λ i. record { gate = fits Finished e i; stage = e i })
+      go Aborted e = absurd (fits Aborted e)
+
+  -- The point after a round that passes ..
+  after-passed : (k : ℕ) (r : Round) → state k .point .stage ≡ Send r → passed k r ≡ true
+      → state (suc k) .point ≡ follow (J .circuit) (state k .point .gate) r
+  unfolding step next
+  after-passed k r e h = ap (λ (s : State). s .point) (after-step O J scratch k r e) ∙ rw h
+
+  -- .. and after one that does not.
+  after-failed : (k : ℕ) (r : Round) → state k .point .stage ≡ Send r → passed k r ≡ false
+      → state (suc k) .point ≡ aborted (state k .point .gate)
+  unfolding step next
+  after-failed k r e h = ap (λ (s : State). s .point) (after-step O J scratch k r e) ∙ rw h
+
+  -- A round that is sent takes a run one round on, or its check fails.
+  standing-step : (k : ℕ) (r : Round) → state k .point .stage ≡ Send r → FitsStage (J .circuit) (state k .point .gate) (Send r)
+      → spent (J .circuit) ones (state k .point) ≡ k
+      → Standing (suc k)
+  standing-step k r e f s = go (passed k r) refl
+    where
+      behind : spentStage (J .circuit) ones (state k .point .gate) (Send r) ≡ k
+      behind = ap (spentStage (J .circuit) ones (state k .point .gate)) (sym e) ∙ s
+
+      go : (b : Bool) → passed k r ≡ b → Standing (suc k)
+      go true h =
+          stands (suc k) (rw (after-passed k r e h) (fits-follow (J .circuit) (state k .point .gate) r f))
+          (rw (after-passed k r e h) (omega (arith, spent-follow (J .circuit) ones (state k .point .gate) r f, behind)))
+      go false h = failed k r (fails k r e h) (ap (λ (p : Point). p .stage) (after-failed k r e h) ∙ (unfold aborted in refl))
+
+  -- Where nothing is sent a run stands as it stood.
+  resting : (k : ℕ) → Idle (state k .point .stage) → state (suc k) .point ≡ state k .point
+  resting k h = ap (λ (s : State). s .point) (after-idle O J scratch k h)
+
+  -- At the end nothing is sent.
+  idle-finished : {p : Point} → p ≡ finished (J .circuit) → Idle (p .stage)
+  idle-finished e = subst (λ (p : Point). Idle (p .stage)) (sym e) (unfold finished in tt)
+
+  module _ {n q : ℕ} (ok : Valid n q (J .circuit)) where
+    -- Where a run stands after any number of rounds.
+    standing : (k : ℕ) → Standing k
+    unfolding after begun overRun
+    standing zero = stands 0 (goes-start (J .circuit) ok .fits) (goes-start (J .circuit) ok .spent-is ones)
+    standing (suc k) = go (standing k)
+      where
+        go : Standing k → Standing (suc k)
+        go (going r e f s) = standing-step k r e f s
+        go (over e) = over (resting k (idle-finished e) ∙ e)
+        go (failed m r f e) = failed m r f (ap (λ (p : Point). p .stage) (resting k (subst Idle (sym e) tt)) ∙ e)
+
+    -- A run that is still going has rounds left.
+    rounds-left : (k : ℕ) (r : Round) → state k .point .stage ≡ Send r → k < allowed
+    rounds-left k r e = go (standing k)
+      where
+        go : Standing k → k < allowed
+        go (going t q f s) =
+            let behind : spentStage (J .circuit) ones (state k .point .gate) (Send t) ≡ k =
+            ap (spentStage (J .circuit) ones (state k .point .gate)) (sym q) ∙ s in
+            omega (arith, spent-le (J .circuit) ones (state k .point .gate) t f, rounds-le (J .circuit) (gates (J .circuit)))
+        go (over q) = absurd (subst Idle e (idle-finished q))
+        go (failed m t f q) = absurd (subst Idle (sym q ∙ e) tt)
+
+    -- A run without a failing check finishes.
+    finishing : ((k : ℕ) (r : Round) → Fails O J scratch k r → ⊥) → whole O J scratch .last .point ≡ finished (J .circuit)
+    unfolding whole
+    finishing none = ap (λ (s : State). s .point) (last-first O J scratch allowed) ∙ go (standing allowed)
+      where
+        go : Standing allowed → state allowed .point ≡ finished (J .circuit)
+        go (going r e f s) = absurd (omega (arith, rounds-left allowed r e))
+        go (over e) = e
+        go (failed m r f e) = absurd (none m r f)
+
+    module _ (k : ℕ) (r : Round) (f : Fails O J scratch k r) where
+      -- The failing check is the last round of the run.
+      stopped : whole O J scratch ≡ longer O J (first O J scratch k) r
+      unfolding whole
+      stopped =
+          ap (λ (m : ℕ). run O J m (begun O J scratch)) count
+          ∙ run-ended O J (suc k) (allowed - suc k) (begun O J scratch) idle
+          ∙ first-longer O J scratch k r (f .sending)
+        where
+          count : allowed ≡ suc k + (allowed - suc k)
+          count = omega (arith, rounds-left k r (f .sending))
+
+          idle : Idle (first O J scratch (suc k) .last .point .stage)
+          idle =
+              subst Idle
+              (sym
+              (ap (λ (s : State). s .point .stage) (last-first O J scratch (suc k))
+              ∙ ap (λ (p : Point). p .stage) (after-failed k r (f .sending) (not-passed k r f))))
+              (unfold aborted in tt)
+
+      -- A failing reveal writes nothing into a scratch ..
+      unwritten : (i : ℕ) (l : List ℕ) (t : Round) → isReveal t ≡ true → (heard : List ℕ) → passes O (J .parties) t heard ≡ false
+          → received O (party J i) l (state k .point .gate) t heard ≡ l
+      unfolding received party isReveal
+      unwritten i l Input e heard h = differ e refl
+      unwritten i l Multiply e heard h = differ e refl
+      unwritten i l CommitOpened e heard h = differ e refl
+      unwritten i l RevealOpened e heard h = refl
+      unwritten i l OpenOutput e heard h = differ e refl
+      unwritten i l CommitOutput e heard h = differ e refl
+      unwritten i l RevealOutput e heard h = rw h
+
+      -- .. and releases no output.
+      unreleased : released O J (state k) r ≡ []
+      unfolding released
+      unreleased = rw (not-passed k r f) (go (releases r) _)
+        where
+          go : (b : Bool) (l : List ℕ) → cond (b && false) l [] ≡ []
+          go true l = refl
+          go false l = refl
+
+      -- The words of the failing reveal are the last of the transcript.
+      last-said : whole O J scratch .transcript ≡ first O J scratch k .transcript ++ said O J (state k) r
+      unfolding longer
+      last-said =
+          ap (λ (R : Run). R .transcript) stopped
+          ∙ ap (λ (s : State). first O J scratch k .transcript ++ said O J s r) (last-first O J scratch k)
+
+      -- So the run stops there.
+      stops-at : StopsAt O J scratch k r
+      unfolding longer step
+      stops-at =
+          record {
+            rounds = ap (λ (R : Run). R .rounds) stopped ∙ ap suc (rounds-first O J scratch k r (f .sending));
+            point =
+                ap (λ (R : Run). R .last .point) stopped
+                ∙ ap (λ (s : State). step O J s r .point) (last-first O J scratch k)
+                ∙ ap (λ (s : State). s .point) (sym (after-step O J scratch k r (f .sending)))
+                ∙ after-failed k r (f .sending) (not-passed k r f);
+            bands =
+                λ i. ap (λ (R : Run). R .last .scratch i) stopped
+                ∙ ap (λ (s : State). step O J s r .scratch i) (last-first O J scratch k)
+                ∙ unwritten i (state k .scratch i) r (f .reveals) (said O J (state k) r) (not-passed k r f);
+            outputs =
+                ap (λ (R : Run). R .outputs) stopped
+                ∙ ap (λ (s : State). first O J scratch k .outputs ++ released O J s r) (last-first O J scratch k)
+                ∙ ap (λ (l : List ℕ). first O J scratch k .outputs ++ l) unreleased
+                ∙ append-nil (first O J scratch k .outputs);
+            transcript = last-said;
+          }
+
+-- A failing check stops the run, and nothing else does.
+pub aborts : {O : Ops} (F : Field O) (J : Joint) (scratch : List ℕ) → Accepts O (J .parties) (J .circuit) → Stops O J scratch
+aborts {O} F J scratch accepts =
+    let ok : Valid (J .parties) (O .size) (J .circuit) = valid (J .parties) (O .size) (J .circuit) (accepts .circuit) in
+    record { stops = stops-at O J scratch ok; finishes = finishing O J scratch ok }
+
+-- The same at the operations of the prime.
+pub aborts-prime : (J : Joint) (scratch : List ℕ) → Accepts prime (J .parties) (J .circuit) → Stops prime J scratch
+aborts-prime = aborts primeField

@@ -1,0 +1,383 @@
+-- Accuracy: an honest run keeps the invariant, so it finishes, with the scores on plain inputs, in as many rounds and words as the circuit says.
+-- Assumes nothing.
+use Prim.Native.Nat.{ℕ, zero, suc, _+_, _*_, _<_}
+use mathlib.Core.Path.{_≡_, refl, sym, ap, ap₂, subst, _∙_}
+use mathlib.Core.Bool.{true, false}
+use mathlib.Core.List.{List, [], _∷_, _++_, append-nil}
+use native.Mathlib.Omega.{arith}
+use lib.ListN.{length, getD, length-append}
+use Rattle.field.specs.Ops.{Ops}
+use Rattle.field.specs.Field.{Field}
+use Rattle.field.specs.Sum.{sum}
+use Rattle.field.specs.Prime.{prime}
+use Rattle.field.proofs.PrimeField.{primeField}
+use Rattle.field.proofs.Sums.{sum-ext}
+use Rattle.circuit.specs.Gate.{Gate, In, Add, Sub, Plus, Times, Mul, Out, gate, gates, first}
+use Rattle.circuit.specs.Kind.{hasValue, isLinear}
+use Rattle.circuit.specs.Count.{unchecked}
+use Rattle.circuit.specs.Round.{Round, Input, Multiply, CommitOpened, RevealOpened, OpenOutput, CommitOutput, RevealOutput, rounds}
+use Rattle.circuit.specs.Round.{following, words, openedIn, overRun, roundCount, wordCount}
+use Rattle.party.specs.Part.{Part}
+use Rattle.party.specs.Scratch.{layout, wire, read, Value, ValueMac}
+use Rattle.party.specs.Position.{Point, Stage, Send, Receive, Finished, Aborted, finished, follow, whenSending}
+use Rattle.party.specs.Party.{key}
+use Rattle.party.specs.Entry.{releases}
+use Rattle.joint.specs.Joint.{Joint, party}
+use Rattle.joint.specs.Run.{State, Run, begun, said, released, still, run, whole, mostRounds}
+use Rattle.joint.specs.Plain.{value, scoreOf, scores}
+use Rattle.joint.specs.Good.{wholeKey}
+use Rattle.joint.specs.Formula.{roundFormula}
+use Rattle.theorems.specs.Premises.{Honest, after}
+use Rattle.theorems.specs.Accuracy.{Accurate, theKey, openAfter}
+use Rattle.theorems.specs.Abort.{Fails}
+use Rattle.theorems.proofs.Bools.{differ}
+use Rattle.theorems.proofs.Given.{Given, given-honest}
+use Rattle.theorems.proofs.Closed.{Opening, Shown, every-at, keys, sumOf, wires, opened, openedValue, accurate, CarriesOpened}
+use Rattle.theorems.proofs.Closed.{carries-shown}
+use Rattle.theorems.proofs.Holds.{Holds}
+use Rattle.theorems.proofs.Points.{FitsStage, sending, spentStage, spent, doneStage, done, goes-start, goes-resume, follow-stays}
+use Rattle.theorems.proofs.Points.{follow-leaves, spent-follow}
+use Rattle.theorems.proofs.Sent.{gate-at, length-said, revealed-sum}
+use Rattle.theorems.proofs.Honest.{pending, length-pending, Inv, HoldsAt, fits-at, holds-at, checks-at, afterOut, following-input}
+use Rattle.theorems.proofs.Honest.{following-multiply, following-out, carries-pending, passing, point-step, inv-step, inv-begun}
+use Rattle.theorems.proofs.Rounds.{ones, formula-is, at-most-766}
+use Rattle.theorems.proofs.Runs.{Idle, longer, first as firstly, last-first, first-longer, first-idle, after-step, after-idle}
+use Rattle.theorems.proofs.Abort.{aborts}
+
+-- A linear gate has no score.
+scores-linear : (O : Ops) (J : Joint) (x : ℕ) → isLinear (gate (J .circuit) x) ≡ true → scores O J (suc x) ≡ scores O J x
+unfolding scores
+scores-linear O J x e = ap (λ (l : List ℕ). scores O J x ++ l) (none (gate (J .circuit) x) e) ∙ append-nil (scores O J x)
+  where
+    none : (g : Gate) → isLinear g ≡ true → scoreOf O J g ≡ []
+    none (In s) e = unfold isLinear in differ e refl
+    none (Add x y) e = unfold scoreOf in refl
+    none (Sub x y) e = unfold scoreOf in refl
+    none (Plus x k) e = unfold scoreOf in refl
+    none (Times x k) e = unfold scoreOf in refl
+    none (Mul x y) e = unfold isLinear in differ e refl
+    none (Out x) e = unfold isLinear in differ e refl
+
+module _ {O : Ops} (F : Field O) (J : Joint) (scratch : List ℕ) (honest : Honest O J scratch) where
+  -- The run has all that an honest run is given.
+  has : Given O J
+  has = given-honest F J scratch honest
+
+  -- the state after k rounds
+  abbrev state : ℕ → State
+  state k = after O J scratch k
+
+  -- The invariant holds after any number of rounds.
+  pub inv-after : (k : ℕ) → Inv O J (state k)
+  unfolding after
+  inv-after zero = inv-begun F J has scratch (honest .room)
+  inv-after (suc k) = go (state k .point .stage) refl (inv-after k)
+    where
+      go : (g : Stage) → state k .point .stage ≡ g → Inv O J (state k) → Inv O J (state (suc k))
+      go (Send r) e inv = subst (Inv O J) (sym (after-step O J scratch k r e)) (inv-step F J has (state k) inv r e)
+      go (Receive r) e inv = subst (Inv O J) (sym (after-idle O J scratch k (subst Idle (sym e) tt))) inv
+      go Finished e inv = subst (Inv O J) (sym (after-idle O J scratch k (subst Idle (sym e) tt))) inv
+      go Aborted e inv = subst (Inv O J) (sym (after-idle O J scratch k (subst Idle (sym e) tt))) inv
+
+  -- what each party's scratch has of the gates before the point
+  record Worked (k x : ℕ) : Type 0 where
+    below : x < gates (J .circuit)
+    parts : (i : ℕ) → i < J .parties → wire (layout (J .circuit)) (state k .scratch i) x ≡ wires O J x i
+
+  -- Every party's scratch has its part of each gate worked out.
+  worked : (k x : ℕ) → x < state k .point .gate → hasValue (gate (J .circuit) x) ≡ true → Worked k x
+  worked k x l v = go (state k .point .stage) (inv-after k .fits) (inv-after k .bands)
+    where
+      go : (g : Stage) → FitsStage (J .circuit) (state k .point .gate) g
+          → ((i : ℕ) → i < J .parties → HoldsAt O J i (state k .point .gate) g (state k .scratch i))
+          → Worked k x
+      go (Send r) f h = record { below = omega (arith, f .0); parts = λ i li. h i li .worked x l v }
+      go (Receive r) f h = absurd f
+      go Finished f h = record { below = omega arith; parts = λ i li. h i li .worked x (omega arith) v }
+      go Aborted f h = absurd f
+
+  -- The key is the sum of the key shares.
+  key-is : sum O (J .parties) (keys O J) ≡ theKey O J scratch
+  unfolding keys key party wholeKey
+  key-is = refl
+
+  -- The shares of each gate worked out sum to its value ..
+  shares-are : (k x : ℕ) → x < state k .point .gate → hasValue (gate (J .circuit) x) ≡ true
+      → sum O (J .parties) (λ i. wire (layout (J .circuit)) (state k .scratch i) x .share) ≡ value O J x
+  shares-are k x l v =
+      let w = worked k x l v in
+      sum-ext F (J .parties) _ _ (λ i li. ap (λ (p : Part). p .share) (w .parts i li)) ∙ accurate F J has x (w .below) v .shares
+
+  -- .. and the MAC shares to the key times that.
+  macs-are : (k x : ℕ) → x < state k .point .gate → hasValue (gate (J .circuit) x) ≡ true
+      → sum O (J .parties) (λ i. wire (layout (J .circuit)) (state k .scratch i) x .mac) ≡ O .mul (theKey O J scratch) (value O J x)
+  macs-are k x l v =
+      let w = worked k x l v in
+      sum-ext F (J .parties) _ _ (λ i li. ap (λ (p : Part). p .mac) (w .parts i li))
+      ∙ accurate F J has x (w .below) v .macs
+      ∙ ap (λ (a : ℕ). O .mul a (value O J x)) key-is
+
+  -- opened entry t after k rounds, at each party
+  record Entry (k t : ℕ) : Type 0 where
+    which : Opening
+    carried : CarriesOpened F J has which
+    values : (i : ℕ) → i < J .parties → read (layout (J .circuit)) (state k .scratch i) (Value t) ≡ sumOf O J (opened O J which)
+    macs : (i : ℕ) → i < J .parties → read (layout (J .circuit)) (state k .scratch i) (ValueMac t) ≡ opened O J which i .mac
+
+  -- Every entry that is opened and unchecked is one of the closed form.
+  entry : (k t : ℕ) → t < openAfter O J scratch k → Entry k t
+  unfolding whenSending
+  entry k t l = go (state k .point .stage) refl l
+    where
+      go : (g : Stage) → state k .point .stage ≡ g → t < whenSending g 0 (openedIn (unchecked (J .circuit) (state k .point .gate))) → Entry k t
+      go (Send r) e l =
+          let inv = inv-after k in
+          let f = fits-at O J (state k) r e inv in
+          let lt : t < length (pending (J .circuit) (state k .point .gate) r) = omega (arith, length-pending (J .circuit) (state k .point .gate) r) in
+          record {
+            which = getD (pending (J .circuit) (state k .point .gate) r) t (Shown 0);
+            carried = every-at (CarriesOpened F J has) (pending (J .circuit) (state k .point .gate) r) (carries-pending F J has (state k .point .gate) r f) t lt;
+            values = λ i li. holds-at O J (state k) r e inv i li .values t lt;
+            macs = λ i li. holds-at O J (state k) r e inv i li .macs t lt;
+          }
+      go (Receive r) e l = absurd (omega arith)
+      go Finished e l = absurd (omega arith)
+      go Aborted e l = absurd (omega arith)
+
+  -- Opened values are alike at all parties ..
+  alike : (k t i : ℕ) → t < openAfter O J scratch k → i < J .parties
+      → read (layout (J .circuit)) (state k .scratch i) (Value t) ≡ read (layout (J .circuit)) (state k .scratch 0) (Value t)
+  alike k t i l li = let o = entry k t l in o .values i li ∙ sym (o .values 0 (has .some))
+
+  -- .. and their MAC shares sum to the key times them.
+  opened-macs-are : (k t : ℕ) → t < openAfter O J scratch k
+      → sum O (J .parties) (λ i. read (layout (J .circuit)) (state k .scratch i) (ValueMac t))
+      ≡ O .mul (theKey O J scratch) (read (layout (J .circuit)) (state k .scratch 0) (Value t))
+  unfolding sumOf
+  opened-macs-are k t l =
+      let o = entry k t l in
+      sum-ext F (J .parties) _ _ (o .macs)
+      ∙ o .carried .macs
+      ∙ ap₂ (O .mul) key-is (sym (o .carried .shares) ∙ sym (o .values 0 (has .some)))
+
+  -- No check fails.
+  no-fail : (k : ℕ) (r : Round) → Fails O J scratch k r → ⊥
+  no-fail k r f =
+      f .nonzero (revealed-sum F J (state k) r (f .reveals) ∙ checks-at O J (state k) r (f .sending) (inv-after k) (f .reveals))
+
+  -- So the run finishes.
+  finishing : whole O J scratch .last .point ≡ finished (J .circuit)
+  finishing = aborts F J scratch (honest .accepts) .finishes no-fail
+
+  -- what a round releases, where s is an honest state about to send it
+  module _ (s : State) (inv : Inv O J s) where
+    -- the gate of the round
+    abbrev at : ℕ
+    at = s .point .gate
+
+    -- What the last check of an output releases is the output's value on plain inputs.
+    releases-value : s .point .stage ≡ Send RevealOutput → (x : ℕ) → gate (J .circuit) at ≡ Out x → released O J s RevealOutput ≡ value O J x ∷ []
+    unfolding released releases
+    releases-value e x eg =
+        rw (passing F J has s RevealOutput e inv) (ap (λ (v : ℕ). v ∷ []) (stored ∙ shown))
+      where
+        named : first (gate (J .circuit) at) ≡ x
+        named = unfold first in rw eg
+
+        held : Holds O J 0 at (Shown (first (gate (J .circuit) at)) ∷ []) (s .scratch 0)
+        held = unfold pending in holds-at O J s RevealOutput e inv 0 (has .some)
+
+        stored : read (layout (J .circuit)) (s .scratch 0) (Value 0) ≡ sumOf O J (opened O J (Shown (first (gate (J .circuit) at))))
+        stored = held .values 0 (omega arith)
+
+        shown : sumOf O J (opened O J (Shown (first (gate (J .circuit) at)))) ≡ value O J x
+        shown = unfold sumOf openedValue in rw named (carries-shown F J has at x (fits-at O J s RevealOutput e inv .0) eg .shares)
+
+    -- Other rounds release nothing.
+    releases-none : (r : Round) → releases r ≡ false → released O J s r ≡ []
+    unfolding released
+    releases-none r e = rw e
+
+    -- A round within an out gate adds no score.
+    score-stays : (r r′ : Round) (rest : List Round) → s .point .stage ≡ Send r → (x : ℕ) × (gate (J .circuit) at ≡ Out x)
+        → afterOut r ≡ r′ ∷ rest
+        → releases r ≡ false
+        → scores O J (done (J .circuit) (follow (J .circuit) at r)) ≡ scores O J at ++ released O J s r
+    unfolding doneStage
+    score-stays r r′ rest e g q none =
+        rw (
+          releases-none r none,
+          follow-stays (J .circuit) at r r′ rest (following-out (J .circuit) at (g .0) r (g .1) (fits-at O J s r e inv .1) ∙ q),
+        )
+        (sym (append-nil (scores O J at)))
+
+    -- The last round of a gate adds the gate's score.
+    score-leaves : (r : Round) (g : Gate) → s .point .stage ≡ Send r → gate (J .circuit) at ≡ g → following r (rounds (J .circuit) at) ≡ []
+        → released O J s r ≡ scoreOf O J g
+        → scores O J (done (J .circuit) (follow (J .circuit) at r)) ≡ scores O J at ++ released O J s r
+    unfolding scores
+    score-leaves r g e eg q score =
+        ap (λ (p : Point). scores O J (done (J .circuit) p)) (follow-leaves (J .circuit) at r q)
+        ∙ goes-resume (J .circuit) (suc at) (fits-at O J s r e inv .0) .done-is (scores O J) (scores-linear O J)
+        ∙ ap (λ (l : List ℕ). scores O J at ++ l) (ap (scoreOf O J) eg ∙ sym score)
+
+    -- A round releases the scores that it completes.
+    score-step : (r : Round) → s .point .stage ≡ Send r
+        → scores O J (done (J .circuit) (follow (J .circuit) at r)) ≡ scores O J at ++ released O J s r
+    unfolding afterOut releases scoreOf
+    score-step Input e =
+        let g = gate-at (J .circuit) at Input (fits-at O J s Input e inv .1) in
+        score-leaves Input (In (g .0)) e (g .1) (following-input (J .circuit) at (g .0) (g .1)) (releases-none Input refl)
+    score-step Multiply e =
+        let g = gate-at (J .circuit) at Multiply (fits-at O J s Multiply e inv .1) in
+        score-leaves Multiply (Mul (g .0) (g .1)) e (g .2) (following-multiply (J .circuit) at (g .0) (g .1) (g .2)) (releases-none Multiply refl)
+    score-step CommitOpened e =
+        score-stays CommitOpened RevealOpened _ e (gate-at (J .circuit) at CommitOpened (fits-at O J s CommitOpened e inv .1)) refl refl
+    score-step RevealOpened e =
+        score-stays RevealOpened OpenOutput _ e (gate-at (J .circuit) at RevealOpened (fits-at O J s RevealOpened e inv .1)) refl refl
+    score-step OpenOutput e =
+        score-stays OpenOutput CommitOutput _ e (gate-at (J .circuit) at OpenOutput (fits-at O J s OpenOutput e inv .1)) refl refl
+    score-step CommitOutput e =
+        score-stays CommitOutput RevealOutput _ e (gate-at (J .circuit) at CommitOutput (fits-at O J s CommitOutput e inv .1)) refl refl
+    score-step RevealOutput e =
+        let f = fits-at O J s RevealOutput e inv in
+        let g = gate-at (J .circuit) at RevealOutput (f .1) in
+        score-leaves RevealOutput (Out (g .0)) e (g .1) (following-out (J .circuit) at (g .0) RevealOutput (g .1) (f .1))
+        (releases-value e (g .0) (g .1))
+
+  -- the words of a round
+  abbrev wordsOf : ℕ → Round → ℕ
+  wordsOf j r = words (gate (J .circuit) j) r
+
+  -- what a run of k rounds has told: as many rounds and words as lie behind the point, and the scores of the gates that are done
+  record Told (k : ℕ) : Type 0 where
+    made : firstly O J scratch k .rounds ≡ spent (J .circuit) ones (state k .point)
+    said-so-far : length (firstly O J scratch k .transcript) ≡ J .parties * spent (J .circuit) wordsOf (state k .point)
+    given-out : firstly O J scratch k .outputs ≡ scores O J (done (J .circuit) (state k .point))
+
+  -- Nothing is told before the first round.
+  told-begun : Told 0
+  unfolding run still begun after overRun scores
+  told-begun =
+      let start = goes-start (J .circuit) (has .valid) in
+      record {
+        made = sym (start .spent-is ones);
+        said-so-far = omega (arith, ap (λ (m : ℕ). J .parties * m) (start .spent-is wordsOf));
+        given-out = sym (start .done-is (scores O J) (scores-linear O J));
+      }
+
+  -- A round tells what is its own.
+  told-step : (k : ℕ) (r : Round) → state k .point .stage ≡ Send r → Told k → Told (suc k)
+  unfolding longer doneStage
+  told-step k r e t =
+      record {
+        made = omega (arith, t .made, behind ones, spent-next ones, ap (λ (R : Run). R .rounds) (first-longer O J scratch k r e));
+        said-so-far =
+            omega (
+              arith,
+              t .said-so-far,
+              ap (λ (m : ℕ). J .parties * m) (behind wordsOf),
+              ap (λ (m : ℕ). J .parties * m) (spent-next wordsOf),
+              longer-by,
+            );
+        given-out =
+            ap (λ (R : Run). R .outputs) (first-longer O J scratch k r e)
+            ∙ ap (λ (s : State). firstly O J scratch k .outputs ++ released O J s r) (last-first O J scratch k)
+            ∙ ap (λ (l : List ℕ). l ++ released O J (state k) r) (t .given-out ∙ ap (λ (g : Stage). scores O J (doneStage (J .circuit) at-k g)) e)
+            ∙ sym (score-step (state k) (inv-after k) r e)
+            ∙ ap (λ (p : Point). scores O J (done (J .circuit) p)) (sym place);
+      }
+    where
+      at-k : ℕ
+      at-k = state k .point .gate
+
+      fits : FitsStage (J .circuit) at-k (Send r)
+      fits = fits-at O J (state k) r e (inv-after k)
+
+      place : state (suc k) .point ≡ follow (J .circuit) at-k r
+      place = ap (λ (s : State). s .point) (after-step O J scratch k r e) ∙ point-step F J has (state k) (inv-after k) r e
+
+      behind : (f : ℕ → Round → ℕ) → spent (J .circuit) f (state k .point) ≡ spent (J .circuit) f (sending at-k r)
+      behind f = ap (spentStage (J .circuit) f at-k) e
+
+      spent-next : (f : ℕ → Round → ℕ) → spent (J .circuit) f (state (suc k) .point) ≡ spent (J .circuit) f (sending at-k r) + f at-k r
+      spent-next f = rw place (spent-follow (J .circuit) f at-k r fits)
+
+      longer-by : length (firstly O J scratch (suc k) .transcript) ≡ length (firstly O J scratch k .transcript) + J .parties * wordsOf at-k r
+      longer-by =
+          ap (λ (R : Run). length (R .transcript)) (first-longer O J scratch k r e)
+          ∙ length-append (firstly O J scratch k .transcript) (said O J (firstly O J scratch k .last) r)
+          ∙ ap (λ (s : State). length (firstly O J scratch k .transcript) + length (said O J s r)) (last-first O J scratch k)
+          ∙ ap (λ (m : ℕ). length (firstly O J scratch k .transcript) + m) (length-said O J (state k) r (fits .1))
+
+  -- Where nothing is sent nothing is told.
+  told-idle : (k : ℕ) → Idle (state k .point .stage) → Told k → Told (suc k)
+  told-idle k h t =
+      record {
+        made = rw (first-idle O J scratch k h, after-idle O J scratch k h) (t .made);
+        said-so-far = rw (first-idle O J scratch k h, after-idle O J scratch k h) (t .said-so-far);
+        given-out = rw (first-idle O J scratch k h, after-idle O J scratch k h) (t .given-out);
+      }
+
+  -- So it is after any number of rounds.
+  told : (k : ℕ) → Told k
+  told zero = told-begun
+  told (suc k) = go (state k .point .stage) refl (told k)
+    where
+      go : (g : Stage) → state k .point .stage ≡ g → Told k → Told (suc k)
+      go (Send r) e t = told-step k r e t
+      go (Receive r) e t = told-idle k (subst Idle (sym e) tt) t
+      go Finished e t = told-idle k (subst Idle (sym e) tt) t
+      go Aborted e t = told-idle k (subst Idle (sym e) tt) t
+
+  -- the rounds that a run is given
+  abbrev all : ℕ
+  all = mostRounds O J * gates (J .circuit)
+
+  -- All rounds that a run is given lead to the end.
+  at-end : state all .point ≡ finished (J .circuit)
+  unfolding whole
+  at-end = ap (λ (s : State). s .point) (sym (last-first O J scratch all)) ∙ finishing
+
+  -- Every round of the circuit lies behind it.
+  spent-all : (f : ℕ → Round → ℕ) → spent (J .circuit) f (state all .point) ≡ overRun f (J .circuit) (gates (J .circuit))
+  unfolding spentStage finished
+  spent-all f = ap (spent (J .circuit) f) at-end
+
+  -- The run takes the circuit's rounds ..
+  rounds-are : whole O J scratch .rounds ≡ roundFormula (J .circuit)
+  unfolding whole roundCount
+  rounds-are = told all .made ∙ spent-all ones ∙ sym (formula-is (J .circuit))
+
+  -- .. releases the scores on plain inputs ..
+  outputs-are : whole O J scratch .outputs ≡ scores O J (gates (J .circuit))
+  unfolding whole finished doneStage
+  outputs-are = told all .given-out ∙ ap (λ (p : Point). scores O J (done (J .circuit) p)) at-end
+
+  -- .. and each party sends the circuit's words.
+  words-are : length (whole O J scratch .transcript) ≡ J .parties * wordCount (J .circuit)
+  unfolding whole wordCount
+  words-are = told all .said-so-far ∙ ap (λ (m : ℕ). J .parties * m) (spent-all wordsOf)
+
+  -- All that accuracy claims.
+  accurate-run : Accurate O J scratch
+  accurate-run =
+      record {
+        shares = shares-are;
+        macs = macs-are;
+        opened-alike = alike;
+        opened-macs = opened-macs-are;
+        finishes = finishing;
+        outputs = outputs-are;
+        rounds = rounds-are;
+        at-most = rw rounds-are (at-most-766 (has .valid));
+        words = words-are;
+      }
+
+-- Accuracy: on good preprocessing a joint run computes the circuit's values on plain inputs, and finishes.
+pub accuracy : {O : Ops} (F : Field O) (J : Joint) (scratch : List ℕ) → Honest O J scratch → Accurate O J scratch
+accuracy F J scratch honest = accurate-run F J scratch honest
+
+-- The same at the operations of the prime.
+pub accuracy-prime : (J : Joint) (scratch : List ℕ) → Honest prime J scratch → Accurate prime J scratch
+accuracy-prime = accuracy primeField

@@ -1,0 +1,162 @@
+-- Lists joined in party order and taken apart again, and lists added number by number.
+-- Assumes nothing.
+use Prim.Native.Nat.{ℕ, zero, suc, _+_, _*_, _<_, _≤_}
+use mathlib.Core.Path.{_≡_, refl, sym, ap, ap₂, _∙_}
+use mathlib.Core.List.{List, [], _∷_, _++_}
+use native.Mathlib.Decide.{ℕ-discrete, decLt}
+use native.Mathlib.Nat.{mul-le-mul-right}
+use native.Mathlib.Omega.{arith}
+use lib.ListN.{length, getD, take, drop, length-take, length-drop, List·getD-eq-default}
+use lib.Seq.{take-all, take-append-le, drop-append-le, drop-at, getD-take, getD-drop}
+use Rattle.field.specs.Ops.{Ops}
+use Rattle.field.specs.Field.{Field}
+use Rattle.field.proofs.Ring.{norm-zero, add-lt}
+use Rattle.joint.specs.Joint.{joined, band}
+use Rattle.theorems.specs.Matching.{addLists}
+use Rattle.theorems.proofs.Words.{length-joined}
+
+-- The end of a party's part lies within the whole.
+pub band-end : (n k i : ℕ) → i < n → i * k + k ≤ n * k
+band-end n k i l = omega (arith, mul-le-mul-right {m = suc i} {n = n} k l)
+
+-- What lies beyond the parties' parts does not matter to them.
+pub band-front : (k n : ℕ) (xs ys : List ℕ) → length xs ≡ n * k → (i : ℕ) → i < n → band k (xs ++ ys) i ≡ band k xs i
+unfolding band
+band-front k n xs ys e i l =
+    let b : i * k + k ≤ n * k = band-end n k i l in
+    rw (
+      drop-append-le (i * k) xs ys (omega arith),
+      take-append-le k (drop (i * k) xs) ys (omega (arith, length-drop (i * k) xs)),
+    )
+
+-- A party's part of joined lists is its list.
+pub band-joined : (k n : ℕ) (f : ℕ → List ℕ) → ((i : ℕ) → i < n → length (f i) ≡ k) → (i : ℕ) → i < n → band k (joined n f) i ≡ f i
+unfolding joined
+band-joined k zero f e i l = absurd (omega arith)
+band-joined k (suc n) f e i l = go (ℕ-discrete i n) (band-joined k n f (λ j l. e j (omega arith)) i)
+  where
+    len : length (joined n f) ≡ n * k
+    len = length-joined n k f (λ j l. e j (omega arith))
+
+    go : Dec (i ≡ n) → (i < n → band k (joined n f) i ≡ f i) → band k (joined n f ++ f n) i ≡ f i
+    go (yes here) earlier =
+        unfold band in
+        rw (here, drop-at (joined n f) (f n) (n * k) len) (take-all k (f n) (omega (arith, e n (omega arith))))
+    go (no there) earlier = band-front k n (joined n f) (f n) len i (omega arith) ∙ earlier (omega arith)
+
+module _ {O : Ops} (F : Field O) where
+  open Ops O using (size, add)
+  open Field F using (one-lt, norm-of-lt, add-assoc, add-zero)
+
+  -- Adding nothing changes nothing.
+  pub addLists-none : (xs : List ℕ) → addLists O xs [] ≡ xs
+  unfolding addLists
+  addLists-none [] = refl
+  addLists-none (x ∷ xs) = refl
+
+  -- The first list gives the length.
+  pub length-addLists : (xs ys : List ℕ) → length (addLists O xs ys) ≡ length xs
+  unfolding addLists
+  length-addLists [] ys = refl
+  length-addLists (x ∷ xs) [] = refl
+  length-addLists (x ∷ xs) (y ∷ ys) = ap suc (length-addLists xs ys)
+
+  -- Of two lists of one length the numbers are added one by one.
+  pub getD-addLists : (xs ys : List ℕ) → length xs ≡ length ys → (k : ℕ) → getD (addLists O xs ys) k 0 ≡ add (getD xs k 0) (getD ys k 0)
+  unfolding addLists
+  getD-addLists [] [] e k = sym (add-zero 0 ∙ norm-zero F)
+  getD-addLists [] (y ∷ ys) e k = absurd (omega arith)
+  getD-addLists (x ∷ xs) [] e k = absurd (omega arith)
+  getD-addLists (x ∷ xs) (y ∷ ys) e zero = refl
+  getD-addLists (x ∷ xs) (y ∷ ys) e (suc k) = getD-addLists xs ys (omega arith) k
+
+  -- The first numbers of two lists added are those of the two, added.
+  take-addLists : (k : ℕ) (xs ys : List ℕ) → take k (addLists O xs ys) ≡ addLists O (take k xs) (take k ys)
+  unfolding addLists
+  take-addLists zero xs ys = refl
+  take-addLists (suc k) [] ys = refl
+  take-addLists (suc k) (x ∷ xs) [] = refl
+  take-addLists (suc k) (x ∷ xs) (y ∷ ys) = ap {B = List ℕ} (λ (zs : List ℕ). add x y ∷ zs) (take-addLists k xs ys)
+
+  -- The rests of two lists added are the rest of the two added.
+  pub drop-addLists : (k : ℕ) (xs ys : List ℕ) → drop k (addLists O xs ys) ≡ addLists O (drop k xs) (drop k ys)
+  unfolding addLists
+  drop-addLists zero xs ys = refl
+  drop-addLists (suc k) [] ys = refl
+  drop-addLists (suc k) (x ∷ xs) [] = sym (addLists-none (drop k xs))
+  drop-addLists (suc k) (x ∷ xs) (y ∷ ys) = drop-addLists k xs ys
+
+  -- A party's parts of two lists added are its part of the two added.
+  pub band-addLists : (k : ℕ) (xs ys : List ℕ) (i : ℕ) → band k (addLists O xs ys) i ≡ addLists O (band k xs i) (band k ys i)
+  unfolding band
+  band-addLists k xs ys i =
+      ap (take k) (drop-addLists (i * k) xs ys) ∙ take-addLists k (drop (i * k) xs) (drop (i * k) ys)
+
+  -- All numbers of a list are elements. Past its end stand zeros, which are elements too.
+  abbrev pub Elements : List ℕ → Type 0
+  Elements xs = (k : ℕ) → getD xs k 0 < size
+
+  -- It is enough to look at the numbers in the list.
+  pub elements-of : (xs : List ℕ) → ((k : ℕ) → k < length xs → getD xs k 0 < size) → Elements xs
+  elements-of xs e k = go (decLt k (length xs))
+    where
+      go : Dec (k < length xs) → getD xs k 0 < size
+      go (yes l) = e k l
+      go (no l) = rw (List·getD-eq-default xs 0 {n = k} (omega arith)) (omega (arith, one-lt))
+
+  -- A party's numbers are elements where all are.
+  pub elements-band : (k : ℕ) (xs : List ℕ) (i : ℕ) → Elements xs → Elements (band k xs i)
+  unfolding band
+  elements-band k xs i e =
+      elements-of (take k (drop (i * k) xs))
+      (λ t l. rw (getD-take k (drop (i * k) xs) t 0 (omega (arith, length-take k (drop (i * k) xs))), getD-drop (i * k) xs t 0)
+      (e (i * k + t)))
+
+  -- With numbers added one by one to a list as long, every number is an element.
+  pub elements-addLists : (xs ys : List ℕ) → length xs ≡ length ys → Elements (addLists O xs ys)
+  elements-addLists xs ys e k = rw (getD-addLists xs ys e k) (add-lt F (getD xs k 0) (getD ys k 0))
+
+  -- Every number of the list is zero.
+  pub data Zeros : List ℕ → Type 0 where
+    no-more : Zeros []
+    zero-then : {d : ℕ} {ds : List ℕ} → d ≡ 0 → Zeros ds → Zeros (d ∷ ds)
+
+  -- Zeros followed by zeros are zeros.
+  pub zeros-append : {ds es : List ℕ} → Zeros ds → Zeros es → Zeros (ds ++ es)
+  zeros-append no-more q = q
+  zeros-append (zero-then z p) q = zero-then z (zeros-append p q)
+
+  -- Zeros added to elements change nothing.
+  pub add-zeros : (xs : List ℕ) {ds : List ℕ} → Elements xs → Zeros ds → addLists O xs ds ≡ xs
+  unfolding addLists
+  add-zeros [] es z = refl
+  add-zeros (x ∷ xs) es no-more = refl
+  add-zeros (x ∷ xs) es (zero-then z p) =
+      ap₂ {C = List ℕ} (λ (a : ℕ) (b : List ℕ). a ∷ b) (ap (add x) z ∙ add-zero x ∙ norm-of-lt (es 0))
+      (add-zeros xs (λ k. es (suc k)) p)
+
+  -- Two lists of one length whose numbers cancel one by one.
+  pub data Cancel : List ℕ → List ℕ → Type 0 where
+    cancel-none : Cancel [] []
+    cancel-then : {d e : ℕ} {ds es : List ℕ} → add d e ≡ 0 → Cancel ds es → Cancel (d ∷ ds) (e ∷ es)
+
+  -- Cancelling lists one after the other cancel.
+  pub cancel-append : {ds es us vs : List ℕ} → Cancel ds es → Cancel us vs → Cancel (ds ++ us) (es ++ vs)
+  cancel-append cancel-none q = q
+  cancel-append (cancel-then z p) q = cancel-then z (cancel-append p q)
+
+  -- Cancelling lists, one a party, make up cancelling lists.
+  pub cancel-joined : (n : ℕ) (f g : ℕ → List ℕ) → ((i : ℕ) → i < n → Cancel (f i) (g i)) → Cancel (joined n f) (joined n g)
+  unfolding joined
+  cancel-joined zero f g e = cancel-none
+  cancel-joined (suc n) f g e = cancel-append (cancel-joined n f g (λ i l. e i (omega arith))) (e n (omega arith))
+
+  -- Of two lists that cancel, the second takes back what the first added to elements.
+  pub add-cancel : (xs : List ℕ) {ds es : List ℕ} → Elements xs → Cancel ds es → addLists O (addLists O xs ds) es ≡ xs
+  unfolding addLists
+  add-cancel [] els c = refl
+  add-cancel (x ∷ xs) els cancel-none = refl
+  add-cancel (x ∷ xs) els (cancel-then {d} {e} z p) =
+      ap₂ {C = List ℕ} (λ (a : ℕ) (b : List ℕ). a ∷ b)
+      (add-assoc x d e ∙ ap (add x) z ∙ add-zero x ∙ norm-of-lt (els 0))
+      (add-cancel xs (λ k. els (suc k)) p)

@@ -1,0 +1,135 @@
+-- What the comparison of two runs asks for, and what that gives: a party outside A, equal values at every output, equal inputs at A, and
+-- the questions that are left.
+-- Assumes nothing.
+use Prim.Native.Nat.{ℕ, zero, suc, _+_, _*_, _<_, _≤_}
+use mathlib.Core.Path.{_≡_, refl, sym, ap, ap₂, _∙_}
+use mathlib.Core.Bool.{Bool, true, false, cond, _&&_}
+use mathlib.Core.List.{List, _++_}
+use native.Mathlib.Decide.{ℕ-discrete}
+use native.Mathlib.Omega.{arith}
+use lib.Dec.{leb, eqb}
+use lib.ListN.{length, getD, take, drop, length-append}
+use lib.Seq.{take-at, drop-at}
+use borrow.Author.Tests.{leb-true, eq-eqb}
+use Rattle.field.specs.Ops.{Ops}
+use Rattle.field.specs.Field.{Field}
+use Rattle.field.proofs.Ring.{sub-self}
+use Rattle.circuit.specs.Verdict.{Verdict, Accepted, ask, _then_, elements}
+use Rattle.circuit.specs.Gate.{Gate, In, Add, Sub, Plus, Times, Mul, Out, gate, first}
+use Rattle.circuit.specs.Count.{inputAt, inCount, outCount}
+use Rattle.circuit.specs.Round.{wordCount, coefficientCount}
+use Rattle.circuit.proofs.Verdicts.{ask-true, ask-yes, then-left, then-right, then-passed, elements-all}
+use Rattle.party.specs.Party.{inputOf}
+use Rattle.party.specs.Scratch.{layout, scratchSize}
+use Rattle.joint.specs.Joint.{party}
+use Rattle.joint.specs.Plain.{plainInput, value, scoreOf, scores}
+use Rattle.joint.specs.Ask.{askJoint}
+use Rattle.joint.specs.Good.{Good}
+use Rattle.theorems.specs.Premises.{Accepts, InputsPass}
+use Rattle.theorems.specs.Matching.{leftOut, plainly, inputMove}
+use Rattle.theorems.specs.Secrecy.{runOf}
+use Rattle.theorems.proofs.Bands.{elements-of}
+
+-- Where a party is outside A, the first that is left out is a party, and is outside A.
+pub left-out : (A : ℕ → Bool) (n i : ℕ) → i < n → A i ≡ false → (leftOut A n < n) × (A (leftOut A n) ≡ false)
+unfolding leftOut
+left-out A zero i l e = absurd (omega arith)
+left-out A (suc n) zero l e = (rw e (omega arith), rw e e)
+left-out A (suc n) (suc i) l e = go (A 0) refl (left-out (λ i. A (suc i)) n i (omega arith) e)
+  where
+    later : ℕ
+    later = leftOut (λ i. A (suc i)) n
+
+    go : (b : Bool) → A 0 ≡ b → (later < n) × (A (suc later) ≡ false) → (cond b (suc later) 0 < suc n) × (A (cond b (suc later) 0) ≡ false)
+    go false q found = (omega arith, q)
+    go true q found = (omega arith, found .1)
+
+-- Two lists that begin with lists of one length are equal just where both parts are.
+split : (xs xs′ ys ys′ : List ℕ) → length xs′ ≡ length xs → xs′ ++ ys′ ≡ xs ++ ys → (xs′ ≡ xs) × (ys′ ≡ ys)
+split xs xs′ ys ys′ l e = (
+  sym (take-at xs′ ys′ (length xs) l) ∙ ap (take (length xs)) e ∙ take-at xs ys (length xs) refl,
+  sym (drop-at xs′ ys′ (length xs) l) ∙ ap (drop (length xs)) e ∙ drop-at xs ys (length xs) refl,
+)
+
+module _ (O : Ops) (n : ℕ) (c x x′ : List ℕ) where
+  -- The inputs do not matter to how many scores a gate has ..
+  length-scoreOf : (g : Gate) → length (scoreOf O (plainly n c x′) g) ≡ length (scoreOf O (plainly n c x) g)
+  unfolding scoreOf
+  length-scoreOf (In s) = refl
+  length-scoreOf (Add y z) = refl
+  length-scoreOf (Sub y z) = refl
+  length-scoreOf (Plus y k) = refl
+  length-scoreOf (Times y k) = refl
+  length-scoreOf (Mul y z) = refl
+  length-scoreOf (Out y) = refl
+
+  -- .. nor to how many there are before a gate.
+  length-scores : (r : ℕ) → length (scores O (plainly n c x′) r) ≡ length (scores O (plainly n c x) r)
+  unfolding scores plainly
+  length-scores zero = refl
+  length-scores (suc r) =
+      length-append (scores O (plainly n c x′) r) _
+      ∙ ap₂ _+_ (length-scores r) (length-scoreOf (gate c r))
+      ∙ sym (length-append (scores O (plainly n c x) r) _)
+
+  -- Where the scores are equal, every output names equal values.
+  pub equal-outputs : (r : ℕ) → scores O (plainly n c x′) r ≡ scores O (plainly n c x) r
+      → (j y : ℕ)
+      → j < r
+      → gate c j ≡ Out y
+      → value O (plainly n c x′) y ≡ value O (plainly n c x) y
+  unfolding scores plainly
+  equal-outputs zero e j y l g = absurd (omega arith)
+  equal-outputs (suc r) e j y l g = go (ℕ-discrete j r) (λ k. equal-outputs r (parts .0) j y k g)
+    where
+      parts : (scores O (plainly n c x′) r ≡ scores O (plainly n c x) r) × (scoreOf O (plainly n c x′) (gate c r) ≡ scoreOf O (plainly n c x) (gate c r))
+      parts = split (scores O (plainly n c x) r) (scores O (plainly n c x′) r) _ _ (length-scores r) e
+
+      here : scoreOf O (plainly n c x′) (Out y) ≡ scoreOf O (plainly n c x) (Out y) → value O (plainly n c x′) y ≡ value O (plainly n c x) y
+      here q = unfold scoreOf in ap (λ (l : List ℕ). getD l 0 0) q
+
+      go : Dec (j ≡ r) → (j < r → value O (plainly n c x′) y ≡ value O (plainly n c x) y) → value O (plainly n c x′) y ≡ value O (plainly n c x) y
+      go (yes q) earlier = let s : gate c r ≡ Out y = ap (gate c) (sym q) ∙ g in here (rw s at (parts .1))
+      go (no q) earlier = earlier (omega arith)
+
+  -- Where a party's inputs agree, the input for each of its gates does not differ.
+  pub no-move : Field O → (h i : ℕ) → party (plainly n c x′) i .inputs ≡ party (plainly n c x) i .inputs
+      → (j : ℕ)
+      → gate c j ≡ In i
+      → inputMove O n c h x x′ j ≡ 0
+  unfolding inputMove
+  no-move F h i e j g =
+      ap₂ (O .sub) (own x′ ∙ ap (λ (l : List ℕ). getD l (inputAt c i j) 0) e) (own x) ∙ sub-self F _
+    where
+      own : (x : List ℕ) → plainInput O (plainly n c x) j ≡ getD (party (plainly n c x) i .inputs) (inputAt c i j) 0
+      own x = unfold plainInput plainly inputOf party first in rw g
+
+-- the questions that are left once the lists of one run have passed theirs: about the scratch, the coefficients and the room
+unfoldable pub left : ℕ → ℕ → List ℕ → List ℕ → List ℕ → ℕ → ℕ → Verdict
+left q n c coefficients scratch transcriptRoom outputRoom =
+    ask 12 0 (leb (n * scratchSize (layout c)) (length scratch))
+    then ask 16 0 (eqb (length coefficients) (coefficientCount c))
+    then elements 17 q coefficients
+    then ask 18 0 (leb (n * wordCount c) transcriptRoom && leb (outCount c) outputRoom)
+
+module _ {O : Ops} (F : Field O) (n : ℕ) (c : List ℕ) (A : ℕ → Bool) where
+  open Ops O using (size)
+
+  -- With an accepted circuit, good preprocessing and accepted inputs, only those questions are left.
+  pub asked : Accepts O n c → (m x : List ℕ) → Good O n c m → InputsPass O c x
+      → (coefficients scratch : List ℕ) (t o : ℕ)
+      → askJoint size (runOf O n c A m x coefficients) scratch t o ≡ left size n c coefficients scratch t o
+  unfolding askJoint left
+  asked a m x g p coefficients scratch t o =
+      then-passed _ (a .parties)
+      ∙ then-passed _ (a .circuit)
+      ∙ then-passed _ (ask-yes 8 0 (eq-eqb _ _ (g .long)))
+      ∙ then-passed _ (elements-all 9 size m (elements-of F m (g .elements)))
+      ∙ then-passed _ (then-left (ask 10 0 (eqb (length x) (inCount c))) _ p)
+      ∙ then-passed _ (then-right (ask 10 0 (eqb (length x) (inCount c))) (elements 11 size x) p)
+
+  -- Where those are answered by yes, the scratch is long enough.
+  pub room-of : (coefficients scratch : List ℕ) (t o : ℕ) → left size n c coefficients scratch t o ≡ Accepted → n * scratchSize (layout c) ≤ length scratch
+  unfolding left
+  room-of coefficients scratch t o e =
+      leb-true (n * scratchSize (layout c)) (length scratch) (ask-true 12 0 _ (then-left (ask 12 0 (leb (n * scratchSize (layout c)) (length scratch))) _ e))

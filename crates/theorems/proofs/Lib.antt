@@ -1,0 +1,25 @@
+-- The proofs of what is claimed of the joint run.
+pub mod Bools
+pub mod Course
+pub mod Given
+pub mod Values
+pub mod Closed
+pub mod Slots
+pub mod Words
+pub mod Holds
+pub mod InOrder
+pub mod Points
+pub mod Sent
+pub mod Honest
+pub mod Rounds
+pub mod Runs
+pub mod Abort
+pub mod Accuracy
+pub mod Bands
+pub mod Matching
+pub mod Lengths
+pub mod Compared
+pub mod SideBySide
+pub mod SameRound
+pub mod Twins
+pub mod Secrecy

@@ -1,0 +1,203 @@
+-- Demand 3: two whole runs, on two sets of inputs that agree at A's parties and give equal scores, cannot be told apart by A, whatever
+-- good preprocessing the first was given, since one rule matches it one for one with good preprocessing for the second.
+-- Assumes nothing.
+use Prim.Native.Nat.{ℕ, _*_, _<_, _≤_}
+use mathlib.Core.Path.{_≡_, refl, sym, ap, ap₂, _∙_}
+use mathlib.Core.Bool.{Bool, true, false}
+use mathlib.Core.Logic.{_≢_}
+use mathlib.Core.List.{List}
+use native.Mathlib.Omega.{arith}
+use lib.ListN.{length}
+use Rattle.field.specs.Ops.{Ops}
+use Rattle.field.specs.Field.{Field}
+use Rattle.field.specs.Prime.{prime}
+use Rattle.field.proofs.PrimeField.{primeField}
+use Rattle.circuit.specs.Verdict.{Accepted}
+use Rattle.circuit.specs.Gate.{gates}
+use Rattle.circuit.specs.Count.{prepSize}
+use Rattle.circuit.specs.Valid.{Valid}
+use Rattle.circuit.proofs.Valid.{valid}
+use Rattle.party.specs.Scratch.{layout, scratchSize}
+use Rattle.joint.specs.Joint.{Joint, band, party}
+use Rattle.joint.specs.Run.{whole}
+use Rattle.joint.specs.Entry.{verdict, jointAnswer, jointScratch}
+use Rattle.joint.specs.Good.{Good}
+use Rattle.theorems.specs.Matching.{leftOut, plainly, match, rule}
+use Rattle.theorems.specs.Secrecy.{runOf, bandOf, Compared, Alike, Secret, Shows, Secrecy, Blindness}
+use Rattle.theorems.proofs.Given.{given}
+use Rattle.theorems.proofs.Lengths.{band-left}
+use Rattle.theorems.proofs.Matching.{matched-good, matched-kept, matched-back}
+use Rattle.theorems.proofs.SideBySide.{Pair}
+use Rattle.theorems.proofs.Twins.{Ends, twins-whole}
+use Rattle.theorems.proofs.Compared.{left-out, equal-outputs, no-move, left, asked, room-of}
+
+module _ {O : Ops} (F : Field O) (n : ℕ) (c : List ℕ) (A : ℕ → Bool) where
+  open Ops O using (size)
+
+  -- What is compared may be exchanged.
+  exchanged : (x x′ : List ℕ) → Compared O n c A x x′ → Compared O n c A x′ x
+  exchanged x x′ is =
+      record {
+        accepts = is .accepts;
+        outside = is .outside;
+        first = is .second;
+        second = is .first;
+        agree = λ i l a. sym (is .agree i l a);
+        equal-scores = sym (is .equal-scores);
+      }
+
+  module _ (x x′ : List ℕ) (is : Compared O n c A x x′) where
+    -- the party that carries the differences
+    abbrev h : ℕ
+    h = leftOut A n
+
+    -- It is a party, and outside A.
+    h-out : (h < n) × (A h ≡ false)
+    h-out = left-out A n (is .outside .0) (is .outside .1) (is .outside .2)
+
+    -- The circuit is accepted, and so valid gate by gate.
+    ok : Valid n size c
+    ok = valid n size c (is .accepts .circuit)
+
+    -- No party of A carries the differences.
+    inside : (i : ℕ) → A i ≡ true → i ≢ h
+    inside i a e = let z : true ≡ false = sym a ∙ ap A e ∙ h-out .1 in let w : _≡_ {A = ℕ} 0 1 = cc in omega arith
+
+    -- The match of good preprocessing is good ..
+    match-good : (m : List ℕ) → Good O n c m → Good O n c (match O n c h x x′ m)
+    match-good m g = matched-good F n c h x x′ m g ok (h-out .0)
+
+    -- .. and with the inputs exchanged the rule leads back.
+    match-back : (m : List ℕ) → Good O n c m → match O n c h x′ x (match O n c h x x′ m) ≡ m
+    match-back m g = matched-back F n c h x x′ m g (h-out .0)
+
+    -- A's parts of the preprocessing are kept.
+    match-keeps : (m : List ℕ) → Good O n c m → (i : ℕ) → i < n → A i ≡ true → band (prepSize c) (match O n c h x x′ m) i ≡ band (prepSize c) m i
+    match-keeps m g i l a = matched-kept F n c h x x′ m g i (inside i a) (no-move O n c x x′ F h i (is .agree i l a)) l
+
+    module _ (m : List ℕ) (g : Good O n c m) (co scratch t o t′ o′ : List ℕ) where
+      -- the two runs
+      abbrev J : Joint
+      J = runOf O n c A m x co
+
+      abbrev J′ : Joint
+      J′ = runOf O n c A (match O n c h x x′ m) x′ co
+
+      -- Each run is left with the questions about its scratch, coefficients and room, which are the same in both.
+      asked-here : verdict O J scratch t o ≡ left size n c co scratch (length t) (length o)
+      unfolding verdict
+      asked-here = asked F n c A (is .accepts) m x g (is .first) co scratch (length t) (length o)
+
+      asked-there : verdict O J′ scratch t′ o′ ≡ left size n c co scratch (length t′) (length o′)
+      unfolding verdict
+      asked-there = asked F n c A (is .accepts) (match O n c h x x′ m) x′ (match-good m g) (is .second) co scratch (length t′) (length o′)
+
+      -- A run that is not refused has room.
+      room : verdict O J scratch t o ≡ Accepted → n * scratchSize (layout c) ≤ length scratch
+      room e = room-of F n c A co scratch (length t) (length o) (sym asked-here ∙ e)
+
+      -- the two runs as a pair
+      abbrev pair : Pair F
+      pair =
+          record {
+            n = n;
+            c = c;
+            h = h;
+            x = x;
+            x′ = x′;
+            m = m;
+            co = co;
+            h-lt = h-out .0;
+            good = g;
+            has = given F J (is .accepts) g (is .first);
+            has′ = given F J′ (is .accepts) (match-good m g) (is .second);
+            outputs = equal-outputs O n c x x′ (gates c) (is .equal-scores);
+          }
+
+      -- A's parties are the same in both.
+      known : (i : ℕ) → i < n → A i ≡ true → party J′ i ≡ party J i
+      unfolding party plainly
+      known i l a =
+          λ u. record { parties = n; me = i; circuit = c; prep = match-keeps m g i l a u; inputs = is .agree i l a u }
+
+      module _ (e : verdict O J scratch t o ≡ Accepted) (e′ : verdict O J′ scratch t′ o′ ≡ Accepted) where
+        -- Both runs end alike.
+        ends : Ends pair A known (whole O J scratch) (whole O J′ scratch)
+        ends = twins-whole pair A known scratch (room e)
+
+        -- They give the same answer.
+        same-answer : jointAnswer O J′ scratch t′ o′ ≡ jointAnswer O J scratch t o
+        unfolding jointAnswer
+        same-answer = rw (e, e′, ends .rounds, ends .last .point)
+
+        -- They leave the same numbers in the scratch of A's parties.
+        same-bands : (i : ℕ) → i < n → A i ≡ true → bandOf O n c A (jointScratch O J′ scratch t′ o′) i ≡ bandOf O n c A (jointScratch O J scratch t o) i
+        same-bands i l a =
+            band-left O J′ scratch t′ o′ (room e) e′ i l ∙ ends .last .bands i l a ∙ sym (band-left O J scratch t o (room e) e i l)
+
+      -- The two runs are alike.
+      alike : Alike O n c A J J′ scratch t o t′ o′
+      alike =
+          record {
+            refusals = λ lt lo. asked-there ∙ ap₂ (left size n c co scratch) (sym lt) (sym lo) ∙ sym asked-here;
+            answers = same-answer;
+            rounds = λ e e′. ends e e′ .rounds;
+            words = λ e e′. ends e e′ .transcript;
+            bands = same-bands;
+          }
+
+-- Demand 3, over every field.
+pub secrecy : {O : Ops} → Field O → Secrecy O
+unfolding rule
+secrecy F n c A x x′ is =
+    record {
+      there-good = match-good F n c A x x′ is;
+      back-good = match-good F n c A x′ x (exchanged F n c A x x′ is);
+      back-there = match-back F n c A x x′ is;
+      there-back = match-back F n c A x′ x (exchanged F n c A x x′ is);
+      keeps = match-keeps F n c A x x′ is;
+      alike = λ m g co scratch t o t′ o′. alike F n c A x x′ is m g co scratch t o t′ o′;
+    }
+
+module _ {O : Ops} (n : ℕ) (c : List ℕ) (A : ℕ → Bool) where
+  -- What one run shows to A, the run on matched preprocessing shows too.
+  shown : (x x′ : List ℕ) (there back : List ℕ → List ℕ) → Secret O n c A x x′ there back
+      → (co scratch t o words : List ℕ) (preps bands : ℕ → List ℕ) (m : List ℕ)
+      → Good O n c m
+      → Shows O n c A (runOf O n c A m x co) scratch t o words preps bands
+      → Good O n c (there m) × Shows O n c A (runOf O n c A (there m) x′ co) scratch t o words preps bands
+  shown x x′ there back is co scratch t o words preps bands m g shows = (
+    is .there-good m g,
+    record {
+      owns = λ i l a. is .keeps m g i l a ∙ shows .owns i l a;
+      accepted = accepted;
+      says = runs .words (shows .accepted) accepted ∙ shows .says;
+      leaves = λ i l a. runs .bands (shows .accepted) accepted i l a ∙ shows .leaves i l a;
+    },
+  )
+    where
+      runs : Alike O n c A (runOf O n c A m x co) (runOf O n c A (there m) x′ co) scratch t o t o
+      runs = is .alike m g co scratch t o t o
+
+      accepted : verdict O (runOf O n c A (there m) x′ co) scratch t o ≡ Accepted
+      accepted = runs .refusals refl refl ∙ shows .accepted
+
+-- A view tells nothing of the inputs, over every field.
+pub blindness : {O : Ops} → Field O → Blindness O
+blindness {O} F n c A x x′ is co scratch t o words preps bands =
+    record {
+      there-shows = shown n c A x x′ _ _ here co scratch t o words preps bands;
+      back-shows = shown n c A x′ x _ _ (secrecy F n c A x′ x (exchanged F n c A x x′ is)) co scratch t o words preps bands;
+      back-there = here .back-there;
+      there-back = here .there-back;
+    }
+  where
+    here : Secret O n c A x x′ (rule O n c A x x′) (rule O n c A x′ x)
+    here = secrecy F n c A x x′ is
+
+-- Both at the prime that the code works with.
+pub secrecy-prime : Secrecy prime
+secrecy-prime = secrecy primeField
+
+pub blindness-prime : Blindness prime
+blindness-prime = blindness primeField

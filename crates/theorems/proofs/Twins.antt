@@ -1,0 +1,177 @@
+-- Two runs side by side, round by round: they stand at the same point, hold the same check shares, and have the same scratch at A's
+-- parties. So they end alike, after the same words.
+-- Assumes nothing.
+use Prim.Native.Nat.{ℕ, zero, suc, _*_, _<_, _≤_}
+use mathlib.Core.Path.{_≡_, refl, sym, ap, ap₂, subst, _∙_}
+use mathlib.Core.Bool.{Bool, true, cond}
+use mathlib.Core.List.{List, [], _∷_, _++_}
+use native.Mathlib.Omega.{arith}
+use lib.ListN.{length}
+use Rattle.field.specs.Ops.{Ops}
+use Rattle.field.specs.Field.{Field}
+use Rattle.circuit.specs.Gate.{gate, gates, first}
+use Rattle.circuit.specs.Round.{Round, Input, Multiply, CommitOpened, RevealOpened, OpenOutput, CommitOutput, RevealOutput, isCommit}
+use Rattle.party.specs.Scratch.{layout, scratchSize}
+use Rattle.party.specs.Position.{Stage, Send, Receive, Finished, Aborted, Point, keep, whenSending}
+use Rattle.party.specs.Send.{sent, holds}
+use Rattle.joint.specs.Joint.{Joint, party}
+use Rattle.joint.specs.Run.{State, Run, said, takes, step, still, ahead, run, begun, whole}
+use Rattle.theorems.proofs.Words.{joined-ext}
+use Rattle.theorems.proofs.Closed.{Every}
+use Rattle.theorems.proofs.Holds.{Holds}
+use Rattle.theorems.proofs.Sent.{Wants, gate-at}
+use Rattle.theorems.proofs.Honest.{pending, length-pending, Inv, fits-at, holds-at, inv-step, inv-begun}
+use Rattle.theorems.proofs.SideBySide.{Pair, J as first-run, J′ as second-run, Agrees, agrees-shown, agrees-openings}
+use Rattle.theorems.proofs.SameRound.{same-input, same-multiply, same-shown, same-held}
+
+module _ {O : Ops} {F : Field O} (P : Pair F) where
+  open Pair P using (n, c)
+
+  -- the two runs
+  abbrev J : Joint
+  J = first-run P
+
+  abbrev J′ : Joint
+  J′ = second-run P
+
+  module _ (j : ℕ) (l : j < gates c) (scratch scratch′ : ℕ → List ℕ) (i : ℕ) (li : i < n) where
+    -- Every party sends the same words in a round.
+    same-sent : (r : Round) → Wants r (gate c j) → Holds O J i j (pending c j r) (scratch i) → Holds O J′ i j (pending c j r) (scratch′ i)
+        → (held held′ : ℕ)
+        → held′ ≡ held
+        → sent O (party J′ i) (scratch′ i) j held′ r ≡ sent O (party J i) (scratch i) j held r
+    same-sent Input g p p′ held held′ e = same-input P j (g .0) l (g .1) _ _ held held′ i
+    same-sent Multiply g p p′ held held′ e = same-multiply P i li p p′ (g .0) (g .1) l (g .2) held held′
+    same-sent CommitOpened g p p′ held held′ e = unfold sent in refl
+    same-sent RevealOpened g p p′ held held′ e = unfold sent in ap {B = List ℕ} (λ (w : ℕ). w ∷ []) e
+    same-sent OpenOutput g p p′ held held′ e = same-shown P i li p p′ (g .0) l (g .1) held held′
+    same-sent CommitOutput g p p′ held held′ e = unfold sent in refl
+    same-sent RevealOutput g p p′ held held′ e = unfold sent in ap {B = List ℕ} (λ (w : ℕ). w ∷ []) e
+
+    -- All that is opened and unchecked in a round agrees in both runs.
+    agrees-pending : (r : Round) → Wants r (gate c j) → Every (Agrees P) (pending c j r)
+    unfolding pending
+    agrees-pending Input g = agrees-openings P j (omega arith)
+    agrees-pending Multiply g = agrees-openings P j (omega arith)
+    agrees-pending CommitOpened g = agrees-openings P j (omega arith)
+    agrees-pending RevealOpened g = agrees-openings P j (omega arith)
+    agrees-pending OpenOutput g = tt
+    agrees-pending CommitOutput g = (rw (g .1) (unfold first in agrees-shown P j (g .0) l (g .1)), tt)
+    agrees-pending RevealOutput g = (rw (g .1) (unfold first in agrees-shown P j (g .0) l (g .1)), tt)
+
+    -- Every party comes to hold the same check share.
+    same-holds : (r : Round) → Wants r (gate c j) → Holds O J i j (pending c j r) (scratch i) → Holds O J′ i j (pending c j r) (scratch′ i)
+        → (drawn : List ℕ)
+        → holds O (party J′ i) (scratch′ i) j r drawn ≡ holds O (party J i) (scratch i) j r drawn
+    unfolding holds party
+    same-holds r g p p′ drawn =
+        ap (λ (k : ℕ). cond (isCommit r) k 0) (same-held P i li p p′ (agrees-pending r g) drawn _ (sym (length-pending c j r)))
+
+  module _ (A : ℕ → Bool) (known : (i : ℕ) → i < n → A i ≡ true → party J′ i ≡ party J i) where
+    -- two states of the two runs that A cannot tell apart; A's parties are the same in both
+    pub record Twins (s s′ : State) : Type 0 where
+      pub one : Inv O J s
+      pub two : Inv O J′ s′
+      pub point : s′ .point ≡ s .point
+      pub used : s′ .used ≡ s .used
+      pub held : (i : ℕ) → i < n → s′ .held i ≡ s .held i
+      pub bands : (i : ℕ) → i < n → A i ≡ true → s′ .scratch i ≡ s .scratch i
+
+    module _ (s s′ : State) (r : Round) (t : Twins s s′) (e : s .point .stage ≡ Send r) where
+      -- The second run sends the same round.
+      there : s′ .point .stage ≡ Send r
+      there = ap (λ (p : Point). p .stage) (t .point) ∙ e
+
+      -- Its gate is one of the circuit, of the kind that has the round.
+      below : s .point .gate < gates c
+      below = fits-at O J s r e (t .one) .0
+
+      wanted : Wants r (gate c (s .point .gate))
+      wanted = gate-at c (s .point .gate) r (fits-at O J s r e (t .one) .1)
+
+      -- Every party's scratch holds its parts of the closed form, in the first run and in the second.
+      holds-here : (i : ℕ) → i < n → Holds O J i (s .point .gate) (pending c (s .point .gate) r) (s .scratch i)
+      holds-here = holds-at O J s r e (t .one)
+
+      holds-there : (i : ℕ) → i < n → Holds O J′ i (s .point .gate) (pending c (s .point .gate) r) (s′ .scratch i)
+      holds-there i l =
+          subst (λ (p : Point). Holds O J′ i (p .gate) (pending c (p .gate) r) (s′ .scratch i)) (t .point) (holds-at O J′ s′ r there (t .two) i l)
+
+      -- All words of a round are the same.
+      same-said : said O J′ s′ r ≡ said O J s r
+      unfolding said
+      same-said =
+          joined-ext n _ _
+          (λ i l. ap (λ (p : Point). sent O (party J′ i) (s′ .scratch i) (p .gate) (s′ .held i) r) (t .point)
+          ∙ same-sent (s .point .gate) below (s .scratch) (s′ .scratch) i l r wanted (holds-here i l) (holds-there i l) _ _ (t .held i l))
+
+      -- Twins they stay.
+      twins-step : Twins (step O J s r) (step O J′ s′ r)
+      unfolding step takes
+      twins-step =
+          record {
+            one = inv-step F J (P .has) s (t .one) r e;
+            two = inv-step F J′ (P .has′) s′ (t .two) r there;
+            point = rw (same-said, t .point);
+            used = rw (t .used, t .point);
+            held =
+                λ i l. rw (t .used, t .point)
+                (ap (keep r) (same-holds (s .point .gate) below (s .scratch) (s′ .scratch) i l r wanted (holds-here i l) (holds-there i l) _));
+            bands = λ i l a. rw (same-said, t .point, t .bands i l a, known i l a);
+          }
+
+    -- They begin as twins, on one scratch.
+    twins-begun : (scratch : List ℕ) → n * scratchSize (layout c) ≤ length scratch → Twins (begun O J scratch) (begun O J′ scratch)
+    unfolding begun
+    twins-begun scratch room =
+        record {
+          one = inv-begun F J (P .has) scratch room;
+          two = inv-begun F J′ (P .has′) scratch room;
+          point = refl;
+          used = refl;
+          held = λ i l. refl;
+          bands = λ i l a. refl;
+        }
+
+    -- two runs of some rounds that A cannot tell apart
+    pub record Ends (u u′ : Run) : Type 0 where
+      pub transcript : u′ .transcript ≡ u .transcript
+      pub rounds : u′ .rounds ≡ u .rounds
+      pub last : Twins (u .last) (u′ .last)
+
+    -- Runs of no round end where they begin.
+    ends-still : (s s′ : State) → Twins s s′ → Ends (still O J s) (still O J′ s′)
+    unfolding still
+    ends-still s s′ t = record { transcript = refl; rounds = refl; last = t }
+
+    -- Whatever the number of rounds, the two runs end alike.
+    twins-run : (k : ℕ) (s s′ : State) → Twins s s′ → Ends (run O J k s) (run O J′ k s′)
+    unfolding run
+    twins-run zero s s′ t = ends-still s s′ t
+    twins-run (suc k) s s′ t =
+        subst
+        (λ (q : Stage). Ends (whenSending (s .point .stage) (still O J s) (λ r. ahead O J s r (run O J k (step O J s r)))) (second q))
+        (sym (ap (λ (p : Point). p .stage) (t .point)))
+        (at (s .point .stage) refl (λ r e. twins-run k _ _ (twins-step s s′ r t e)))
+      where
+        second : Stage → Run
+        second q = whenSending q (still O J′ s′) (λ r. ahead O J′ s′ r (run O J′ k (step O J′ s′ r)))
+
+        at : (p : Stage) → s .point .stage ≡ p
+            → ((r : Round) → s .point .stage ≡ Send r → Ends (run O J k (step O J s r)) (run O J′ k (step O J′ s′ r)))
+            → Ends (whenSending p (still O J s) (λ r. ahead O J s r (run O J k (step O J s r)))) (second p)
+        at (Send r) e later =
+            unfold whenSending ahead in
+            record {
+              transcript = ap₂ {C = List ℕ} (λ (a b : List ℕ). a ++ b) (same-said s s′ r t e) (later r e .transcript);
+              rounds = ap suc (later r e .rounds);
+              last = later r e .last;
+            }
+        at (Receive r) e later = unfold whenSending in ends-still s s′ t
+        at Finished e later = unfold whenSending in ends-still s s′ t
+        at Aborted e later = unfold whenSending in ends-still s s′ t
+
+    -- Two whole runs end alike.
+    pub twins-whole : (scratch : List ℕ) → n * scratchSize (layout c) ≤ length scratch → Ends (whole O J scratch) (whole O J′ scratch)
+    unfolding whole
+    twins-whole scratch room = twins-run _ _ _ (twins-begun scratch room)
