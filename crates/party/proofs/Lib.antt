@@ -1,4 +1,21 @@
 -- What is proved of one party's definitions.
 pub mod Computing
 pub mod Wires
+pub mod Slots
+pub mod Following
+pub mod Writing
+pub mod Settling
+pub mod Summing
+pub mod Steps
+pub mod Readiness
+pub mod Sent
+pub mod Received
+pub mod Keeping
 pub mod Order
+pub mod Loops
+pub mod SlotQuestions
+pub mod Occurring
+pub mod Entries
+pub mod Lending
+pub mod Accepted
+pub mod Halves

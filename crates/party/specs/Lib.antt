@@ -7,3 +7,4 @@ pub mod Send
 pub mod Receive
 pub mod Ask
 pub mod Entry
+pub mod Code

@@ -1,1 +1,380 @@
-// One party of the online phase. The definitions are in specs/.
+// One party of the online phase.
+pub mod asking;
+mod parts;
+pub mod receiving;
+pub mod scratch;
+pub mod sending;
+
+use circuit::Round;
+use circuit::Verdict;
+ghost use mathlib.Core.Path.{_≡_};
+ghost use mathlib.Core.Bool.{cond};
+ghost use lib.ListN.{length};
+ghost use Rattle.field.specs.Prime.{prime};
+ghost use Rattle.circuit.specs.Code.{roundOf};
+ghost use Rattle.party.specs.Position.{Send, Receive, keep};
+ghost use Rattle.party.specs.Entry.{Next, Output, releases, openAnswer, sendAnswer, sendOut, receiveAnswer, receiveScratch};
+ghost use Rattle.party.specs.Code.{stageOf, pointOf, positionOf, answerOf, LentTo, RoundAt, leadsTo};
+
+// A party's share of a value, and its MAC share.
+pub struct Part {
+    pub share: u32,
+    pub mac: u32,
+}
+
+// How many gates there are, and how many opened entries there is room for.
+pub struct Layout {
+    pub gates: usize,
+    pub capacity: usize,
+}
+
+// A place of the scratch.
+pub enum Slot {
+    Share(usize),
+    Mac(usize),
+    Value(usize),
+    ValueMac(usize),
+}
+
+// The slots of one sort.
+pub enum Sort {
+    Shares,
+    Macs,
+    Values,
+    ValueMacs,
+}
+
+// The sending or the receiving half of a round, or an end.
+pub enum Stage {
+    Send(Round),
+    Receive(Round),
+    Finished,
+    Aborted,
+}
+
+// A gate and a stage.
+pub struct Point {
+    pub gate: usize,
+    pub stage: Stage,
+}
+
+// Where a party stands: the check share is 0 unless a commitment is sent and its reveal is not.
+pub struct Position {
+    pub gate: usize,
+    pub stage: Stage,
+    pub held: u32,
+}
+
+// What an entry answers.
+pub enum Answer {
+    Refusal { number: u32, index: usize },
+    Next(Position),
+    Output(u32, Position),
+    Abort(Position),
+}
+
+// Where a gate's numbers stand, for one party: its record in the preprocessing, the unchecked entries before it, the input for it.
+pub struct Site {
+    pub gate: usize,
+    pub prep: usize,
+    pub unchecked: usize,
+    pub input: usize,
+}
+
+// What questions 1 to 12 come to: where they accept, the layout of the scratch and the site of a gate.
+pub enum Lent {
+    Refused { number: u32, index: usize },
+    Accepted(Layout, Site),
+}
+
+// Opening a run: the position at which it starts.
+pub fn open_run(
+    parties: usize,
+    me: usize,
+    c: &[u32],
+    prep: &[u32],
+    inputs: &[u32],
+    l: &[u32],
+) -> Answer
+    ensures { λ r. ⌜ answerOf r ≡ openAnswer prime (record { parties = parties; me = me; circuit = now (c .entry); prep = now (prep .entry); inputs = now (inputs .entry) }) (now (l .entry)) ⌝ }
+{
+    match asking::ask_lent(parties, me, c, prep, inputs, l, 0) {
+        Lent::Refused { number, index } => Answer::Refusal { number, index },
+        Lent::Accepted(_, _) => Answer::Next(Position {
+            gate: 0,
+            stage: Stage::Send(Round::Input),
+            held: 0,
+        }),
+    }
+}
+
+// Sending: the words of the position's round, and the position to receive at.
+pub fn send(
+    parties: usize,
+    me: usize,
+    c: &[u32],
+    prep: &[u32],
+    inputs: &[u32],
+    l: &[u32],
+    at: Position,
+    coefficients: &[u32],
+    out: &mut [u32],
+) -> Answer
+    ensures { λ r. ⌜ (answerOf r ≡ sendAnswer prime (record { parties = parties; me = me; circuit = now (c .entry); prep = now (prep .entry); inputs = now (inputs .entry) }) (now (l .entry)) (positionOf at) (now (coefficients .entry)) (length (now (out .entry)))) × (now (out .exit) ≡ sendOut prime (record { parties = parties; me = me; circuit = now (c .entry); prep = now (prep .entry); inputs = now (inputs .entry) }) (now (l .entry)) (positionOf at) (now (coefficients .entry)) (now (out .entry))) ⌝ }
+{
+    let gate = at.gate;
+    match asking::ask_lent(parties, me, c, prep, inputs, l, gate) {
+        Lent::Refused { number, index } => Answer::Refusal { number, index },
+        Lent::Accepted(y, site) => send_lent(
+            parties,
+            me,
+            c,
+            prep,
+            inputs,
+            l,
+            y,
+            site,
+            at,
+            coefficients,
+            out,
+        ),
+    }
+}
+
+// Sending once 1 to 12 are asked.
+fn send_lent(
+    parties: usize,
+    me: usize,
+    c: &[u32],
+    prep: &[u32],
+    inputs: &[u32],
+    l: &[u32],
+    y: Layout,
+    site: Site,
+    at: Position,
+    coefficients: &[u32],
+    out: &mut [u32],
+) -> Answer
+    requires { ⌜ LentTo (record { parties = parties; me = me; circuit = now c; prep = now prep; inputs = now inputs }) (now l) y site (at .gate) ⌝ }
+    ensures { λ r. ⌜ (answerOf r ≡ sendAnswer prime (record { parties = parties; me = me; circuit = now (c .entry); prep = now (prep .entry); inputs = now (inputs .entry) }) (now (l .entry)) (positionOf at) (now (coefficients .entry)) (length (now (out .entry)))) × (now (out .exit) ≡ sendOut prime (record { parties = parties; me = me; circuit = now (c .entry); prep = now (prep .entry); inputs = now (inputs .entry) }) (now (l .entry)) (positionOf at) (now (coefficients .entry)) (now (out .entry))) ⌝ }
+{
+    if !asking::can_occur(c, y.gates, site.unchecked, at) {
+        return Answer::Refusal {
+            number: 13,
+            index: 0,
+        };
+    }
+    let stage = at.stage;
+    match stage {
+        Stage::Send(r) => send_round(
+            parties,
+            me,
+            c,
+            prep,
+            inputs,
+            l,
+            y,
+            site,
+            r,
+            at,
+            coefficients,
+            out,
+        ),
+        Stage::Receive(_) => Answer::Refusal {
+            number: 14,
+            index: 0,
+        },
+        Stage::Finished => Answer::Refusal {
+            number: 14,
+            index: 0,
+        },
+        Stage::Aborted => Answer::Refusal {
+            number: 14,
+            index: 0,
+        },
+    }
+}
+
+// Sending once 1 to 14 are asked.
+fn send_round(
+    parties: usize,
+    me: usize,
+    c: &[u32],
+    prep: &[u32],
+    inputs: &[u32],
+    l: &[u32],
+    y: Layout,
+    site: Site,
+    r: Round,
+    at: Position,
+    coefficients: &[u32],
+    out: &mut [u32],
+) -> Answer
+    requires { ⌜ RoundAt (record { parties = parties; me = me; circuit = now c; prep = now prep; inputs = now inputs }) (now l) y site at × (stageOf (at .stage) ≡ Send (roundOf r)) ⌝ }
+    ensures { λ x. ⌜ (answerOf x ≡ sendAnswer prime (record { parties = parties; me = me; circuit = now (c .entry); prep = now (prep .entry); inputs = now (inputs .entry) }) (now (l .entry)) (positionOf at) (now (coefficients .entry)) (length (now (out .entry)))) × (now (out .exit) ≡ sendOut prime (record { parties = parties; me = me; circuit = now (c .entry); prep = now (prep .entry); inputs = now (inputs .entry) }) (now (l .entry)) (positionOf at) (now (coefficients .entry)) (now (out .entry))) ⌝ }
+{
+    match asking::ask_send_round(c, l, y, site, r, coefficients, out.len()) {
+        Verdict::Refused { number, index } => {
+            return Answer::Refusal { number, index };
+        }
+        Verdict::Accepted => {}
+    }
+    let held = sending::send_step(
+        parties,
+        me,
+        c,
+        prep,
+        inputs,
+        l,
+        y,
+        site,
+        r,
+        at.held,
+        coefficients,
+        out,
+    );
+    Answer::Next(Position {
+        gate: at.gate,
+        stage: Stage::Receive(r),
+        held,
+    })
+}
+
+// Receiving: what the words of all lead to.
+pub fn receive(
+    parties: usize,
+    me: usize,
+    c: &[u32],
+    prep: &[u32],
+    inputs: &[u32],
+    l: &mut [u32],
+    at: Position,
+    heard: &[u32],
+) -> Answer
+    ensures { λ r. ⌜ (answerOf r ≡ receiveAnswer prime (record { parties = parties; me = me; circuit = now (c .entry); prep = now (prep .entry); inputs = now (inputs .entry) }) (now (l .entry)) (positionOf at) (now (heard .entry))) × (now (l .exit) ≡ receiveScratch prime (record { parties = parties; me = me; circuit = now (c .entry); prep = now (prep .entry); inputs = now (inputs .entry) }) (now (l .entry)) (positionOf at) (now (heard .entry))) ⌝ }
+{
+    let gate = at.gate;
+    match asking::ask_lent(parties, me, c, prep, inputs, l, gate) {
+        Lent::Refused { number, index } => Answer::Refusal { number, index },
+        Lent::Accepted(y, site) => receive_lent(
+            parties,
+            me,
+            c,
+            prep,
+            inputs,
+            l,
+            y,
+            site,
+            at,
+            heard,
+        ),
+    }
+}
+
+// Receiving once 1 to 12 are asked.
+fn receive_lent(
+    parties: usize,
+    me: usize,
+    c: &[u32],
+    prep: &[u32],
+    inputs: &[u32],
+    l: &mut [u32],
+    y: Layout,
+    site: Site,
+    at: Position,
+    heard: &[u32],
+) -> Answer
+    requires { ⌜ LentTo (record { parties = parties; me = me; circuit = now c; prep = now prep; inputs = now inputs }) (now l) y site (at .gate) ⌝ }
+    ensures { λ r. ⌜ (answerOf r ≡ receiveAnswer prime (record { parties = parties; me = me; circuit = now (c .entry); prep = now (prep .entry); inputs = now (inputs .entry) }) (now (l .entry)) (positionOf at) (now (heard .entry))) × (now (l .exit) ≡ receiveScratch prime (record { parties = parties; me = me; circuit = now (c .entry); prep = now (prep .entry); inputs = now (inputs .entry) }) (now (l .entry)) (positionOf at) (now (heard .entry))) ⌝ }
+{
+    if !asking::can_occur(c, y.gates, site.unchecked, at) {
+        return Answer::Refusal {
+            number: 13,
+            index: 0,
+        };
+    }
+    let stage = at.stage;
+    match stage {
+        Stage::Receive(r) => receive_round(parties, me, c, prep, inputs, l, y, site, r, at, heard),
+        Stage::Send(_) => Answer::Refusal {
+            number: 14,
+            index: 0,
+        },
+        Stage::Finished => Answer::Refusal {
+            number: 14,
+            index: 0,
+        },
+        Stage::Aborted => Answer::Refusal {
+            number: 14,
+            index: 0,
+        },
+    }
+}
+
+// Receiving once 1 to 14 are asked.
+fn receive_round(
+    parties: usize,
+    me: usize,
+    c: &[u32],
+    prep: &[u32],
+    inputs: &[u32],
+    l: &mut [u32],
+    y: Layout,
+    site: Site,
+    r: Round,
+    at: Position,
+    heard: &[u32],
+) -> Answer
+    requires { ⌜ RoundAt (record { parties = parties; me = me; circuit = now c; prep = now prep; inputs = now inputs }) (now l) y site at × (stageOf (at .stage) ≡ Receive (roundOf r)) ⌝ }
+    ensures { λ x. ⌜ (answerOf x ≡ receiveAnswer prime (record { parties = parties; me = me; circuit = now (c .entry); prep = now (prep .entry); inputs = now (inputs .entry) }) (now (l .entry)) (positionOf at) (now (heard .entry))) × (now (l .exit) ≡ receiveScratch prime (record { parties = parties; me = me; circuit = now (c .entry); prep = now (prep .entry); inputs = now (inputs .entry) }) (now (l .entry)) (positionOf at) (now (heard .entry))) ⌝ }
+{
+    match asking::ask_receive_round(parties, c, l, y, site, r, heard) {
+        Verdict::Refused { number, index } => {
+            return Answer::Refusal { number, index };
+        }
+        Verdict::Accepted => {}
+    }
+    let output = scratch::read_slot(l, y, Slot::Value(0));
+    let next = receiving::receive_step(parties, me, c, prep, inputs, l, y, site, r, heard);
+    outcome_of(r, at.held, output, next)
+}
+
+// What a round that is received leads to.
+fn outcome_of(r: Round, held: u32, output: u32, next: Point) -> Answer
+    ensures { λ x. ⌜ answerOf x ≡ leadsTo (roundOf r) held output (pointOf next) ⌝ }
+{
+    let stage = next.stage;
+    let at = Position {
+        gate: next.gate,
+        stage,
+        held: keep_held(r, held),
+    };
+    match stage {
+        Stage::Aborted => Answer::Abort(at),
+        Stage::Send(_) => released(r, output, at),
+        Stage::Receive(_) => released(r, output, at),
+        Stage::Finished => released(r, output, at),
+    }
+}
+
+// The check share that stays held.
+fn keep_held(r: Round, held: u32) -> u32
+    ensures { λ h. ⌜ h ≡ keep (roundOf r) held ⌝ }
+{
+    if circuit::is_commit(r) { held } else { 0 }
+}
+
+// The position that follows, with the output where the round releases one.
+fn released(r: Round, output: u32, at: Position) -> Answer
+    ensures { λ x. ⌜ answerOf x ≡ cond (releases (roundOf r)) (Output output (positionOf at)) (Next (positionOf at)) ⌝ }
+{
+    match r {
+        Round::RevealOutput => Answer::Output(output, at),
+        Round::Input => Answer::Next(at),
+        Round::Multiply => Answer::Next(at),
+        Round::CommitOpened => Answer::Next(at),
+        Round::RevealOpened => Answer::Next(at),
+        Round::OpenOutput => Answer::Next(at),
+        Round::CommitOutput => Answer::Next(at),
+    }
+}

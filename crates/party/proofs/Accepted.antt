@@ -1,0 +1,162 @@
+-- What acceptance gives: everything that a step asks.
+-- Assumes nothing.
+use Prim.Native.Nat.{ℕ, _*_, _<_, _≤_}
+use mathlib.Core.Path.{_≡_, refl, sym, ap, subst, _∙_}
+use mathlib.Core.Bool.{Bool, true, false, cond, not, _&&_, _||_}
+use mathlib.Core.List.{List}
+use native.Mathlib.Omega.{arith}
+use lib.ListN.{length, getD}
+use lib.Dec.{ltb, leb, eqb, lit<}
+use borrow.Author.Tests.{ltb-true, leb-true, eqb-true}
+use Rattle.field.specs.Prime.{p}
+use Rattle.circuit.specs.Verdict.{Verdict, Accepted, Refused, ask, _then_, elements}
+use Rattle.circuit.specs.Gate.{gate, gates}
+use Rattle.circuit.specs.Kind.{hasValue}
+use Rattle.circuit.specs.Count.{prepSize, capacity, inputCount, unchecked}
+use Rattle.circuit.specs.Round.{Round, Input, Multiply, CommitOpened, RevealOpened, OpenOutput, CommitOutput, RevealOutput, rounds, among, words, openedIn, coefficientsIn}
+use Rattle.circuit.specs.Valid.{Valid}
+use Rattle.circuit.proofs.Tests.{both-left, both-right}
+use Rattle.circuit.proofs.Verdicts.{ask-true, then-left, then-right, each-below, elements-below}
+use Rattle.circuit.proofs.Counts.{unchecked-fits}
+use Rattle.party.specs.Scratch.{Slot, Share, Mac, Value, ValueMac, layout, scratchSize, read}
+use Rattle.party.specs.Position.{Position, Stage, Send, Receive, stageOccurs, mayHold, occurs}
+use Rattle.party.specs.Party.{Party}
+use Rattle.party.specs.Ask.{fewestParties, mostParties, askParties, slotQuestion, askSlots, askWorked, askSendRound, askReceiveRound, askLent}
+use Rattle.party.specs.Code.{Below, Worked, Opened, Sited, Ready, Sends, Receives, layoutOf}
+use Rattle.party.specs.declared.Layout.{Layout}
+use Rattle.party.specs.declared.Site.{Site}
+use Rattle.party.proofs.Lending.{lent-split, setting-valid}
+
+-- what 1 to 12 make sure of
+pub record Lends (P : Party) (l : List ℕ) : Type 0 where
+  pub valid : Valid (P .parties) p (P .circuit)
+  pub prep-long : length (P .prep) ≡ prepSize (P .circuit)
+  pub prep-low : Below (P .prep)
+  pub inputs-long : length (P .inputs) ≡ inputCount (P .circuit) (P .me)
+  pub inputs-low : Below (P .inputs)
+  pub room : scratchSize (layout (P .circuit)) ≤ length l
+
+positive : 0 < p
+positive = omega arith
+
+pub lends : (P : Party) (l : List ℕ) → askLent p P l ≡ Accepted → Lends P l
+lends P l e =
+    let both = sym (lent-split P l) ∙ e in
+    let after-7 = then-right _ _ both in
+    let after-8 = then-right _ _ after-7 in
+    let after-9 = then-right _ _ after-8 in
+    let after-10 = then-right _ _ after-9 in
+    record {
+      valid = setting-valid (P .parties) (P .me) (P .circuit) (then-left _ _ both);
+      prep-long = eqb-true _ _ (ask-true 8 0 _ (then-left _ _ after-7));
+      prep-low = elements-below 9 p (P .prep) positive (then-left _ _ after-8);
+      inputs-long = eqb-true _ _ (ask-true 10 0 _ (then-left _ _ after-9));
+      inputs-low = elements-below 11 p (P .inputs) positive (then-left _ _ after-10);
+      room = leb-true _ _ (ask-true 12 0 _ (then-right _ _ after-10));
+    }
+
+-- question 1
+pub parties-few : (P : Party) (l : List ℕ) → askLent p P l ≡ Accepted → P .parties ≤ mostParties
+unfolding askParties
+parties-few P l e = leb-true _ _ (both-right (leb fewestParties (P .parties)) _ (ask-true 1 0 _ (then-left _ _ (then-left _ _ (sym (lent-split P l) ∙ e)))))
+
+-- a wanted slot that passes question 15 is an element
+slot-low : (c l : List ℕ) (wanted : Bool) (s : Slot) → slotQuestion p c l wanted s ≡ Accepted → wanted ≡ true → read (layout c) l s < p
+unfolding slotQuestion
+slot-low c l wanted s e w = ltb-true _ _ (go wanted (ask-true 15 _ _ e) w)
+  where
+    go : (b : Bool) → (not b || ltb (read (layout c) l s) p) ≡ true → b ≡ true → ltb (read (layout c) l s) p ≡ true
+    go true h k = h
+    go false h k = let z : _≡_ {A = ℕ} 0 1 = cc in absurd (omega arith)
+
+slots-low : (c l : List ℕ) (k : ℕ) (wanted : ℕ → Bool) (slot : ℕ → Slot) → askSlots p c l k wanted slot ≡ Accepted
+    → (t : ℕ) → t < k → wanted t ≡ true → read (layout c) l (slot t) < p
+unfolding askSlots
+slots-low c l k wanted slot e t h w = slot-low c l (wanted t) (slot t) (each-below (λ t. slotQuestion p c l (wanted t) (slot t)) k e t h) w
+
+-- what question 15 makes sure of
+module _ (c l : List ℕ) (j : ℕ) (r : Round) (e : askWorked p c l j r ≡ Accepted) where
+  shares : askSlots p c l j (λ x. hasValue (gate c x)) Share ≡ Accepted
+  unfolding askWorked
+  shares = then-left _ _ e
+
+  past-shares : (askSlots p c l j (λ x. hasValue (gate c x)) Mac then askSlots p c l (openedIn (unchecked c j) r) (λ t. true) Value then askSlots p c l (openedIn (unchecked c j) r) (λ t. true) ValueMac) ≡ Accepted
+  unfolding askWorked
+  past-shares = then-right (askSlots p c l j (λ x. hasValue (gate c x)) Share) _ e
+
+  pub worked-low : j ≤ gates c → Worked c (layout c) l j
+  unfolding layout
+  worked-low h x k w =
+      record {
+        within = omega arith;
+        share = slots-low c l j (λ x. hasValue (gate c x)) Share shares x k w;
+        mac = slots-low c l j (λ x. hasValue (gate c x)) Mac (then-left _ _ past-shares) x k w;
+      }
+
+  pub opened-low : openedIn (unchecked c j) r ≤ capacity c → (t : ℕ) → t < openedIn (unchecked c j) r → Opened (layout c) l t
+  unfolding layout
+  opened-low h t k =
+      record {
+        within = omega arith;
+        value = slots-low c l _ (λ t. true) Value (then-left _ _ (then-right _ _ past-shares)) t k refl;
+        mac = slots-low c l _ (λ t. true) ValueMac (then-right _ _ (then-right _ _ past-shares)) t k refl;
+      }
+
+-- the opened entries of a round fit
+pub entries-fit : (c : List ℕ) (j : ℕ) (r : Round) → j < gates c → openedIn (unchecked c j) r ≤ capacity c
+unfolding openedIn
+entries-fit c j Input h = omega (arith, unchecked-fits c j (omega arith))
+entries-fit c j Multiply h = omega (arith, unchecked-fits c j (omega arith))
+entries-fit c j CommitOpened h = omega (arith, unchecked-fits c j (omega arith))
+entries-fit c j RevealOpened h = omega (arith, unchecked-fits c j (omega arith))
+entries-fit c j OpenOutput h = omega arith
+entries-fit c j CommitOutput h = omega (arith, unchecked-fits c j (omega arith))
+entries-fit c j RevealOutput h = omega (arith, unchecked-fits c j (omega arith))
+
+-- what question 13 makes sure of
+module _ (q : ℕ) (c : List ℕ) (at : Position) (e : occurs q c at ≡ true) where
+  pub gate-occurs : at .gate < gates c
+  unfolding occurs
+  gate-occurs = ltb-true _ _ (both-left _ _ (both-left _ _ e))
+
+  pub stage-occurs : stageOccurs c (at .gate) (at .stage) ≡ true
+  unfolding occurs
+  stage-occurs = both-right (ltb (at .gate) (gates c)) (stageOccurs c (at .gate) (at .stage)) (both-left _ _ e)
+
+-- what a step asks
+module _ (P : Party) (l : List ℕ) (y : Layout) (at : Site) (r : Round) (lent : Lends P l) (lay : layoutOf y ≡ layout (P .circuit)) (sited : Sited (P .circuit) (P .me) at)
+    (occurs : among r (rounds (P .circuit) (at .gate)) ≡ true) where
+  pub ready : askWorked p (P .circuit) l (at .gate) r ≡ Accepted → Ready P l y at r
+  ready e =
+      record {
+        valid = lent .valid;
+        prep-long = lent .prep-long;
+        prep-low = lent .prep-low;
+        inputs-long = lent .inputs-long;
+        inputs-low = lent .inputs-low;
+        lay = lay;
+        room = lent .room;
+        sited = sited;
+        occurs = occurs;
+        worked = worked-low (P .circuit) l (at .gate) r e (omega (arith, sited .within));
+        opened = opened-low (P .circuit) l (at .gate) r e (entries-fit (P .circuit) (at .gate) r (sited .within));
+      }
+
+  pub sends : (held : ℕ) (coefficients : List ℕ) (room : ℕ) → askSendRound p (P .circuit) l (at .gate) coefficients room r ≡ Accepted → Sends P l y at r held coefficients room
+  unfolding askSendRound
+  sends held coefficients room e =
+      record {
+        ready = ready (then-left _ _ e);
+        draws = eqb-true _ _ (ask-true 16 0 _ (then-left _ _ (then-right _ _ e)));
+        draws-low = elements-below 17 p coefficients positive (then-left _ _ (then-right _ _ (then-right _ _ e)));
+        space = leb-true _ _ (ask-true 18 0 _ (then-right _ _ (then-right _ _ (then-right _ _ e))));
+      }
+
+  pub receives : (heard : List ℕ) → askReceiveRound p (P .circuit) (P .parties) l (at .gate) heard r ≡ Accepted → Receives P l y at r heard
+  unfolding askReceiveRound
+  receives heard e =
+      record {
+        ready = ready (then-left _ _ e);
+        whole = eqb-true _ _ (ask-true 19 0 _ (then-left _ _ (then-right _ _ e)));
+        heard-low = elements-below 20 p heard positive (then-left _ _ (then-right _ _ (then-right _ _ e)));
+      }

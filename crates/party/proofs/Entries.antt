@@ -1,0 +1,216 @@
+-- What an entry answers and leaves, by the question that decides.
+-- Assumes nothing.
+use Prim.Native.Nat.{ℕ, suc, _-_}
+use mathlib.Core.Path.{_≡_, refl, sym, ap, subst, _∙_}
+use mathlib.Core.Bool.{Bool, true, false, cond}
+use mathlib.Core.List.{List, [], _∷_}
+use lib.ListN.{length}
+use lib.Dec.{ltb}
+use Rattle.circuit.specs.Gate.{gates}
+use Rattle.field.specs.Prime.{p, prime}
+use Rattle.circuit.specs.Verdict.{Verdict, Accepted, Refused, ask, _then_}
+use Rattle.circuit.specs.Round.{Round, rounds, following}
+use Rattle.party.specs.Scratch.{layout, read, Value}
+use Rattle.party.specs.Position.{Position, Point, Stage, Send, Receive, Finished, Aborted, holding, start, keep, occurs, whenSending, whenReceiving, finished, aborted, begin, reach, enter, resume, proceed, follow}
+use Rattle.party.specs.Party.{Party}
+use Rattle.party.specs.Send.{sent, holds}
+use Rattle.party.specs.Receive.{passes, next, received}
+use Rattle.party.specs.Ask.{askLent, askSendRound, askReceiveRound, askSend, askReceive}
+use Rattle.party.specs.Entry.{Answer, Refusal, Next, Output, Abort, answer, leave, overwrite, releases, openAnswer, sendAnswer, sendOut, nextPosition, outcome, receiveAnswer, receiveScratch}
+use Rattle.party.specs.Code.{leadsBy, leadsTo}
+
+-- a refusal is the answer, and nothing is written
+refused-answer : {v : Verdict} {number index : ℕ} (a : Answer) → v ≡ Refused number index → Refusal number index ≡ answer v a
+unfolding answer
+refused-answer a e = rw e
+
+refused-leaves : {v : Verdict} {number index : ℕ} (later before : List ℕ) → v ≡ Refused number index → before ≡ leave v later before
+unfolding leave
+refused-leaves later before e = rw e
+
+accepted-answer : {v : Verdict} (a : Answer) → v ≡ Accepted → a ≡ answer v a
+unfolding answer
+accepted-answer a e = rw e
+
+accepted-leaves : {v : Verdict} (later before : List ℕ) → v ≡ Accepted → later ≡ leave v later before
+unfolding leave
+accepted-leaves later before e = rw e
+
+-- at a sending half, and at a receiving one
+pub sending-at : (s : Stage) (r : Round) → s ≡ Send r → {A : Type 0} (other : A) (f : Round → A) → whenSending s other f ≡ f r
+unfolding whenSending
+sending-at s r e other f = rw e
+
+pub receiving-at : (s : Stage) (r : Round) → s ≡ Receive r → {A : Type 0} (other : A) (f : Round → A) → whenReceiving s other f ≡ f r
+unfolding whenReceiving
+receiving-at s r e other f = rw e
+
+-- the three parts of a call's questions: those of all that is lent, the position, and those of its half
+module _ (q : ℕ) (P : Party) (l : List ℕ) (at : Position) (half : Verdict) where
+  abbrev asked : Verdict
+  asked = askLent q P l then ask 13 0 (occurs q (P .circuit) at) then half
+
+  lent-refuses : {number index : ℕ} → askLent q P l ≡ Refused number index → asked ≡ Refused number index
+  unfolding _then_
+  lent-refuses e = rw e
+
+  module _ (e : askLent q P l ≡ Accepted) where
+    place-refuses : occurs q (P .circuit) at ≡ false → asked ≡ Refused 13 0
+    unfolding _then_ ask
+    place-refuses f = rw (e, f)
+
+    half-decides : occurs q (P .circuit) at ≡ true → asked ≡ half
+    unfolding _then_ ask
+    half-decides f = rw (e, f)
+
+module _ (P : Party) (l : List ℕ) where
+  pub open-refused : {number index : ℕ} → askLent p P l ≡ Refused number index → Refusal number index ≡ openAnswer prime P l
+  unfolding openAnswer
+  open-refused e = refused-answer _ e
+
+  pub open-accepted : {a : Answer} → askLent p P l ≡ Accepted → a ≡ Next (holding (start (P .circuit)) 0) → a ≡ openAnswer prime P l
+  unfolding openAnswer
+  open-accepted e f = f ∙ accepted-answer _ e
+
+-- sending
+module _ (P : Party) (l : List ℕ) (at : Position) (coefficients out : List ℕ) where
+  abbrev pub Sending : Answer → List ℕ → Type 0
+  Sending a later = (a ≡ sendAnswer prime P l at coefficients (length out)) × (later ≡ sendOut prime P l at coefficients out)
+
+  send-refused : {number index : ℕ} → askSend p P l at coefficients (length out) ≡ Refused number index → Sending (Refusal number index) out
+  unfolding sendAnswer sendOut
+  send-refused e = (refused-answer _ e, refused-leaves _ _ e)
+
+  pub send-not-lent : {number index : ℕ} → askLent p P l ≡ Refused number index → Sending (Refusal number index) out
+  unfolding askSend
+  send-not-lent e = send-refused (lent-refuses p P l at _ e)
+
+  module _ (e : askLent p P l ≡ Accepted) where
+    pub send-nowhere : occurs p (P .circuit) at ≡ false → Sending (Refusal 13 0) out
+    unfolding askSend
+    send-nowhere f = send-refused (place-refuses p P l at _ e f)
+
+    module _ (f : occurs p (P .circuit) at ≡ true) where
+      decided : askSend p P l at coefficients (length out) ≡ whenSending (at .stage) (Refused 14 0) (askSendRound p (P .circuit) l (at .gate) coefficients (length out))
+      unfolding askSend
+      decided = half-decides p P l at _ e f
+
+      pub send-not-sending : whenSending {A = Verdict} (at .stage) (Refused 14 0) (askSendRound p (P .circuit) l (at .gate) coefficients (length out)) ≡ Refused 14 0 → Sending (Refusal 14 0) out
+      send-not-sending h = send-refused (decided ∙ h)
+
+      module _ (r : Round) (g : at .stage ≡ Send r) where
+        sending : askSend p P l at coefficients (length out) ≡ askSendRound p (P .circuit) l (at .gate) coefficients (length out) r
+        sending = decided ∙ sending-at (at .stage) r g _ _
+
+        pub send-round-refused : {number index : ℕ} → askSendRound p (P .circuit) l (at .gate) coefficients (length out) r ≡ Refused number index → Sending (Refusal number index) out
+        send-round-refused h = send-refused (sending ∙ h)
+
+        pub send-done : {a : Answer} {later : List ℕ} → askSendRound p (P .circuit) l (at .gate) coefficients (length out) r ≡ Accepted
+            → a ≡ Next (record { gate = at .gate; stage = Receive r; held = holds prime P l (at .gate) r coefficients })
+            → later ≡ overwrite (sent prime P l (at .gate) (at .held) r) out
+            → Sending a later
+        unfolding sendAnswer sendOut
+        send-done h i j = (
+          i ∙ ap Next (sym (picked at (λ r. record { gate = at .gate; stage = Receive r; held = holds prime P l (at .gate) r coefficients }))) ∙ accepted-answer _ (sending ∙ h),
+          j ∙ ap (λ (ws : List ℕ). overwrite ws out) (sym (picked [] (sent prime P l (at .gate) (at .held)))) ∙ accepted-leaves _ _ (sending ∙ h),
+        )
+          where
+            picked : {A : Type 0} (other : A) (f : Round → A) → whenSending (at .stage) other f ≡ f r
+            picked other f = sending-at (at .stage) r g other f
+
+-- a stage that is no abort
+abbrev GoesOn : Stage → Type 0
+GoesOn (Send r) = Unit {0}
+GoesOn (Receive r) = Unit {0}
+GoesOn Finished = Unit {0}
+GoesOn Aborted = ⊥
+
+begin-goes : (c : List ℕ) (j : ℕ) (rs : List Round) → GoesOn (begin c j rs .stage)
+unfolding begin finished
+begin-goes c j [] = tt
+begin-goes c j (r ∷ rs) = tt
+
+finished-goes : (c : List ℕ) → GoesOn (finished c .stage)
+unfolding finished
+finished-goes c = tt
+
+enter-goes : (c : List ℕ) (j : ℕ) → GoesOn (enter c j .stage)
+unfolding enter
+enter-goes c j = go (ltb j (gates c))
+  where
+    go : (b : Bool) → GoesOn (cond b (begin c j (rounds c j)) (finished c) .stage)
+    go true = begin-goes c j (rounds c j)
+    go false = finished-goes c
+
+-- what follows a round that passes is no abort
+follow-goes : (c : List ℕ) (j : ℕ) (rs : List Round) → GoesOn (proceed c j rs .stage)
+unfolding proceed resume
+follow-goes c j [] = enter-goes c (reach c (gates c - suc j) (suc j))
+follow-goes c j (r ∷ rs) = begin-goes c j (r ∷ rs)
+
+leads-on : (r : Round) (output : ℕ) (at : Position) (s : Stage) → GoesOn s → leadsBy r output at s ≡ cond (releases r) (Output output at) (Next at)
+unfolding leadsBy
+leads-on r output at (Send t) h = refl
+leads-on r output at (Receive t) h = refl
+leads-on r output at Finished h = refl
+leads-on r output at Aborted h = absurd h
+
+-- the outcome of a round goes by the point that follows it
+pub outcome-is : (P : Party) (l : List ℕ) (j held : ℕ) (heard : List ℕ) (r : Round)
+    → leadsTo r held (read (layout (P .circuit)) l (Value 0)) (next prime (P .parties) (P .circuit) j r heard) ≡ outcome prime P l j held heard r
+unfolding outcome nextPosition next leadsTo
+outcome-is P l j held heard r = go (passes prime (P .parties) r heard)
+  where
+    x : Bool → Point
+    x b = cond b (follow (P .circuit) j r) (aborted j)
+
+    v : ℕ
+    v = read (layout (P .circuit)) l (Value 0)
+
+    go : (b : Bool) → leadsBy r v (holding (x b) (keep r held)) (x b .stage)
+        ≡ cond b (cond (releases r) (Output v (holding (x b) (keep r held))) (Next (holding (x b) (keep r held)))) (Abort (holding (x b) (keep r held)))
+    go true = leads-on r v _ (follow (P .circuit) j r .stage) (unfold follow in follow-goes (P .circuit) j (following r (rounds (P .circuit) j)))
+    go false = unfold aborted leadsBy in refl
+
+-- receiving
+module _ (P : Party) (l : List ℕ) (at : Position) (heard : List ℕ) where
+  abbrev pub Receiving : Answer → List ℕ → Type 0
+  Receiving a later = (a ≡ receiveAnswer prime P l at heard) × (later ≡ receiveScratch prime P l at heard)
+
+  receive-refused : {number index : ℕ} → askReceive p P l at heard ≡ Refused number index → Receiving (Refusal number index) l
+  unfolding receiveAnswer receiveScratch
+  receive-refused e = (refused-answer _ e, refused-leaves _ _ e)
+
+  pub receive-not-lent : {number index : ℕ} → askLent p P l ≡ Refused number index → Receiving (Refusal number index) l
+  unfolding askReceive
+  receive-not-lent e = receive-refused (lent-refuses p P l at _ e)
+
+  module _ (e : askLent p P l ≡ Accepted) where
+    pub receive-nowhere : occurs p (P .circuit) at ≡ false → Receiving (Refusal 13 0) l
+    unfolding askReceive
+    receive-nowhere f = receive-refused (place-refuses p P l at _ e f)
+
+    module _ (f : occurs p (P .circuit) at ≡ true) where
+      judged : askReceive p P l at heard ≡ whenReceiving (at .stage) (Refused 14 0) (askReceiveRound p (P .circuit) (P .parties) l (at .gate) heard)
+      unfolding askReceive
+      judged = half-decides p P l at _ e f
+
+      pub receive-not-receiving : whenReceiving {A = Verdict} (at .stage) (Refused 14 0) (askReceiveRound p (P .circuit) (P .parties) l (at .gate) heard) ≡ Refused 14 0 → Receiving (Refusal 14 0) l
+      receive-not-receiving h = receive-refused (judged ∙ h)
+
+      module _ (r : Round) (g : at .stage ≡ Receive r) where
+        receiving : askReceive p P l at heard ≡ askReceiveRound p (P .circuit) (P .parties) l (at .gate) heard r
+        receiving = judged ∙ receiving-at (at .stage) r g _ _
+
+        pub receive-round-refused : {number index : ℕ} → askReceiveRound p (P .circuit) (P .parties) l (at .gate) heard r ≡ Refused number index → Receiving (Refusal number index) l
+        receive-round-refused h = receive-refused (receiving ∙ h)
+
+        pub receive-done : {a : Answer} {later : List ℕ} → askReceiveRound p (P .circuit) (P .parties) l (at .gate) heard r ≡ Accepted
+            → a ≡ outcome prime P l (at .gate) (at .held) heard r
+            → later ≡ received prime P l (at .gate) r heard
+            → Receiving a later
+        unfolding receiveAnswer receiveScratch
+        receive-done h i j = (
+          i ∙ sym (receiving-at (at .stage) r g (Next at) (outcome prime P l (at .gate) (at .held) heard)) ∙ accepted-answer _ (receiving ∙ h),
+          j ∙ sym (receiving-at (at .stage) r g l (λ r. received prime P l (at .gate) r heard)) ∙ accepted-leaves _ _ (receiving ∙ h),
+        )

@@ -1,0 +1,57 @@
+-- Which positions can occur, from what the code finds.
+-- Assumes nothing.
+use Prim.Native.Nat.{ℕ, suc, _+_, _<_, _≤_}
+use mathlib.Core.Path.{_≡_, refl, sym, ap, ap₂, _∙_}
+use mathlib.Core.Bool.{Bool, true, false, cond, _&&_}
+use mathlib.Core.List.{List}
+use native.Mathlib.Numerals.{add-one}
+use lib.Dec.{ltb, eqb}
+use borrow.Author.Tests.{lt-ltb, le-ltb, eq-eqb, ne-eqb}
+use Rattle.circuit.specs.Gate.{Gate, gate, gates}
+use Rattle.circuit.specs.Count.{unchecked}
+use native.Mathlib.Omega.{arith}
+use Rattle.circuit.specs.Round.{Round, Input, Multiply, CommitOpened, RevealOpened, OpenOutput, CommitOutput, RevealOutput, rounds, roundsOf, among, words}
+use Rattle.circuit.proofs.KindLaws.{shape-low}
+use Rattle.party.specs.Position.{Position, Finished, stageOccurs, mayHold, occurs}
+
+module _ (c : List ℕ) (j : ℕ) where
+  -- a round of the gate, told by the gate and the unchecked entries before it
+  pub round-occurs : (r : Round) {u : ℕ} {g : Gate} {b : Bool} → u ≡ unchecked c j → g ≡ gate c j → b ≡ among r (roundsOf u g) → b ≡ among r (rounds c j)
+  unfolding rounds
+  round-occurs r eu eg e = e ∙ ap₂ (λ (u : ℕ) (g : Gate). among r (roundsOf u g)) eu eg
+
+  -- the last gate
+  pub last-occurs : {n : ℕ} {b : Bool} → n ≡ gates c → b ≡ eqb (j + 1) n → b ≡ stageOccurs c j Finished
+  unfolding stageOccurs
+  last-occurs e h = h ∙ ap₂ eqb (add-one j) e
+
+-- the parts of question 13, each as the code tests it
+module _ (q : ℕ) (c : List ℕ) (at : Position) where
+  pub past : gates c ≤ at .gate → false ≡ occurs q c at
+  unfolding occurs
+  past h = rw (le-ltb _ _ h)
+
+  module _ (l : at .gate < gates c) where
+    pub no-stage : stageOccurs c (at .gate) (at .stage) ≡ false → false ≡ occurs q c at
+    unfolding occurs
+    no-stage e = rw (lt-ltb _ _ l, e)
+
+    module _ (e : stageOccurs c (at .gate) (at .stage) ≡ true) where
+      pub held-some : {b : Bool} → mayHold (at .stage) ≡ true → b ≡ ltb (at .held) q → b ≡ occurs q c at
+      unfolding occurs
+      held-some m h = rw (lt-ltb _ _ l, e, m) h
+
+      pub held-none : {b : Bool} → mayHold (at .stage) ≡ false → b ≡ eqb (at .held) 0 → b ≡ occurs q c at
+      unfolding occurs
+      held-none m h = rw (lt-ltb _ _ l, e, m) h
+
+-- no round has more than two words
+pub few-words : (g : Gate) (r : Round) → words g r ≤ 2
+unfolding words
+few-words g Input = shape-low g .words
+few-words g Multiply = shape-low g .words
+few-words g CommitOpened = omega arith
+few-words g RevealOpened = omega arith
+few-words g OpenOutput = shape-low g .words
+few-words g CommitOutput = omega arith
+few-words g RevealOutput = omega arith

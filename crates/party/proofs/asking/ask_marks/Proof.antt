@@ -1,0 +1,64 @@
+-- `party::asking::ask_marks` meets its contract: the loop asks one word after the other and is left at the first that is no mark.
+-- Assumes nothing.
+use Prim.Native.Nat.{_-_}
+use borrow.Author.Needs.{needs}
+use borrow.Author.Tests.{eq-eqb, ne-eqb}
+use native.Mathlib.Omega.{arith}
+use lib.ListN.{length, getD}
+use lib.Dec.{eqb}
+use Rattle.circuit.specs.Verdict.{ask}
+use Rattle.circuit.specs.Code.{verdictOf}
+use Rattle.party.specs.Send.{mark}
+use Rattle.circuit.proofs.Verdicts.{ask-yes, ask-no}
+use Rattle.party.proofs.Loops.{Asking, asking-starts, asking-goes-on, asking-refuses, asking-ends}
+use Rattle.party.proofs.asking.ask_marks.Statement.{statement}
+use Rattle.party.proofs.asking.ask_marks.Tie as tie
+use Rattle.party.proofs.asking.ask_marks.Reads as reads
+use Rattle.party.proofs.asking.ask_marks.Lts as lts
+
+abbrev Inv-loop : tie.InvT-loop
+Inv-loop heard k₀ k = Asking (λ k. ask 21 k (eqb (getD heard k 0) mark)) (length heard) k
+
+abbrev μ-loop : tie.MeasureT-loop
+μ-loop heard k₀ k = length heard - k
+
+loop-holds : tie.Need-loop-holds Inv-loop μ-loop
+loop-holds c = asking-starts _ _
+
+mul-if1 : tie.Need-mul-if1 Inv-loop μ-loop
+mul-if1 c = search needs
+
+shared-slice-read-if1 : tie.Need-shared-slice-read-if1 Inv-loop μ-loop
+shared-slice-read-if1 c = search needs
+
+returns : tie.Need-returns Inv-loop μ-loop
+unfolding verdictOf
+returns c = asking-refuses _ _ _ (c .before .before .before .loop .inv) (omega arith) (ask-no _ _ (ne-eqb _ _ (c .if1 .taken)))
+
+add-k : tie.Need-add-k Inv-loop μ-loop
+add-k c = search needs
+
+loop-less : tie.Need-loop-less Inv-loop μ-loop
+loop-less c = search needs
+
+loop-again : tie.Need-loop-again Inv-loop μ-loop
+loop-again c = asking-goes-on _ _ _ (c .before .before .before .loop .inv) (omega arith) (ask-yes _ _ (eq-eqb _ _ (c .if1 .left)))
+
+returns-2 : tie.Need-returns-2 Inv-loop μ-loop
+unfolding verdictOf
+returns-2 c = asking-ends _ _ _ (c .before .loop .inv) (omega arith)
+
+pub ask-marks-spec : {M : Type 1} → statement M
+ask-marks-spec =
+    tie.close
+    (tie.spec
+    Inv-loop
+    μ-loop
+    loop-holds
+    mul-if1
+    shared-slice-read-if1
+    returns
+    add-k
+    loop-less
+    loop-again
+    returns-2)

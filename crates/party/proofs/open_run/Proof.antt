@@ -1,0 +1,43 @@
+-- `party::open_run` meets its contract: what 1 to 12 accept starts with the sending half of gate 0, which is an in gate.
+-- Assumes nothing.
+use mathlib.Core.Path.{sym, ap, _∙_}
+use Rattle.field.specs.Prime.{p}
+use Rattle.circuit.specs.Code.{roundOf}
+use Rattle.party.specs.Position.{holding}
+use Rattle.party.specs.Entry.{Next}
+use Rattle.party.specs.Code.{answerOf, positionOf, stageOf, lentOf}
+use Rattle.party.proofs.Following.{start-is}
+use Rattle.party.proofs.Accepted.{lends}
+use Rattle.party.proofs.Entries.{open-refused, open-accepted}
+use borrow.Author.Needs.{needs}
+use Rattle.party.proofs.open_run.Statement.{statement}
+use Rattle.party.proofs.open_run.Tie as tie
+use Rattle.party.proofs.open_run.Reads as reads
+use Rattle.party.proofs.open_run.Lts as lts
+use Rattle.party.proofs.asking.ask_lent.Reads as ask-lent-reads
+
+-- src/lib.rt:95:11
+ask-lent-requires : tie.Need-ask-lent-requires
+ask-lent-requires c κs = search needs
+
+-- src/lib.rt:96:25
+enum-known-number : tie.Need-enum-known-number
+enum-known-number c = search needs
+
+-- src/lib.rt:99:32
+enum-told : tie.Need-enum-told
+enum-told c = search needs
+
+-- src/lib.rt:92:1
+returns : tie.Need-returns
+unfolding answerOf lentOf
+returns c = open-refused _ _ (sym (c .before .before .before .ask-lent .ensures .0) ∙ ap lentOf (c .before .number .given .1))
+
+-- src/lib.rt:92:1
+returns-2 : tie.Need-returns-2
+unfolding answerOf lentOf positionOf stageOf roundOf holding
+returns-2 c = let e = sym (c .before .before .ask-lent .ensures .0) ∙ ap lentOf (c .enum-told .given .1) in open-accepted _ _ e (sym (ap (λ x. Next (holding x 0)) (start-is _ _ p (lends _ _ e .valid))))
+
+pub open-run-spec : {M : Type 1} → statement M
+open-run-spec =
+    tie.close (tie.spec ask-lent-requires enum-known-number enum-told returns returns-2)

@@ -1,0 +1,406 @@
+// The questions at a party's entries.
+use crate::Layout;
+use crate::Lent;
+use crate::Position;
+use crate::Site;
+use crate::Slot;
+use crate::Sort;
+use crate::Stage;
+use crate::scratch;
+use circuit::Round;
+use circuit::Verdict;
+ghost use mathlib.Core.Path.{_≡_};
+ghost use Prim.Native.Nat.{ℕ, _+_, _*_, _<_, _≤_};
+ghost use lib.ListN.{length, getD};
+ghost use lib.Dec.{ltb, leb, eqb};
+ghost use Rattle.field.specs.Prime.{p};
+ghost use Rattle.circuit.specs.Verdict.{ask, _then_, each, elements};
+ghost use Rattle.circuit.specs.Gate.{gateSize, gates};
+ghost use Rattle.circuit.specs.Count.{unchecked};
+ghost use Rattle.circuit.specs.Accept.{askCircuit};
+ghost use Rattle.circuit.specs.Code.{verdictOf, roundOf};
+ghost use Rattle.party.specs.Scratch.{layout, scratchSize};
+ghost use Rattle.party.specs.Position.{mayHold, stageOccurs, occurs};
+ghost use Rattle.party.specs.Send.{mark};
+ghost use Rattle.party.specs.Ask.{askParties, slotQuestion, askSlots, askWorked, askSendRound, askReceiveRound, askLent};
+ghost use Rattle.party.specs.Code.{layoutOf, slotOf, sortOf, wantedOf, stageOf, positionOf, Within, Laid, Asked, lentOf, LentOk};
+
+const FEWEST_PARTIES: usize = 2;
+
+const MOST_PARTIES: usize = 8;
+
+const MARK: u32 = 1;
+
+// Question 1.
+pub fn ask_parties(parties: usize) -> Verdict
+    ensures { λ r. ⌜ verdictOf r ≡ askParties parties ⌝ }
+{
+    if parties < FEWEST_PARTIES {
+        return Verdict::Refused {
+            number: 1,
+            index: 0,
+        };
+    }
+    if MOST_PARTIES < parties {
+        return Verdict::Refused {
+            number: 1,
+            index: 0,
+        };
+    }
+    Verdict::Accepted
+}
+
+// Are the numbers of a list elements?
+pub fn ask_elements(number: u32, xs: &[u32]) -> Verdict
+    ensures { λ r. ⌜ verdictOf r ≡ elements number p (now (xs .entry)) ⌝ }
+{
+    let mut k = 0;
+    while k < xs.len() {
+        if field::P <= xs[k] {
+            return Verdict::Refused { number, index: k };
+        }
+        k += 1;
+    }
+    Verdict::Accepted
+}
+
+// Question 21 of a commitment.
+fn ask_marks(heard: &[u32]) -> Verdict
+    ensures { λ r. ⌜ verdictOf r ≡ each (length (now (heard .entry))) (λ k. ask 21 k (eqb (getD (now (heard .entry)) k 0) mark)) ⌝ }
+{
+    let mut k = 0;
+    while k < heard.len() {
+        if heard[k] != MARK {
+            return Verdict::Refused {
+                number: 21,
+                index: k,
+            };
+        }
+        k += 1;
+    }
+    Verdict::Accepted
+}
+
+// Questions 8 to 12, of the lengths that the circuit asks for.
+pub fn ask_lists(
+    prep: &[u32],
+    prep_size: usize,
+    inputs: &[u32],
+    input_count: usize,
+    room: usize,
+    scratch_size: usize,
+) -> Verdict
+    ensures { λ r. ⌜ verdictOf r ≡ (ask 8 0 (eqb (length (now (prep .entry))) «prep_size») then elements 9 p (now (prep .entry)) then ask 10 0 (eqb (length (now (inputs .entry))) «input_count») then elements 11 p (now (inputs .entry)) then ask 12 0 (leb «scratch_size» room)) ⌝ }
+{
+    if prep.len() != prep_size {
+        return Verdict::Refused {
+            number: 8,
+            index: 0,
+        };
+    }
+    match ask_elements(9, prep) {
+        Verdict::Refused { number, index } => {
+            return Verdict::Refused { number, index };
+        }
+        Verdict::Accepted => {}
+    }
+    if inputs.len() != input_count {
+        return Verdict::Refused {
+            number: 10,
+            index: 0,
+        };
+    }
+    match ask_elements(11, inputs) {
+        Verdict::Refused { number, index } => {
+            return Verdict::Refused { number, index };
+        }
+        Verdict::Accepted => {}
+    }
+    if room < scratch_size {
+        return Verdict::Refused {
+            number: 12,
+            index: 0,
+        };
+    }
+    Verdict::Accepted
+}
+
+// Questions 1 to 7.
+fn ask_setting(parties: usize, me: usize, c: &[u32]) -> Verdict
+    ensures { λ r. ⌜ verdictOf r ≡ (askParties parties then ask 2 0 (ltb me parties) then askCircuit parties p (now (c .entry))) ⌝ }
+{
+    match ask_parties(parties) {
+        Verdict::Refused { number, index } => {
+            return Verdict::Refused { number, index };
+        }
+        Verdict::Accepted => {}
+    }
+    if parties <= me {
+        return Verdict::Refused {
+            number: 2,
+            index: 0,
+        };
+    }
+    circuit::accept(parties, field::P, c)
+}
+
+// May a check share be held at this stage?
+fn may_hold(stage: Stage) -> bool
+    ensures { λ b. ⌜ b ≡ mayHold (stageOf stage) ⌝ }
+{
+    match stage {
+        Stage::Send(r) => circuit::is_reveal(r),
+        Stage::Receive(r) => circuit::is_commit(r),
+        Stage::Finished => false,
+        Stage::Aborted => false,
+    }
+}
+
+// Can the stage occur at gate j? The circuit has count gates, and before gate j that many entries are unchecked.
+fn stage_occurs(c: &[u32], count: usize, j: usize, waiting: usize, stage: Stage) -> bool
+    requires { ⌜ (gateSize * count ≤ length (now c)) × (count ≡ gates (now c)) × (j < count) × (waiting ≡ unchecked (now c) j) ⌝ }
+    ensures { λ b. ⌜ b ≡ stageOccurs (now (c .entry)) j (stageOf stage) ⌝ }
+{
+    let g = circuit::gate_at(c, j);
+    match stage {
+        Stage::Send(r) => circuit::has_round(g, waiting, r),
+        Stage::Receive(r) => circuit::has_round(g, waiting, r),
+        Stage::Finished => j + 1 == count,
+        Stage::Aborted => circuit::has_round(g, waiting, Round::RevealOutput),
+    }
+}
+
+// Question 13.
+pub fn can_occur(c: &[u32], count: usize, waiting: usize, at: Position) -> bool
+    requires { ⌜ (gateSize * count ≤ length (now c)) × (count ≡ gates (now c)) × (at .gate < count → waiting ≡ unchecked (now c) (at .gate)) ⌝ }
+    ensures { λ b. ⌜ b ≡ occurs p (now (c .entry)) (positionOf at) ⌝ }
+{
+    let j = at.gate;
+    if count <= j {
+        return false;
+    }
+    let stage = at.stage;
+    if !stage_occurs(c, count, j, waiting, stage) {
+        return false;
+    }
+    if may_hold(stage) {
+        return at.held < field::P;
+    }
+    at.held == 0
+}
+
+// Slot k of a sort, and whether question 15 wants it.
+fn slot_at(sort: Sort, k: usize) -> Slot
+    ensures { λ s. ⌜ slotOf s ≡ sortOf sort k ⌝ }
+{
+    match sort {
+        Sort::Shares => Slot::Share(k),
+        Sort::Macs => Slot::Mac(k),
+        Sort::Values => Slot::Value(k),
+        Sort::ValueMacs => Slot::ValueMac(k),
+    }
+}
+
+fn is_wanted(c: &[u32], sort: Sort, k: usize) -> bool
+    requires { ⌜ (length (now c) ≡ gateSize * gates (now c)) × Within (layout (now c)) (sortOf sort k) ⌝ }
+    ensures { λ b. ⌜ b ≡ wantedOf (now (c .entry)) sort k ⌝ }
+{
+    match sort {
+        Sort::Shares => circuit::has_value(circuit::gate_at(c, k)),
+        Sort::Macs => circuit::has_value(circuit::gate_at(c, k)),
+        Sort::Values => true,
+        Sort::ValueMacs => true,
+    }
+}
+
+// Question 15 of one slot.
+fn ask_slot(c: &[u32], l: &[u32], y: Layout, sort: Sort, t: usize) -> Verdict
+    requires { ⌜ Laid (now c) (now l) y × Within (layout (now c)) (sortOf sort t) ⌝ }
+    ensures { λ r. ⌜ verdictOf r ≡ slotQuestion p (now (c .entry)) (now (l .entry)) (wantedOf (now (c .entry)) sort t) (sortOf sort t) ⌝ }
+{
+    if !is_wanted(c, sort, t) {
+        return Verdict::Accepted;
+    }
+    let at = scratch::offset_of(y, slot_at(sort, t));
+    if field::P <= l[at] {
+        return Verdict::Refused {
+            number: 15,
+            index: at,
+        };
+    }
+    Verdict::Accepted
+}
+
+// Question 15 of the slots of one sort below k.
+fn ask_slots(c: &[u32], l: &[u32], y: Layout, k: usize, sort: Sort) -> Verdict
+    requires { ⌜ Laid (now c) (now l) y × ((t : ℕ) → t < k → Within (layout (now c)) (sortOf sort t)) ⌝ }
+    ensures { λ r. ⌜ verdictOf r ≡ askSlots p (now (c .entry)) (now (l .entry)) k (wantedOf (now (c .entry)) sort) (sortOf sort) ⌝ }
+{
+    let mut t = 0;
+    while t < k {
+        match ask_slot(c, l, y, sort, t) {
+            Verdict::Refused { number, index } => {
+                return Verdict::Refused { number, index };
+            }
+            Verdict::Accepted => {}
+        }
+        t += 1;
+    }
+    Verdict::Accepted
+}
+
+// Question 15: the gates before j, and the opened entries that are not yet checked.
+fn ask_worked(c: &[u32], l: &[u32], y: Layout, at: Site, r: Round) -> Verdict
+    requires { ⌜ Asked (now c) (now l) y at (roundOf r) ⌝ }
+    ensures { λ v. ⌜ verdictOf v ≡ askWorked p (now (c .entry)) (now (l .entry)) (at .gate) (roundOf r) ⌝ }
+{
+    let j = at.gate;
+    let opened = circuit::opened_in(at.unchecked, r);
+    match ask_slots(c, l, y, j, Sort::Shares) {
+        Verdict::Refused { number, index } => {
+            return Verdict::Refused { number, index };
+        }
+        Verdict::Accepted => {}
+    }
+    match ask_slots(c, l, y, j, Sort::Macs) {
+        Verdict::Refused { number, index } => {
+            return Verdict::Refused { number, index };
+        }
+        Verdict::Accepted => {}
+    }
+    match ask_slots(c, l, y, opened, Sort::Values) {
+        Verdict::Refused { number, index } => {
+            return Verdict::Refused { number, index };
+        }
+        Verdict::Accepted => {}
+    }
+    ask_slots(c, l, y, opened, Sort::ValueMacs)
+}
+
+// Questions 15 to 18.
+pub fn ask_send_round(
+    c: &[u32],
+    l: &[u32],
+    y: Layout,
+    at: Site,
+    r: Round,
+    coefficients: &[u32],
+    room: usize,
+) -> Verdict
+    requires { ⌜ Asked (now c) (now l) y at (roundOf r) ⌝ }
+    ensures { λ v. ⌜ verdictOf v ≡ askSendRound p (now (c .entry)) (now (l .entry)) (at .gate) (now (coefficients .entry)) room (roundOf r) ⌝ }
+{
+    match ask_worked(c, l, y, at, r) {
+        Verdict::Refused { number, index } => {
+            return Verdict::Refused { number, index };
+        }
+        Verdict::Accepted => {}
+    }
+    if coefficients.len() != circuit::coefficients_in(at.unchecked, r) {
+        return Verdict::Refused {
+            number: 16,
+            index: 0,
+        };
+    }
+    match ask_elements(17, coefficients) {
+        Verdict::Refused { number, index } => {
+            return Verdict::Refused { number, index };
+        }
+        Verdict::Accepted => {}
+    }
+    if room < circuit::words_in(circuit::gate_at(c, at.gate), r) {
+        return Verdict::Refused {
+            number: 18,
+            index: 0,
+        };
+    }
+    Verdict::Accepted
+}
+
+// Questions 15 and 19 to 21.
+pub fn ask_receive_round(
+    parties: usize,
+    c: &[u32],
+    l: &[u32],
+    y: Layout,
+    at: Site,
+    r: Round,
+    heard: &[u32],
+) -> Verdict
+    requires { ⌜ Asked (now c) (now l) y at (roundOf r) × (parties ≤ 8) ⌝ }
+    ensures { λ v. ⌜ verdictOf v ≡ askReceiveRound p (now (c .entry)) parties (now (l .entry)) (at .gate) (now (heard .entry)) (roundOf r) ⌝ }
+{
+    match ask_worked(c, l, y, at, r) {
+        Verdict::Refused { number, index } => {
+            return Verdict::Refused { number, index };
+        }
+        Verdict::Accepted => {}
+    }
+    if heard.len() != parties * circuit::words_in(circuit::gate_at(c, at.gate), r) {
+        return Verdict::Refused {
+            number: 19,
+            index: 0,
+        };
+    }
+    match ask_elements(20, heard) {
+        Verdict::Refused { number, index } => {
+            return Verdict::Refused { number, index };
+        }
+        Verdict::Accepted => {}
+    }
+    if circuit::is_commit(r) {
+        return ask_marks(heard);
+    }
+    Verdict::Accepted
+}
+
+fn least(a: usize, b: usize) -> usize
+    ensures { λ r. ⌜ (r ≤ a) × (r ≤ b) × (a ≤ b → r ≡ a) ⌝ }
+{
+    if a <= b { a } else { b }
+}
+
+// Questions 1 to 12. One count along the circuit gives the lengths to ask for and the site of a gate.
+pub fn ask_lent(
+    parties: usize,
+    me: usize,
+    c: &[u32],
+    prep: &[u32],
+    inputs: &[u32],
+    l: &[u32],
+    gate: usize,
+) -> Lent
+    ensures { λ r. ⌜ (lentOf r ≡ askLent p (record { parties = parties; me = me; circuit = now (c .entry); prep = now (prep .entry); inputs = now (inputs .entry) }) (now (l .entry)))
+        × LentOk (now (c .entry)) me gate r ⌝ }
+{
+    match ask_setting(parties, me, c) {
+        Verdict::Refused { number, index } => {
+            return Lent::Refused { number, index };
+        }
+        Verdict::Accepted => {}
+    }
+    let count = c.len() / circuit::GATE_SIZE;
+    let stop = least(gate, count);
+    let here = circuit::tally_between(c, me, 0, stop, circuit::no_tally());
+    let all = circuit::tally_between(c, me, stop, count, here);
+    let y = Layout {
+        gates: count,
+        capacity: all.openings + 1,
+    };
+    let size = scratch::size_of(y);
+    match ask_lists(prep, all.prep, inputs, all.inputs, l.len(), size) {
+        Verdict::Refused { number, index } => {
+            return Lent::Refused { number, index };
+        }
+        Verdict::Accepted => {}
+    }
+    Lent::Accepted(
+        y,
+        Site {
+            gate,
+            prep: here.prep,
+            unchecked: here.unchecked,
+            input: here.inputs,
+        },
+    )
+}
