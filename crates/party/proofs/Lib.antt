@@ -19,3 +19,5 @@ pub mod Entries
 pub mod Lending
 pub mod Accepted
 pub mod Halves
+pub mod Answers
+pub mod Returned

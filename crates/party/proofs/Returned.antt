@@ -1,0 +1,151 @@
+-- Every position that an entry yields can occur: question 13 never refuses a position that is given back unaltered.
+-- Assumes nothing.
+use Prim.Native.Nat.{ℕ, _<_}
+use mathlib.Core.Path.{_≡_, refl, sym, ap, subst, _∙_}
+use mathlib.Core.Bool.{Bool, true, false, cond, _&&_}
+use mathlib.Core.List.{List}
+use native.Mathlib.Omega.{arith}
+use lib.Dec.{ltb, eqb}
+use borrow.Author.Tests.{ltb-true, lt-ltb, eq-eqb}
+use Rattle.field.specs.Prime.{p, prime}
+use Rattle.field.specs.Prime.Laws.{sub-lt}
+use Rattle.circuit.specs.Verdict.{Verdict, Accepted, Refused, ask, _then_}
+use Rattle.circuit.specs.Gate.{gates}
+use Rattle.circuit.specs.Round.{Round, Input, isCommit, rounds, among}
+use Rattle.circuit.proofs.Tests.{by-cases, both-right}
+use Rattle.circuit.proofs.Verdicts.{refused-no, then-left, then-right, ask-true}
+use Rattle.party.specs.Scratch.{layout, read, Value}
+use Rattle.party.specs.Position.{Position, Point, Stage, Send, Receive, Finished, Aborted, holding, keep, occurs, stageOccurs, mayHold, whenSending, whenReceiving}
+use Rattle.party.specs.Party.{Party, key}
+use Rattle.party.specs.Send.{checkShare, holds}
+use Rattle.party.specs.Receive.{next, passes}
+use Rattle.party.specs.Ask.{askLent, askSendRound, askReceiveRound, askSend, askReceive}
+use Rattle.party.specs.Entry.{Answer, Refusal, Next, Output, Abort, answer, releases, sendAnswer, receiveAnswer, nextPosition, outcome}
+use Rattle.party.proofs.Occurring.{held-some, held-none}
+use Rattle.party.proofs.Accepted.{gate-occurs, stage-occurs}
+use Rattle.party.proofs.Following.{next-possible, next-holds}
+
+-- a position can occur where its gate and its stage do, and its check share is an element where one is held and else 0
+can-occur : (q : ℕ) (c : List ℕ) (at : Position) → at .gate < gates c → stageOccurs c (at .gate) (at .stage) ≡ true
+    → (mayHold (at .stage) ≡ true → at .held < q) → (mayHold (at .stage) ≡ false → at .held ≡ 0) → occurs q c at ≡ true
+can-occur q c at l s some none =
+    by-cases (mayHold (at .stage))
+    (λ e. sym (held-some q c at l s e (sym (lt-ltb _ _ (some e)))))
+    (λ e. sym (held-none q c at l s e (sym (eq-eqb _ _ (none e)))))
+
+-- the check share at a position that can occur
+held-low : (q : ℕ) (c : List ℕ) (at : Position) → occurs q c at ≡ true → mayHold (at .stage) ≡ true → at .held < q
+unfolding occurs
+held-low q c at e m = ltb-true _ _ (subst (λ (b : Bool). cond b (ltb (at .held) q) (eqb (at .held) 0) ≡ true) m (both-right (ltb (at .gate) (gates c) && stageOccurs c (at .gate) (at .stage)) _ e))
+
+-- an answer with a position is that of an accepted call
+accepted-answer : (v : Verdict) (a b : Answer) → answer v a ≡ b → ((number index : ℕ) → b ≡ Refusal number index → ⊥) → (v ≡ Accepted) × (a ≡ b)
+unfolding answer
+accepted-answer Accepted a b e f = (refl, e)
+accepted-answer (Refused number index) a b e f = absurd (f number index (sym e))
+
+not-refusal : (x : Position) (number index : ℕ) → Next x ≡ Refusal number index → ⊥
+not-refusal x number index e = let z : _≡_ {A = ℕ} 0 1 = cc in omega arith
+
+-- x is the position that an answer yields; a refusal yields none
+abbrev pub Yields : Position → Answer → Type 0
+Yields x (Refusal number index) = ⊥
+Yields x (Next y) = y ≡ x
+Yields x (Output v y) = y ≡ x
+Yields x (Abort y) = y ≡ x
+
+yielded : (b d : Bool) (v : ℕ) (n x : Position) → Yields x (cond b (cond d (Output v n) (Next n)) (Abort n)) → n ≡ x
+yielded true true v n x y = y
+yielded true false v n x y = y
+yielded false d v n x y = y
+
+module _ (P : Party) (l : List ℕ) (at : Position) where
+  -- what is held is an element after a commitment, and else 0
+  holds-low : (r : Round) (coefficients : List ℕ) → holds prime P l (at .gate) r coefficients < p
+  unfolding holds checkShare
+  holds-low r coefficients = go (isCommit r) _ _
+    where
+      go : (b : Bool) (x y : ℕ) → cond b (prime .sub x y) 0 < p
+      go true x y = sub-lt x y
+      go false x y = omega arith
+
+  holds-none : (r : Round) (coefficients : List ℕ) → isCommit r ≡ false → holds prime P l (at .gate) r coefficients ≡ 0
+  unfolding holds
+  holds-none r coefficients e = rw e
+
+  -- the place and the half of an accepted sending
+  sends-at : (s : Stage) (f : Round → Verdict) → whenSending s (Refused 14 0) f ≡ Accepted → (r : Round) × (s ≡ Send r)
+  unfolding whenSending
+  sends-at (Send r) f e = (r, refl)
+  sends-at (Receive r) f e = refused-no e
+  sends-at Finished f e = refused-no e
+  sends-at Aborted f e = refused-no e
+
+  sent-at : (r : Round) → at .stage ≡ Send r → {A : Type 0} (other : A) (f : Round → A) → whenSending (at .stage) other f ≡ f r
+  unfolding whenSending
+  sent-at r e other f = rw e
+
+  pub sent-position-occurs : (coefficients : List ℕ) (room : ℕ) {x : Position} → sendAnswer prime P l at coefficients room ≡ Next x → occurs p (P .circuit) x ≡ true
+  unfolding sendAnswer askSend
+  sent-position-occurs coefficients room {x} e =
+      let (ok, is) = accepted-answer _ _ _ e (not-refusal x) in
+      let here : occurs p (P .circuit) at ≡ true = ask-true 13 0 _ (then-left _ _ (then-right _ _ ok)) in
+      let (r, sends) = sends-at (at .stage) _ (then-right _ _ (then-right _ _ ok)) in
+      let next-is = sym (sent-at r sends at _) ∙ next-of is in
+      subst (λ (y : Position). occurs p (P .circuit) y ≡ true) next-is
+      (can-occur p (P .circuit) _ (gate-occurs p (P .circuit) at here)
+      (occurs-too r sends (stage-occurs p (P .circuit) at here)) (λ m. holds-low r coefficients) (λ m. holds-none r coefficients (unfold mayHold in m)))
+    where
+      next-of : {y : Position} → Next y ≡ Next x → y ≡ x
+      next-of e = cc
+
+      occurs-too : (r : Round) → at .stage ≡ Send r → stageOccurs (P .circuit) (at .gate) (at .stage) ≡ true → stageOccurs (P .circuit) (at .gate) (Receive r) ≡ true
+      occurs-too r e h = unfold stageOccurs in (rw e at h)
+
+  -- the half of an accepted receiving
+  receives-at : (s : Stage) (f : Round → Verdict) → whenReceiving s (Refused 14 0) f ≡ Accepted → (r : Round) × (s ≡ Receive r)
+  unfolding whenReceiving
+  receives-at (Send r) f e = refused-no e
+  receives-at (Receive r) f e = (r, refl)
+  receives-at Finished f e = refused-no e
+  receives-at Aborted f e = refused-no e
+
+  received-at : (r : Round) → at .stage ≡ Receive r → {A : Type 0} (other : A) (f : Round → A) → whenReceiving (at .stage) other f ≡ f r
+  unfolding whenReceiving
+  received-at r e other f = rw e
+
+  -- the position that follows a round of the circuit
+  next-occurs : (heard : List ℕ) (r : Round) → occurs p (P .circuit) at ≡ true → at .stage ≡ Receive r → occurs p (P .circuit) (nextPosition prime P (at .gate) (at .held) heard r) ≡ true
+  unfolding nextPosition holding
+  next-occurs heard r here e =
+      let l : at .gate < gates (P .circuit) = gate-occurs p (P .circuit) at here in
+      let has : among r (rounds (P .circuit) (at .gate)) ≡ true = among-of (stage-occurs p (P .circuit) at here) in
+      let can = next-possible (P .circuit) prime (P .parties) (at .gate) heard r has l in
+      let holding-is = next-holds (P .circuit) prime (P .parties) (at .gate) heard r has in
+      can-occur p (P .circuit) _ (can .within) (can .occurs)
+      (λ m. kept-low (sym holding-is ∙ m)) (λ m. kept-none (sym holding-is ∙ m))
+    where
+      among-of : stageOccurs (P .circuit) (at .gate) (at .stage) ≡ true → among r (rounds (P .circuit) (at .gate)) ≡ true
+      among-of h = unfold stageOccurs in (rw e at h)
+
+      kept-low : isCommit r ≡ true → keep r (at .held) < p
+      kept-low c = unfold keep in (rw c (held-low p (P .circuit) at here (unfold mayHold in (rw (e, c)))))
+
+      kept-none : isCommit r ≡ false → keep r (at .held) ≡ 0
+      kept-none c = unfold keep in (rw c)
+
+  pub received-position-occurs : (heard : List ℕ) (x : Position) → Yields x (receiveAnswer prime P l at heard) → occurs p (P .circuit) x ≡ true
+  unfolding receiveAnswer askReceive answer outcome
+  received-position-occurs heard x y = go (askReceive p P l at heard) refl y
+    where
+      at-round : (r : Round) → at .stage ≡ Receive r → occurs p (P .circuit) at ≡ true → Yields x (outcome prime P l (at .gate) (at .held) heard r) → occurs p (P .circuit) x ≡ true
+      at-round r e here y =
+          subst (λ (z : Position). occurs p (P .circuit) z ≡ true) (yielded (passes prime (P .parties) r heard) (releases r) (read (layout (P .circuit)) l (Value 0)) (nextPosition prime P (at .gate) (at .held) heard r) x y) (next-occurs heard r here e)
+
+      go : (v : Verdict) → askReceive p P l at heard ≡ v → Yields x (answer v (whenReceiving (at .stage) (Next at) (outcome prime P l (at .gate) (at .held) heard))) → occurs p (P .circuit) x ≡ true
+      go Accepted e y =
+          let parts = then-right _ _ e in
+          let here : occurs p (P .circuit) at ≡ true = ask-true 13 0 _ (then-left _ _ parts) in
+          let (r, is) = receives-at (at .stage) _ (then-right _ _ parts) in
+          at-round r is here (subst (Yields x) (received-at r is (Next at) (outcome prime P l (at .gate) (at .held) heard)) y)
+      go (Refused number index) e y = absurd y
