@@ -1,13 +1,12 @@
 -- The definitions give every line of document 01's docket and each of its starred cases: one table, computed.
 -- Assumes nothing.
 use Prim.Native.Nat.{ℕ, zero, suc, _<_}
-use mathlib.Core.Path.{_≡_, refl, sym, subst}
+use mathlib.Core.Path.{refl, sym, subst}
 use mathlib.Core.Bool.{Bool, true, false, _&&_}
 use mathlib.Core.List.{List, [], _∷_, _++_}
 use native.Mathlib.Omega.{arith}
 use lib.Dec.{T, ltb, ltb→lt}
 use lib.ListN.{length, getD}
-use Rattle.field.specs.Ops.{Ops}
 use Rattle.field.specs.Prime.{prime, modular}
 use Rattle.field.specs.Prime.Laws.{prime-is-modular}
 use Rattle.circuit.specs.Gate.{gate, gates}

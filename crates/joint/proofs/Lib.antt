@@ -1,4 +1,25 @@
 -- What is proved of the joint run's definitions.
 pub mod Computing
 pub mod Docket
+pub mod Words
+pub mod Bands
+pub mod Said
+pub mod Filling
+pub mod Inputs
+pub mod Parties
+pub mod Spending
+pub mod Written
+pub mod States
+pub mod Going
+pub mod Running
+pub mod Dues
+pub mod Accepting
+pub mod Arrays
+pub mod Turns
+pub mod Releasing
+pub mod Rows
+pub mod Measures
+pub mod Later
+pub mod Rounding
+pub mod Entering
 pub mod Order

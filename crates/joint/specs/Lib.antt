@@ -7,3 +7,4 @@ pub mod Plain
 pub mod Good
 pub mod Formula
 pub mod Docket
+pub mod Code

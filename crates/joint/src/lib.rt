@@ -1,1 +1,92 @@
-// All parties in one run. The definitions are in specs/.
+// All parties of the online phase in one run.
+mod asking;
+mod framing;
+mod rounds;
+
+use circuit::Round;
+use circuit::Tally;
+use circuit::Verdict;
+use party::Layout;
+use party::Point;
+ghost use mathlib.Core.Path.{_≡_};
+ghost use Rattle.field.specs.Prime.{prime};
+ghost use Rattle.joint.specs.Entry.{jointAnswer, jointScratch, jointTranscript, jointOutputs};
+ghost use Rattle.joint.specs.Code.{jointAnswerOf};
+
+// A refusal's number and index; the rounds made; the gate at which the run is aborted, and the rounds made.
+pub enum JointAnswer {
+    Refusal { number: u32, index: usize },
+    Done(usize),
+    Stopped { gate: usize, rounds: usize },
+}
+
+// What stays the same from round to round: the number of parties, the layout and the length of a party's scratch, the length of its
+// preprocessing, and where each party's inputs start, with where the last party's end.
+pub struct Frame {
+    pub parties: usize,
+    pub layout: Layout,
+    pub scratch: usize,
+    pub prep: usize,
+    pub starts: [usize; 9],
+}
+
+// What goes on from round to round: the point, what is counted for each party of the gates before it, the check share that each party
+// holds, and how many coefficients are used, words written, outputs released and rounds made.
+pub struct Course {
+    pub point: Point,
+    pub tallies: [Tally; 8],
+    pub held: [u32; 8],
+    pub used: usize,
+    pub written: usize,
+    pub released: usize,
+    pub rounds: usize,
+}
+
+// The round that is due, if any.
+pub enum Due {
+    Next(Round),
+    Over,
+}
+
+pub fn joint_run(
+    parties: usize,
+    c: &[u32],
+    preps: &[u32],
+    inputs: &[u32],
+    scratch: &mut [u32],
+    coefficients: &[u32],
+    transcript: &mut [u32],
+    outputs: &mut [u32],
+) -> JointAnswer
+    ensures answer { λ r. ⌜ jointAnswerOf r ≡ jointAnswer prime (record { parties = parties; circuit = now (c .entry); preps = now (preps .entry); inputs = now (inputs .entry); coefficients = now (coefficients .entry) }) (now (scratch .entry)) (now (transcript .entry)) (now (outputs .entry)) ⌝ }
+    ensures scratch { λ r. ⌜ now (scratch .exit) ≡ jointScratch prime (record { parties = parties; circuit = now (c .entry); preps = now (preps .entry); inputs = now (inputs .entry); coefficients = now (coefficients .entry) }) (now (scratch .entry)) (now (transcript .entry)) (now (outputs .entry)) ⌝ }
+    ensures transcript { λ r. ⌜ now (transcript .exit) ≡ jointTranscript prime (record { parties = parties; circuit = now (c .entry); preps = now (preps .entry); inputs = now (inputs .entry); coefficients = now (coefficients .entry) }) (now (scratch .entry)) (now (transcript .entry)) (now (outputs .entry)) ⌝ }
+    ensures outputs { λ r. ⌜ now (outputs .exit) ≡ jointOutputs prime (record { parties = parties; circuit = now (c .entry); preps = now (preps .entry); inputs = now (inputs .entry); coefficients = now (coefficients .entry) }) (now (scratch .entry)) (now (transcript .entry)) (now (outputs .entry)) ⌝ }
+{
+    match asking::ask_joint(
+        parties,
+        c,
+        preps,
+        inputs,
+        scratch,
+        coefficients,
+        transcript.len(),
+        outputs.len(),
+    ) {
+        Verdict::Refused { number, index } => {
+            return JointAnswer::Refusal { number, index };
+        }
+        Verdict::Accepted => {}
+    }
+    let f = framing::frame_of(parties, c);
+    rounds::run(
+        f,
+        c,
+        preps,
+        inputs,
+        scratch,
+        coefficients,
+        transcript,
+        outputs,
+    )
+}

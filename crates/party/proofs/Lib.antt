@@ -11,6 +11,7 @@ pub mod Readiness
 pub mod Sent
 pub mod Received
 pub mod Keeping
+pub mod Points
 pub mod Order
 pub mod Loops
 pub mod SlotQuestions

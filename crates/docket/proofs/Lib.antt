@@ -1,0 +1,2 @@
+-- What is proved of the docket's printing.
+pub mod Few

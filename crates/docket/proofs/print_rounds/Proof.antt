@@ -1,0 +1,58 @@
+-- `docket::print_rounds` meets its contract. The place stays within the transcript. The measure is the number of gates left.
+-- Assumes nothing.
+use Prim.Native.Nat.{_-_, _/_, _≤_}
+use mathlib.Core.Path.{_≡_}
+use lib.ListN.{length}
+use borrow.Author.Needs.{needs}
+use Rattle.circuit.specs.Gate.{gateSize}
+use Rattle.docket.proofs.print_rounds.Statement.{statement}
+use Rattle.docket.proofs.print_rounds.Tie as tie
+
+abbrev Inv-loop : tie.InvT-loop
+Inv-loop c transcript count waiting₀ at₀ j₀ waiting at j = (count ≡ length c / gateSize) × (at ≤ length transcript) × (j ≤ count)
+
+abbrev μ-loop : tie.MeasureT-loop
+μ-loop c transcript count waiting₀ at₀ j₀ waiting at j = count - j
+
+loop-holds : tie.Need-loop-holds Inv-loop μ-loop
+loop-holds c = search needs
+
+gate-at-requires : tie.Need-gate-at-requires Inv-loop μ-loop
+gate-at-requires c κs = search needs
+
+print-gate-requires : tie.Need-print-gate-requires Inv-loop μ-loop
+print-gate-requires c κs = search needs
+
+is-mul-requires : tie.Need-is-mul-requires Inv-loop μ-loop
+is-mul-requires c κs = search needs
+
+is-out-requires : tie.Need-is-out-requires Inv-loop μ-loop
+is-out-requires c κs = search needs
+
+add-j : tie.Need-add-j Inv-loop μ-loop
+add-j c = search needs
+
+loop-less : tie.Need-loop-less Inv-loop μ-loop
+loop-less c = search needs
+
+loop-again : tie.Need-loop-again Inv-loop μ-loop
+loop-again c = search needs
+
+returns : tie.Need-returns Inv-loop μ-loop
+returns c = search needs
+
+pub print-rounds-spec : {M : Type 1} → statement M
+print-rounds-spec =
+    tie.close
+    (tie.spec
+    Inv-loop
+    μ-loop
+    loop-holds
+    gate-at-requires
+    print-gate-requires
+    is-mul-requires
+    is-out-requires
+    add-j
+    loop-less
+    loop-again
+    returns)

@@ -1,0 +1,124 @@
+-- The questions in groups, and what their acceptance gives.
+-- Assumes nothing.
+use Prim.Native.Nat.{ℕ, _*_, _≤_}
+use mathlib.Core.Path.{_≡_, refl, _∙_}
+use mathlib.Core.Bool.{_&&_}
+use mathlib.Core.List.{List}
+use native.Mathlib.Omega.{arith}
+use lib.ListN.{length}
+use lib.Dec.{leb, eqb}
+use borrow.Author.Tests.{leb-true, eqb-true}
+use Rattle.field.specs.Prime.{p}
+use Rattle.circuit.specs.Verdict.{Verdict, Accepted, ask, _then_, elements}
+use Rattle.circuit.specs.Count.{prepSize, inCount, outCount}
+use Rattle.circuit.specs.Round.{wordCount, coefficientCount}
+use Rattle.circuit.specs.Accept.{askCircuit}
+use Rattle.circuit.specs.Valid.{Valid}
+use Rattle.circuit.proofs.Tests.{both-left, both-right}
+use Rattle.circuit.proofs.Verdicts.{ask-true, then-left, then-right, elements-below}
+use Rattle.circuit.proofs.Valid.{valid}
+use Rattle.party.specs.Scratch.{layout, scratchSize}
+use Rattle.party.specs.Ask.{askParties, fewestParties, mostParties}
+use Rattle.party.proofs.Loops.{then-assoc}
+use Rattle.joint.specs.Joint.{Joint}
+use Rattle.joint.specs.Ask.{askJoint}
+use Rattle.joint.specs.declared.Frame.{Frame}
+use Rattle.joint.specs.Code.{Framed, Runnable}
+
+-- 1 and 3 to 7
+abbrev pub settingOf : ℕ → List ℕ → Verdict
+settingOf n c = askParties n then askCircuit n p c
+
+-- 8 to 12, of the lengths wanted
+abbrev pub listsOf : List ℕ → ℕ → List ℕ → ℕ → ℕ → ℕ → Verdict
+listsOf preps prep inputs ins room size =
+    ask 8 0 (eqb (length preps) prep)
+    then elements 9 p preps
+    then ask 10 0 (eqb (length inputs) ins)
+    then elements 11 p inputs
+    then ask 12 0 (leb size room)
+
+-- 16 to 18, of the lengths wanted
+abbrev pub roomsOf : List ℕ → ℕ → ℕ → ℕ → ℕ → ℕ → Verdict
+roomsOf coefficients draws words transcript outs outputs =
+    ask 16 0 (eqb (length coefficients) draws)
+    then elements 17 p coefficients
+    then ask 18 0 (leb words transcript && leb outs outputs)
+
+-- The groups make up the questions of the joint run.
+pub asked : (J : Joint) (l : List ℕ) (transcript outputs : ℕ) {prep ins size draws words outs : ℕ}
+    → prep ≡ J .parties * prepSize (J .circuit)
+    → ins ≡ inCount (J .circuit)
+    → size ≡ J .parties * scratchSize (layout (J .circuit))
+    → draws ≡ coefficientCount (J .circuit)
+    → words ≡ J .parties * wordCount (J .circuit)
+    → outs ≡ outCount (J .circuit)
+    → (settingOf (J .parties) (J .circuit)
+    then listsOf (J .preps) prep (J .inputs) ins (length l) size
+    then roomsOf (J .coefficients) draws words transcript outs outputs)
+    ≡ askJoint p J l transcript outputs
+unfolding askJoint
+asked J l transcript outputs e₁ e₂ e₃ e₄ e₅ e₆ = rw (e₁, e₂, e₃, e₄, e₅, e₆) (simp then-assoc)
+
+-- what acceptance of the first group gives
+pub record Settled (n : ℕ) (c : List ℕ) : Type 0 where
+  pub some : fewestParties ≤ n
+  pub few : n ≤ mostParties
+  pub valid : Valid n p c
+
+pub settled : (n : ℕ) (c : List ℕ) → settingOf n c ≡ Accepted → Settled n c
+unfolding askParties
+settled n c e =
+    let b = ask-true 1 0 (leb fewestParties n && leb n mostParties) (then-left _ _ e) in
+    record {
+      some = leb-true fewestParties n (both-left (leb fewestParties n) (leb n mostParties) b);
+      few = leb-true n mostParties (both-right (leb fewestParties n) (leb n mostParties) b);
+      valid = valid n p c (then-right _ _ e);
+    }
+
+module _ (J : Joint) (l : List ℕ) (transcript outputs : ℕ) (e : askJoint p J l transcript outputs ≡ Accepted) where
+  -- the groups, each accepted
+  whole : (settingOf (J .parties) (J .circuit)
+      then listsOf (J .preps) (J .parties * prepSize (J .circuit)) (J .inputs) (inCount (J .circuit)) (length l) (J .parties * scratchSize (layout (J .circuit)))
+      then roomsOf (J .coefficients) (coefficientCount (J .circuit)) (J .parties * wordCount (J .circuit)) transcript (outCount (J .circuit)) outputs)
+      ≡ Accepted
+  whole = asked J l transcript outputs refl refl refl refl refl refl ∙ e
+
+  pub accepted-setting : Settled (J .parties) (J .circuit)
+  accepted-setting = settled (J .parties) (J .circuit) (then-left _ _ whole)
+
+  lists : listsOf (J .preps) (J .parties * prepSize (J .circuit)) (J .inputs) (inCount (J .circuit)) (length l) (J .parties * scratchSize (layout (J .circuit))) ≡ Accepted
+  lists = then-left _ _ (then-right _ _ whole)
+
+  rooms : roomsOf (J .coefficients) (coefficientCount (J .circuit)) (J .parties * wordCount (J .circuit)) transcript (outCount (J .circuit)) outputs ≡ Accepted
+  rooms = then-right _ _ (then-right _ _ whole)
+
+  -- What acceptance gives.
+  pub accepted-runnable : (f : Frame) (t o : List ℕ) → Framed (J .parties) (J .circuit) f → transcript ≡ length t → outputs ≡ length o → Runnable J f l t o
+  accepted-runnable f t o framed et eo =
+      let l₈ = lists in
+      let l₉ = then-right _ _ l₈ in
+      let l₁₀ = then-right _ _ l₉ in
+      let l₁₁ = then-right _ _ l₁₀ in
+      let r₁₇ = then-right _ _ rooms in
+      let b = ask-true 18 0 (leb (J .parties * wordCount (J .circuit)) transcript && leb (outCount (J .circuit)) outputs) (then-right _ _ r₁₇) in
+      record {
+        lent =
+            record {
+              framed = framed;
+              some = accepted-setting .some;
+              few = accepted-setting .few;
+              valid = accepted-setting .valid;
+              preps-long = eqb-true _ _ (ask-true 8 0 _ (then-left _ _ l₈));
+              preps-low = elements-below 9 p (J .preps) (omega arith) (then-left _ _ l₉);
+              inputs-long = eqb-true _ _ (ask-true 10 0 _ (then-left _ _ l₁₀));
+              inputs-low = elements-below 11 p (J .inputs) (omega arith) (then-left _ _ l₁₁);
+            };
+        room =
+            rw (framed .scratch)
+            (leb-true (J .parties * scratchSize (layout (J .circuit))) (length l) (ask-true 12 0 (leb (J .parties * scratchSize (layout (J .circuit))) (length l)) (then-right _ _ l₁₁)));
+        draws = eqb-true _ _ (ask-true 16 0 _ (then-left _ _ rooms));
+        draws-low = elements-below 17 p (J .coefficients) (omega arith) (then-left _ _ r₁₇);
+        words-fit = rw et at (leb-true (J .parties * wordCount (J .circuit)) transcript (both-left (leb (J .parties * wordCount (J .circuit)) transcript) (leb (outCount (J .circuit)) outputs) b));
+        outputs-fit = rw eo at (leb-true (outCount (J .circuit)) outputs (both-right (leb (J .parties * wordCount (J .circuit)) transcript) (leb (outCount (J .circuit)) outputs) b));
+      }

@@ -1,0 +1,98 @@
+-- A round leaves what the next round asks.
+-- Assumes nothing.
+use Prim.Native.Nat.{ℕ, _+_, _<_, _≤_}
+use mathlib.Core.Path.{_≡_, ap}
+use mathlib.Core.Bool.{true}
+use mathlib.Core.List.{List}
+use native.Mathlib.Omega.{arith}
+use lib.ListN.{length}
+use Rattle.field.specs.Prime.{prime}
+use Rattle.circuit.specs.Gate.{gates}
+use Rattle.circuit.specs.Count.{unchecked}
+use Rattle.circuit.specs.Round.{Round, rounds, among, coefficientsIn}
+use Rattle.party.specs.Position.{Point, Send, stageOccurs}
+use Rattle.party.specs.Receive.{next, received}
+use Rattle.party.specs.Code.{pointOf, Sited, Ready}
+use Rattle.party.proofs.Following.{Possible, next-possible}
+use Rattle.party.proofs.Points.{FitsStage}
+use Rattle.party.proofs.Keeping.{received-stands, ready-next}
+use Rattle.joint.specs.Joint.{Joint, band, party}
+use Rattle.joint.specs.Run.{said, step}
+use Rattle.joint.specs.declared.Frame.{Frame}
+use Rattle.joint.specs.declared.Course.{Course}
+use Rattle.joint.specs.Code.{siteOf, stateOf, Going, Turned}
+
+module _ (J : Joint) (f : Frame) (s : Course) (r : Round) (l : List ℕ) (g : Going J f s r l) where
+  -- the words of all in this round
+  abbrev pub heardIn : List ℕ
+  heardIn = said prime J (stateOf f s l) r
+
+  abbrev pub nextIn : Point
+  nextIn = next prime (J .parties) (J .circuit) (s .point .gate) r heardIn
+
+  first : 0 < J .parties
+  first = omega (arith, g .lent .some)
+
+  -- the gate is there, and the round is one of its rounds
+  pub within : s .point .gate < gates (J .circuit)
+  unfolding siteOf party
+  within = g .ready 0 first .sited .within
+
+  pub occurs : among r (rounds (J .circuit) (s .point .gate)) ≡ true
+  unfolding siteOf party
+  occurs = g .ready 0 first .occurs
+
+  pub next-there : Possible (J .circuit) nextIn
+  next-there = next-possible (J .circuit) prime (J .parties) (s .point .gate) heardIn r occurs within
+
+  module _ {t o : List ℕ} {s′ : Course} {l′ t′ o′ : List ℕ} (d : Turned J f s r l t o s′ l′ t′ o′) where
+    -- where the round leads
+    pub point-is : pointOf (s′ .point) ≡ nextIn
+    unfolding stateOf step pointOf
+    point-is = d .alike .point
+
+    gate-is : s′ .point .gate ≡ nextIn .gate
+    unfolding pointOf
+    gate-is = ap (λ (x : Point). x .gate) point-is
+
+    -- which is a round of a gate, if it is one
+    pub next-fits : (r′ : Round) → nextIn .stage ≡ Send r′ → FitsStage (J .circuit) (s′ .point .gate) (Send r′)
+    unfolding stageOccurs
+    next-fits r′ e = (omega (arith, gate-is, next-there .within), rw gate-is (rw e at (next-there .occurs)))
+
+    sited : (i : ℕ) → i < J .parties → Sited (J .circuit) i (siteOf s′ i)
+    unfolding siteOf
+    sited i h =
+        record {
+          within = omega (arith, gate-is, next-there .within);
+          prep = d .tallied i h .prep;
+          unchecked = d .tallied i h .unchecked;
+          input = d .tallied i h .inputs;
+        }
+
+    received-is : (i : ℕ) → i < J .parties → band (f .scratch) l′ i ≡ received prime (party J i) (band (f .scratch) l i) (s .point .gate) r heardIn
+    unfolding stateOf step pointOf
+    received-is i h = d .alike .scratch i h
+
+    ready-then : (r′ : Round) → nextIn .stage ≡ Send r′ → (i : ℕ) → i < J .parties → Ready (party J i) (band (f .scratch) l′ i) (f .layout) (siteOf s′ i) r′
+    unfolding siteOf party
+    ready-then r′ e i h =
+        ready-next (party J i) (band (f .scratch) l i) (band (f .scratch) l′ i) (f .layout) (siteOf s i) (siteOf s′ i) r r′ nextIn (g .ready i h)
+        (rw (received-is i h) (received-stands (party J i) (band (f .scratch) l i) (f .layout) (siteOf s i) heardIn r (g .ready i h)))
+        (next-there .occurs) (sited i h) gate-is e
+
+    -- what the next round asks, if there is one and the coefficients last
+    pub going-next : (r′ : Round) → nextIn .stage ≡ Send r′
+        → s′ .used + coefficientsIn (unchecked (J .circuit) (s′ .point .gate)) r′ ≤ length (J .coefficients)
+        → Going J f s′ r′ l′
+    going-next r′ e draws =
+        record {
+          lent = g .lent;
+          room = omega (arith, g .room, d .long);
+          eight = d .eight;
+          tallied = d .tallied;
+          held-low = d .held-low;
+          ready = ready-then r′ e;
+          draws = draws;
+          draws-low = g .draws-low;
+        }

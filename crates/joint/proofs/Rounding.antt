@@ -1,0 +1,223 @@
+-- One round of all parties: what its parts ask is there, and together they leave what is defined.
+-- Assumes nothing.
+use Prim.Native.Nat.{ℕ, _+_, _-_, _*_, _<_, _≤_}
+use mathlib.Core.Path.{_≡_, refl, sym, ap, subst, _∙_}
+use mathlib.Core.Bool.{true}
+use mathlib.Core.List.{List, _++_}
+use native.Mathlib.Nat.{add-sub-cancel-left}
+use native.Mathlib.Omega.{arith}
+use lib.ListN.{length, getD, take, drop, length-append, length-drop}
+use lib.Seq.{length-take-le, take-at, drop-at, drop-drop}
+use borrow.Rule.Slice.PartMut.{putMid}
+use Rattle.field.specs.Prime.{prime, Is}
+use Rattle.circuit.specs.Gate.{gateSize, gate}
+use Rattle.circuit.specs.Count.{unchecked}
+use Rattle.circuit.specs.Round.{Round, Input, Multiply, CommitOpened, RevealOpened, OpenOutput, CommitOutput, RevealOutput, words, coefficientsIn}
+use Rattle.circuit.specs.Accept.{mostGates}
+use Rattle.circuit.specs.Code.{Tallied}
+use Rattle.circuit.specs.declared.Tally.{Tally}
+use Rattle.circuit.proofs.Tests.{false-no}
+use Rattle.party.specs.Ask.{mostParties}
+use Rattle.party.specs.Position as P
+use Rattle.party.specs.Party.{Party}
+use Rattle.party.specs.Receive.{next, received}
+use Rattle.party.specs.Entry.{releases}
+use Rattle.party.specs.declared.Site.{Site}
+use Rattle.party.specs.declared.Point.{Point}
+use Rattle.party.specs.Code.{pointOf, Below, Ready, Receives}
+use Rattle.joint.specs.Joint.{Joint, joined, band, party}
+use Rattle.joint.specs.Run.{takes, said, step, released}
+use Rattle.joint.specs.declared.Frame.{Frame}
+use Rattle.joint.specs.declared.Course.{Course}
+use Rattle.joint.specs.Code.{tallyOf, siteOf, stateOf, Framed, Lent, saidBy, receivedBy, freed, writtenAt, Turning, Turned}
+use Rattle.joint.proofs.Words.{length-joined}
+use Rattle.joint.proofs.Bands.{band-end, band-front, band-joined}
+use Rattle.joint.proofs.Said.{length-said, below-joined, sent-low}
+use Rattle.joint.proofs.Parties.{undrawn, party-undrawn, lent-undrawn}
+use Rattle.joint.proofs.Written.{written-length}
+use Rattle.joint.proofs.Going.{within, occurs, nextIn, next-there}
+use Rattle.joint.proofs.Rows.{gate-fits, each-band}
+use Rattle.joint.proofs.Later.{next-later}
+
+-- a part of a list that comes back as ws holds ws, and the list is as long as before
+module _ (t ws : List ℕ) (a m : ℕ) (fits : a + m ≤ length t) (len : length ws ≡ m) where
+  part-again : take (a + m - a) (drop a (putMid a (a + m - a) t ws)) ≡ ws
+  part-again =
+      rw (add-sub-cancel-left a m, drop-at (take a t) (ws ++ drop m (drop a t)) a (length-take-le a t (omega arith)), take-at ws (drop m (drop a t)) m len)
+
+  put-written : putMid a (a + m - a) t ws ≡ writtenAt a ws t
+  put-written = rw (add-sub-cancel-left a m, drop-drop m a t, len)
+
+-- the round that releases has one word
+released-words : (c : List ℕ) (j : ℕ) (r : Round) → releases r ≡ true → words (gate c j) r ≡ 1
+unfolding releases words
+released-words c j Input e = false-no e
+released-words c j Multiply e = false-no e
+released-words c j CommitOpened e = refl
+released-words c j RevealOpened e = refl
+released-words c j OpenOutput e = false-no e
+released-words c j CommitOutput e = refl
+released-words c j RevealOutput e = refl
+
+module _ {J : Joint} {f : Frame} {s : Course} {r : Round} {l t o : List ℕ} (u : Turning J f s r l t o) {at : Site} (e : at ≡ siteOf s 0) where
+  -- the words of all in this round
+  abbrev saidHere : List ℕ
+  saidHere = said prime J (stateOf f s l) r
+
+  at-gate : at .gate ≡ s .point .gate
+  unfolding siteOf
+  at-gate = ap (λ (x : Site). x .gate) e
+
+  pub round-gate : gateSize * (at .gate) + gateSize ≤ length (J .circuit)
+  round-gate = rw at-gate (gate-fits J f s r l (u .going))
+
+  module _ {k : ℕ} (w : k ≡ words (gate (J .circuit) (at .gate)) r) where
+    k-is : k ≡ words (gate (J .circuit) (s .point .gate)) r
+    k-is = w ∙ ap (λ (j : ℕ). words (gate (J .circuit) j) r) at-gate
+
+    pub round-end : s .written + J .parties * k ≤ length t
+    round-end = rw k-is (u .words-fit)
+
+    pub round-room : length (take (s .written + J .parties * k - s .written) (drop (s .written) t)) ≡ J .parties * words (gate (J .circuit) (s .point .gate)) r
+    round-room =
+        rw (add-sub-cancel-left (s .written) (J .parties * k))
+        (length-take-le (J .parties * k) (drop (s .written) t) (simp length-drop (omega (arith, round-end))) ∙ ap (λ (x : ℕ). J .parties * x) k-is)
+
+    said-long : length saidHere ≡ J .parties * k
+    unfolding stateOf pointOf
+    said-long = length-said J (stateOf f s l) r (occurs J f s r l (u .going)) ∙ ap (λ (x : ℕ). J .parties * x) (sym k-is)
+
+    said-low : Below saidHere
+    unfolding said stateOf siteOf pointOf
+    said-low =
+        below-joined (J .parties) (saidBy J (stateOf f s l) r)
+        (λ i h. sent-low (party J i) (band (f .scratch) l i) (f .layout) (siteOf s i) (getD (s .held) i 0) r (u .going .ready i h) (u .going .held-low i h))
+
+    -- the parties have sent: ws came back
+    module _ {ws : List ℕ} (d : ws ≡ saidHere) where
+      abbrev sentTo : List ℕ
+      sentTo = putMid (s .written) (s .written + J .parties * k - s .written) t ws
+
+      abbrev heardOf : List ℕ
+      heardOf = take (s .written + J .parties * k - s .written) (drop (s .written) sentTo)
+
+      heard-is : heardOf ≡ saidHere
+      heard-is = part-again t ws (s .written) (J .parties * k) round-end (ap length d ∙ said-long) ∙ d
+
+      sent-to : sentTo ≡ writtenAt (s .written) saidHere t
+      sent-to = put-written t ws (s .written) (J .parties * k) round-end (ap length d ∙ said-long) ∙ ap (λ (x : List ℕ). writtenAt (s .written) x t) d
+
+      pub round-long : length sentTo ≡ length t
+      round-long = ap length sent-to ∙ written-length (s .written) saidHere t (omega (arith, said-long, round-end))
+
+      first : 0 < J .parties
+      first = omega (arith, u .going .lent .some)
+
+      -- what the release of an output asks
+      pub round-releases : Framed (J .parties) (J .circuit) f
+          × (f .scratch ≤ length l)
+          × Below heardOf
+          × (s .released ≤ length o)
+          × (releases r ≡ true → (J .parties ≤ length heardOf) × (s .released < length o))
+      round-releases = (
+        u .going .lent .framed,
+        omega (arith, band-end (J .parties) (f .scratch) 0 first, u .going .room),
+        rw heard-is said-low,
+        u .outputs-upto,
+        λ h. (rw heard-is (omega (arith, said-long, ap (λ (x : ℕ). J .parties * x) (k-is ∙ released-words (J .circuit) (s .point .gate) r h))), u .outputs-fit h),
+      )
+
+      -- what receiving asks
+      receives : (i : ℕ) → i < J .parties → Receives (party (undrawn J) i) (band (f .scratch) l i) (f .layout) (siteOf s i) r heardOf
+      unfolding siteOf party
+      receives i h =
+          rw heard-is
+          (record {
+            ready = subst (λ (P : Party). Ready P (band (f .scratch) l i) (f .layout) (siteOf s i) r) (party-undrawn J i) (u .going .ready i h);
+            whole = said-long ∙ ap (λ (x : ℕ). J .parties * x) k-is;
+            heard-low = said-low;
+          })
+
+      pub round-receives : Lent (undrawn J) f
+          × (J .parties * f .scratch ≤ length l)
+          × ((i : ℕ) → i < J .parties → Receives (party (undrawn J) i) (band (f .scratch) l i) (f .layout) (siteOf s i) r heardOf)
+      round-receives = (lent-undrawn (u .going .lent), u .going .room, receives)
+
+      -- the parties have received: they came to the point x
+      module _ (x : Point) (ex : pointOf x ≡ next prime (J .parties) (J .circuit) (s .point .gate) r heardOf) where
+        point-is : pointOf x ≡ nextIn J f s r l (u .going)
+        point-is = ex ∙ ap (next prime (J .parties) (J .circuit) (s .point .gate) r) heard-is
+
+        gate-is : x .gate ≡ nextIn J f s r l (u .going) .gate
+        unfolding pointOf
+        gate-is = ap (λ (z : P.Point). z .gate) point-is
+
+        -- what counting on asks
+        pub round-advances : (J .parties ≤ mostParties)
+            × (at .gate ≤ x .gate)
+            × (gateSize * (x .gate) ≤ length (J .circuit))
+            × (x .gate ≤ mostGates)
+            × (length (s .tallies) ≡ mostParties)
+            × ((i : ℕ) → i < J .parties → Tallied (J .circuit) i (at .gate) (tallyOf (s .tallies) i))
+        round-advances =
+            let b = next-there J f s r l (u .going) .within in (
+              u .going .lent .few,
+              omega (arith, at-gate, gate-is, next-later (J .circuit) (J .parties) (s .point .gate) r saidHere (within J f s r l (u .going))),
+              omega (arith, gate-is, b, u .going .lent .valid .whole),
+              omega (arith, gate-is, b, u .going .lent .valid .few),
+              u .going .eight,
+              λ i h. rw at-gate (u .going .tallied i h),
+            )
+
+        module _ (held : List ℕ) (eh : (i : ℕ) → i < J .parties → Is (step prime J (stateOf f s l) r .held i) (getD held i 0))
+            {l′ : List ℕ} (el : l′ ≡ joined (J .parties) (receivedBy (undrawn J) (stateOf f s l) r heardOf) ++ drop (J .parties * f .scratch) l)
+            (ts : List Tally) (et : (length ts ≡ mostParties) × ((i : ℕ) → i < J .parties → Tallied (J .circuit) i (x .gate) (tallyOf ts i)))
+            {kd : ℕ} (ed : kd ≡ coefficientsIn (at .unchecked) r)
+            {ko : ℕ} {o′ : List ℕ}
+            (eo : (ko ≡ s .released + length (freed (J .parties) (J .circuit) r (band (f .scratch) l 0) heardOf))
+            × (o′ ≡ writtenAt (s .released) (freed (J .parties) (J .circuit) r (band (f .scratch) l 0) heardOf) o)) where
+          front : length (joined (J .parties) (receivedBy (undrawn J) (stateOf f s l) r heardOf)) ≡ J .parties * f .scratch
+          front = length-joined (J .parties) (f .scratch) _ (each-band (undrawn J) f s r heardOf l (u .going .room) receives)
+
+          bands : (i : ℕ) → i < J .parties → band (f .scratch) l′ i ≡ step prime J (stateOf f s l) r .scratch i
+          unfolding step stateOf pointOf
+          bands i h =
+              ap (λ (z : List ℕ). band (f .scratch) z i) el
+              ∙ band-front (f .scratch) (J .parties) _ (drop (J .parties * f .scratch) l) front i h
+              ∙ band-joined (f .scratch) (J .parties) _ (each-band (undrawn J) f s r heardOf l (u .going .room) receives) i h
+              ∙ ap (λ (P : Party). received prime P (band (f .scratch) l i) (s .point .gate) r heardOf) (sym (party-undrawn J i))
+              ∙ ap (received prime (party J i) (band (f .scratch) l i) (s .point .gate) r) heard-is
+
+          freed-is : freed (J .parties) (J .circuit) r (band (f .scratch) l 0) heardOf ≡ released prime J (stateOf f s l) r
+          unfolding released stateOf
+          freed-is = rw heard-is
+
+          drawn-is : kd ≡ takes prime J (stateOf f s l) r
+          unfolding takes stateOf siteOf pointOf
+          drawn-is = ed ∙ ap (λ (z : Site). coefficientsIn (z .unchecked) r) e ∙ ap (λ (v : ℕ). coefficientsIn v r) (u .going .tallied 0 first .unchecked)
+
+          -- what the round leaves
+          pub round-turned : Turned J f s r l t o
+              (record { point = x; tallies = ts; held = held; used = s .used + kd; written = s .written + J .parties * k; released = ko; rounds = s .rounds + 1 })
+              l′ sentTo o′
+          unfolding stateOf
+          round-turned =
+              record {
+                alike =
+                    record {
+                      point = point-is ∙ (unfold step pointOf in refl);
+                      held = λ i h. eh i h .is;
+                      scratch = bands;
+                      used = unfold step in ap (λ (v : ℕ). s .used + v) drawn-is;
+                    };
+                eight = et .0;
+                tallied = et .1;
+                held-low = λ i h. eh i h .below;
+                long = ap length el ∙ rw (length-append, front, length-drop) (omega (arith, u .going .room));
+                excess = ap (drop (J .parties * f .scratch)) el ∙ drop-at (joined (J .parties) (receivedBy (undrawn J) (stateOf f s l) r heardOf)) (drop (J .parties * f .scratch) l) (J .parties * f .scratch) front;
+                transcript = sent-to;
+                outputs = eo .1 ∙ ap (λ (v : List ℕ). writtenAt (s .released) v o) freed-is;
+                written = ap (λ (v : ℕ). s .written + v) (sym said-long);
+                given = eo .0 ∙ ap (λ (v : List ℕ). s .released + length v) freed-is;
+                rounds = refl;
+              }

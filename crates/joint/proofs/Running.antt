@@ -1,0 +1,447 @@
+-- The run: round after round, what is written so far and the run that remains make up the whole run.
+-- Assumes nothing.
+use Prim.Native.Nat.{ℕ, zero, suc, _+_, _-_, _*_, _<_, _≤_}
+use mathlib.Core.Path.{_≡_, refl, sym, ap, subst, _∙_}
+use mathlib.Core.Bool.{Bool, true, false, cond, _&&_}
+use mathlib.Core.List.{List, [], _∷_, _++_, append-assoc, append-nil}
+use native.Mathlib.Nat.{mul-le-mul-left, mul-add}
+use native.Mathlib.Omega.{arith}
+use lib.ListN.{length, drop}
+use Rattle.field.specs.Prime.{p, prime}
+use Rattle.circuit.specs.Gate.{gate, gates}
+use Rattle.circuit.specs.Count.{unchecked}
+use Rattle.circuit.specs.Round.{Round, Input, isCommit, words, openedIn, coefficientsIn, overRun, wordCount, coefficientCount}
+use Rattle.party.specs.Scratch.{layout, scratchSize}
+use Rattle.party.specs.Position.{Point, Stage, Send, Receive, Finished, Aborted, aborted, follow, start, whenSending}
+use Rattle.party.specs.Receive.{passes, next}
+use Rattle.party.specs.Entry.{releases, overwrite}
+use Rattle.party.specs.Code.{pointOf, stageOf, Ready}
+use Rattle.party.proofs.Following.{start-is}
+use Rattle.party.proofs.Points.{FitsStage, spent, sending, spent-follow, Goes, goes-start}
+use Rattle.joint.specs.Joint.{Joint, joined, band, party}
+use Rattle.joint.specs.Run.{State, Run, said, step, released, takes, begun, still, ahead, run, mostRounds, whole}
+use Rattle.joint.specs.Entry as E
+use Rattle.joint.specs.declared.JointAnswer.{JointAnswer}
+use Rattle.joint.specs.declared.Frame.{Frame}
+use Rattle.joint.specs.declared.Course.{Course}
+use Rattle.joint.specs.Code.{jointAnswerOf, stateOf, writtenAt, Going, Turning, Alike, Turned, Started, Runnable, Ran, siteOf}
+use Rattle.joint.proofs.Words.{length-band, joined-ext}
+use Rattle.joint.proofs.Written.{Written, written-more, written-le, written-length, written-done}
+use Rattle.joint.proofs.Bands.{joined-bands}
+use Rattle.joint.proofs.Said.{length-said}
+use Rattle.joint.proofs.Parties.{party-prep, party-prep-low, party-inputs, party-inputs-low}
+use Rattle.joint.proofs.Spending.{spent-within, rounds-le, outputs-all}
+use Rattle.joint.proofs.States.{said-alike, released-alike, step-alike, alike-then}
+use Rattle.joint.proofs.Going.{heardIn, nextIn, within, occurs, point-is, next-fits, going-next}
+
+-- A run goes on with a round at a sending half ..
+run-goes : (J : Joint) (k : ℕ) (s : State) (r : Round) → s .point .stage ≡ Send r → run prime J (suc k) s ≡ ahead prime J s r (run prime J k (step prime J s r))
+unfolding run whenSending
+run-goes J k s r e = rw e
+
+-- .. and is over where nothing is sent.
+abbrev Over : Stage → Type 1
+Over x = (A : Type 0) (a : A) (g : Round → A) → whenSending x a g ≡ a
+
+over-of : (x : Stage) → ((r : Round) → x ≡ Send r → ⊥) → Over x
+unfolding whenSending
+over-of (Send r) h A a g = absurd (h r refl)
+over-of (Receive r) h A a g = refl
+over-of Finished h A a g = refl
+over-of Aborted h A a g = refl
+
+run-over : (J : Joint) (k : ℕ) (s : State) → Over (s .point .stage) → run prime J k s ≡ still prime J s
+unfolding run
+run-over J zero s h = refl
+run-over J (suc k) s h = h Run _ _
+
+-- Only a round that stops no run leads to a sending half.
+module _ (n : ℕ) (c : List ℕ) (j : ℕ) (r : Round) (heard : List ℕ) (r′ : Round) (e : next prime n c j r heard .stage ≡ Send r′) where
+  next-passed : passes prime n r heard ≡ true
+  unfolding next aborted
+  next-passed = go (passes prime n r heard) e
+    where
+      go : (b : Bool) → cond b (follow c j r) (aborted j) .stage ≡ Send r′ → b ≡ true
+      go true h = refl
+      go false h = let z : _≡_ {A = ℕ} 0 1 = cc in absurd (omega arith)
+
+  next-follows : next prime n c j r heard ≡ follow c j r
+  unfolding next
+  next-follows = rw next-passed
+
+-- A round that releases has room for one output, and another needs none.
+module _ (J : Joint) (s : State) (r : Round) where
+  released-fits : (k m : ℕ) → k ≤ m → (releases r ≡ true → k < m) → k + length (released prime J s r) ≤ m
+  unfolding released
+  released-fits k m h g = go (releases r) (passes prime (J .parties) r (said prime J s r)) _ g
+    where
+      go : (a b : Bool) (x : ℕ) → (a ≡ true → k < m) → k + length (cond (a && b) (x ∷ []) []) ≤ m
+      go true true x g = omega (arith, g refl)
+      go true false x g = omega arith
+      go false b x g = omega arith
+
+  released-one : passes prime (J .parties) r (said prime J s r) ≡ true → length (released prime J s r) ≡ cond (releases r) 1 0
+  unfolding released
+  released-one e = rw e (go (releases r) _)
+    where
+      go : (a : Bool) (x : ℕ) → length (cond (a && true) (x ∷ []) []) ≡ cond a 1 0
+      go true x = refl
+      go false x = refl
+
+-- what a round takes: one round, the words of a party, coefficients, and outputs where it is not stopped
+abbrev one : ℕ → Round → ℕ
+one j r = 1
+
+abbrev wordsOf : List ℕ → ℕ → Round → ℕ
+wordsOf c j r = words (gate c j) r
+
+abbrev drawsOf : List ℕ → ℕ → Round → ℕ
+drawsOf c j r = coefficientsIn (unchecked c j) r
+
+abbrev outputOf : ℕ → Round → ℕ
+outputOf j r = cond (releases r) 1 0
+
+module _ (J : Joint) (f : Frame) where
+  -- round r is due: what it asks is there, and what lies behind it is used up. That many rounds may still be made
+  pub record DueRound (s : Course) (l : List ℕ) (left : ℕ) (r : Round) : Type 0 where
+    pub going : Going J f s r l
+    pub fuel : s .rounds + left ≡ mostRounds prime J * gates (J .circuit)
+    pub rounds : s .rounds ≡ spent (J .circuit) one (sending (s .point .gate) r)
+    pub written : s .written ≡ J .parties * spent (J .circuit) (wordsOf (J .circuit)) (sending (s .point .gate) r)
+    pub used : s .used ≡ spent (J .circuit) (drawsOf (J .circuit)) (sending (s .point .gate) r)
+    pub given : s .released ≡ spent (J .circuit) outputOf (sending (s .point .gate) r)
+
+  abbrev pub Due : Course → List ℕ → ℕ → Stage → Type 0
+  Due s l left (Send r) = DueRound s l left r
+  Due s l left (Receive r) = Unit {0}
+  Due s l left Finished = Unit {0}
+  Due s l left Aborted = Unit {0}
+
+  module _ (l₀ t₀ o₀ : List ℕ) where
+    -- between two rounds: the state is st, ws and vs are the words and outputs so far, and the run from st on makes up the whole
+    pub record Running (s : Course) (l t o : List ℕ) : Type 0 where
+      pub st : State
+      pub alike : Alike (J .parties) (stateOf f s l) st
+      pub left : ℕ
+      pub ws : List ℕ
+      pub vs : List ℕ
+      pub long : length l ≡ length l₀
+      pub long-t : length t ≡ length t₀
+      pub long-o : length o ≡ length o₀
+      pub excess : drop (J .parties * f .scratch) l ≡ drop (J .parties * f .scratch) l₀
+      pub words : Written t₀ t (s .written) ws
+      pub outs : Written o₀ o (s .released) vs
+      pub transcript : whole prime J l₀ .transcript ≡ ws ++ run prime J left st .transcript
+      pub outputs : whole prime J l₀ .outputs ≡ vs ++ run prime J left st .outputs
+      pub rounds : whole prime J l₀ .rounds ≡ s .rounds + run prime J left st .rounds
+      pub last : whole prime J l₀ .last ≡ run prime J left st .last
+      pub due : Due s l left (stageOf (s .point .stage))
+
+    module _ (able : Runnable J f l₀ t₀ o₀) {s : Course} {l t o : List ℕ} (inv : Running s l t o) (r : Round) (e : stageOf (s .point .stage) ≡ Send r) where
+      due-is : DueRound s l (inv .left) r
+      due-is = subst (Due s l (inv .left)) e (inv .due)
+
+      fits : FitsStage (J .circuit) (s .point .gate) (Send r)
+      fits = (within J f s r l (due-is .going), occurs J f s r l (due-is .going))
+
+      -- there are rounds left
+      pub rounds-left : s .rounds < mostRounds prime J * gates (J .circuit)
+      rounds-left = omega (arith, due-is .rounds, spent-within (J .circuit) one (s .point .gate) r fits, rounds-le (J .circuit))
+
+      words-left : s .written + J .parties * words (gate (J .circuit) (s .point .gate)) r ≤ length t
+      unfolding wordCount
+      words-left =
+          omega (
+            arith,
+            due-is .written,
+            mul-add (J .parties) (spent (J .circuit) (wordsOf (J .circuit)) (sending (s .point .gate) r)) (words (gate (J .circuit) (s .point .gate)) r),
+            mul-le-mul-left (J .parties) (spent-within (J .circuit) (wordsOf (J .circuit)) (s .point .gate) r fits),
+            able .words-fit,
+            inv .long-t,
+          )
+
+      outputs-left : releases r ≡ true → s .released < length o
+      outputs-left h =
+          let z : _≡_ {A = ℕ} (cond (releases r) 1 0) 1 = rw h in
+          omega (arith, due-is .given, spent-within (J .circuit) outputOf (s .point .gate) r fits, outputs-all (J .circuit), able .outputs-fit, inv .long-o)
+
+      -- the round is asked what it may ask
+      pub running-turning : Turning J f s r l t o
+      running-turning = record { going = due-is .going; words-fit = words-left; outputs-upto = written-le (inv .outs) (inv .long-o); outputs-fit = outputs-left; rounds-few = rounds-left }
+
+      module _ {s′ : Course} {l′ t′ o′ : List ℕ} (d : Turned J f s r l t o s′ l′ t′ o′) where
+        c : List ℕ
+        c = J .circuit
+
+        j : ℕ
+        j = s .point .gate
+
+        -- what is said and released, in the state of the run
+        said-is : said prime J (stateOf f s l) r ≡ said prime J (inv .st) r
+        said-is = said-alike J (stateOf f s l) (inv .st) r (inv .alike)
+
+        released-is : released prime J (stateOf f s l) r ≡ released prime J (inv .st) r
+        released-is = released-alike J (stateOf f s l) (inv .st) r (inv .alike) (omega (arith, able .lent .some))
+
+        -- how many words were said, and where the round led
+        said-many : length (said prime J (stateOf f s l) r) ≡ J .parties * words (gate (J .circuit) (s .point .gate)) r
+        unfolding stateOf pointOf
+        said-many = length-said J (stateOf f s l) r (fits .1)
+
+        outputs-length : length o′ ≡ length o
+        outputs-length =
+            ap length (d .outputs)
+            ∙ written-length (s .released) (released prime J (stateOf f s l) r) o
+            (released-fits J (stateOf f s l) r (s .released) (length o) (written-le (inv .outs) (inv .long-o)) outputs-left)
+
+        transcript-length : length t′ ≡ length t
+        transcript-length =
+            ap length (d .transcript)
+            ∙ written-length (s .written) (said prime J (stateOf f s l) r) t (omega (arith, words-left, said-many))
+
+        -- the run from here on is the round and the run after it
+        rest : ℕ
+        rest = inv .left - 1
+
+        rest-is : inv .left ≡ suc rest
+        unfolding rest
+        rest-is = omega (arith, due-is .fuel, rounds-left)
+
+        st-sends : inv .st .point .stage ≡ Send r
+        unfolding stateOf pointOf
+        st-sends = ap (λ (x : Point). x .stage) (sym (inv .alike .point)) ∙ e
+
+        run-is : run prime J (inv .left) (inv .st) ≡ ahead prime J (inv .st) r (run prime J rest (step prime J (inv .st) r))
+        run-is = ap (λ (k : ℕ). run prime J k (inv .st)) rest-is ∙ run-goes J rest (inv .st) r st-sends
+
+        -- what lies behind the next round
+        module _ (r′ : Round) (e′ : nextIn J f s r l (due-is .going) .stage ≡ Send r′) where
+          spent-next : (h : ℕ → Round → ℕ) → spent (J .circuit) h (sending (s′ .point .gate) r′) ≡ spent (J .circuit) h (sending (s .point .gate) r) + h (s .point .gate) r
+          unfolding pointOf
+          spent-next h =
+              ap (λ (x : Point). spent (J .circuit) h x) there
+              ∙ spent-follow (J .circuit) h (s .point .gate) r fits
+            where
+              there : _≡_ {A = Point} (record { gate = s′ .point .gate; stage = Send r′ }) (follow (J .circuit) (s .point .gate) r)
+              there =
+                  ap (λ (x : Point). record { gate = x .gate; stage = Send r′ }) (point-is J f s r l (due-is .going) d)
+                  ∙ ap (λ (z : Stage). record { gate = nextIn J f s r l (due-is .going) .gate; stage = z }) (sym e′)
+                  ∙ next-follows (J .parties) (J .circuit) (s .point .gate) r (heardIn J f s r l (due-is .going)) r′ e′
+
+          fits-next : FitsStage (J .circuit) (s′ .point .gate) (Send r′)
+          fits-next = next-fits J f s r l (due-is .going) d r′ e′
+
+          used-next : s′ .used ≡ spent (J .circuit) (drawsOf (J .circuit)) (sending (s′ .point .gate) r′)
+          unfolding stateOf step takes pointOf
+          used-next = d .alike .used ∙ omega (arith, due-is .used, spent-next (drawsOf (J .circuit)))
+
+          due-next : DueRound s′ l′ rest r′
+          unfolding coefficientCount
+          due-next =
+              record {
+                going =
+                    going-next J f s r l (due-is .going) d r′ e′
+                    (omega (arith, used-next, spent-within (J .circuit) (drawsOf (J .circuit)) (s′ .point .gate) r′ fits-next, able .draws));
+                fuel = omega (arith, due-is .fuel, d .rounds, rest-is);
+                rounds = omega (arith, d .rounds, due-is .rounds, spent-next one);
+                written =
+                    omega (
+                      arith,
+                      d .written,
+                      due-is .written,
+                      said-many,
+                      mul-add (J .parties) (spent (J .circuit) (wordsOf (J .circuit)) (sending (s .point .gate) r)) (words (gate (J .circuit) (s .point .gate)) r),
+                      ap (λ (k : ℕ). J .parties * k) (spent-next (wordsOf (J .circuit))),
+                    );
+                used = used-next;
+                given =
+                    omega (
+                      arith,
+                      d .given,
+                      due-is .given,
+                      spent-next outputOf,
+                      released-one J (stateOf f s l) r (next-passed (J .parties) (J .circuit) (s .point .gate) r (heardIn J f s r l (due-is .going)) r′ e′),
+                    );
+              }
+
+        due-then : Due s′ l′ rest (stageOf (s′ .point .stage))
+        unfolding pointOf
+        due-then = rw (ap (λ (x : Point). x .stage) (point-is J f s r l (due-is .going) d)) (go (nextIn J f s r l (due-is .going) .stage) refl)
+          where
+            go : (x : Stage) → nextIn J f s r l (due-is .going) .stage ≡ x → Due s′ l′ rest x
+            go (Send r′) e′ = due-next r′ e′
+            go (Receive r′) e′ = tt
+            go Finished e′ = tt
+            go Aborted e′ = tt
+
+        -- after the round
+        pub running-again : Running s′ l′ t′ o′
+        unfolding ahead
+        running-again =
+            record {
+              st = step prime J (inv .st) r;
+              alike = alike-then (J .parties) _ _ _ (d .alike) (step-alike J (stateOf f s l) (inv .st) r (inv .alike));
+              left = rest;
+              ws = inv .ws ++ said prime J (inv .st) r;
+              vs = inv .vs ++ released prime J (inv .st) r;
+              long = d .long ∙ inv .long;
+              long-t = transcript-length ∙ inv .long-t;
+              long-o = outputs-length ∙ inv .long-o;
+              excess = d .excess ∙ inv .excess;
+              words = written-more (inv .words) (said prime J (inv .st) r) (d .transcript ∙ ap (λ (w : List ℕ). writtenAt (s .written) w t) said-is) (d .written ∙ ap (λ (w : List ℕ). s .written + length w) said-is);
+              outs = written-more (inv .outs) (released prime J (inv .st) r) (d .outputs ∙ ap (λ (w : List ℕ). writtenAt (s .released) w o) released-is) (d .given ∙ ap (λ (w : List ℕ). s .released + length w) released-is);
+              transcript = inv .transcript ∙ ap (λ (x : Run). inv .ws ++ x .transcript) run-is ∙ sym (append-assoc (inv .ws) (said prime J (inv .st) r) _);
+              outputs = inv .outputs ∙ ap (λ (x : Run). inv .vs ++ x .outputs) run-is ∙ sym (append-assoc (inv .vs) (released prime J (inv .st) r) _);
+              rounds = inv .rounds ∙ ap (λ (x : Run). s .rounds + x .rounds) run-is ∙ omega (arith, d .rounds);
+              last = inv .last ∙ ap (λ (x : Run). x .last) run-is;
+              due = due-then;
+            }
+
+    -- the run is over: the words and outputs so far are all
+    module _ (able : Runnable J f l₀ t₀ o₀) {s : Course} {l t o : List ℕ} (inv : Running s l t o)
+        (over : Over (stageOf (s .point .stage))) where
+      st-over : Over (inv .st .point .stage)
+      unfolding stateOf pointOf
+      st-over = subst (λ (z : Point). Over (z .stage)) (inv .alike .point) over
+
+      rest-none : run prime J (inv .left) (inv .st) ≡ still prime J (inv .st)
+      rest-none = run-over J (inv .left) (inv .st) st-over
+
+      last-is : whole prime J l₀ .last ≡ inv .st
+      unfolding still
+      last-is = inv .last ∙ ap (λ (x : Run). x .last) rest-none
+
+      rounds-is : whole prime J l₀ .rounds ≡ s .rounds
+      unfolding still
+      rounds-is = inv .rounds ∙ ap (λ (x : Run). s .rounds + x .rounds) rest-none ∙ omega arith
+
+      words-are : whole prime J l₀ .transcript ≡ inv .ws
+      unfolding still
+      words-are = inv .transcript ∙ ap (λ (x : Run). inv .ws ++ x .transcript) rest-none ∙ append-nil (inv .ws)
+
+      outputs-are : whole prime J l₀ .outputs ≡ inv .vs
+      unfolding still
+      outputs-are = inv .outputs ∙ ap (λ (x : Run). inv .vs ++ x .outputs) rest-none ∙ append-nil (inv .vs)
+
+      point-last : whole prime J l₀ .last .point ≡ pointOf (s .point)
+      unfolding stateOf
+      point-last = ap (λ (x : State). x .point) last-is ∙ sym (inv .alike .point)
+
+      scratch-last : l ≡ joined (J .parties) (whole prime J l₀ .last .scratch) ++ drop (J .parties * scratchSize (layout (J .circuit))) l₀
+      unfolding stateOf
+      scratch-last =
+          sym (joined-bands (J .parties) (f .scratch) l (omega (arith, inv .long, able .room)))
+          ∙ ap (λ (x : List ℕ). joined (J .parties) (band (f .scratch) l) ++ x) (inv .excess)
+          ∙ ap (λ (x : List ℕ). x ++ drop (J .parties * f .scratch) l₀) (joined-ext (J .parties) (band (f .scratch) l) (whole prime J l₀ .last .scratch) (λ i h. inv .alike .scratch i h ∙ ap (λ (x : State). x .scratch i) (sym last-is)))
+          ∙ ap (λ (k : ℕ). joined (J .parties) (whole prime J l₀ .last .scratch) ++ drop (J .parties * k) l₀) (able .lent .framed .scratch)
+
+      -- so the answer tells the end of the whole run, and the lists hold what it leaves
+      running-over : (a : JointAnswer) → jointAnswerOf a ≡ E.ended (stageOf (s .point .stage)) (s .point .gate) (s .rounds) → Ran J l₀ t₀ o₀ a l t o
+      unfolding pointOf
+      running-over a e =
+          record {
+            answer = rw (point-last, rounds-is) e;
+            scratch = scratch-last;
+            transcript = written-done (inv .words) ∙ ap (λ (x : List ℕ). overwrite x t₀) (sym words-are);
+            outputs = written-done (inv .outs) ∙ ap (λ (x : List ℕ). overwrite x o₀) (sym outputs-are);
+          }
+
+    -- it ends where nothing is sent
+    pub running-ended : Runnable J f l₀ t₀ o₀ → {s : Course} {l t o : List ℕ} → Running s l t o
+        → ((r : Round) → stageOf (s .point .stage) ≡ Send r → ⊥)
+        → {a : JointAnswer} → jointAnswerOf a ≡ E.ended (stageOf (s .point .stage)) (s .point .gate) (s .rounds)
+        → Ran J l₀ t₀ o₀ a l t o
+    running-ended able inv none {a} e = running-over able inv (over-of _ none) a e
+
+-- Before the first round.
+module _ (J : Joint) (f : Frame) (l t o : List ℕ) (able : Runnable J f l t o) (s : Course) (b : Started s) where
+  gate-zero : s .point .gate ≡ 0
+  unfolding pointOf
+  gate-zero = ap (λ (x : Point). x .gate) (b .point)
+
+  stage-input : stageOf (s .point .stage) ≡ Send Input
+  unfolding pointOf
+  stage-input = ap (λ (x : Point). x .stage) (b .point)
+
+  at-start : pointOf (s .point) ≡ start (J .circuit)
+  at-start = b .point ∙ sym (start-is (J .circuit) (J .parties) p (able .lent .valid))
+
+  goes : Goes (J .circuit) 0 (record { gate = 0; stage = Send Input })
+  goes = subst (Goes (J .circuit) 0) (start-is (J .circuit) (J .parties) p (able .lent .valid)) (goes-start (J .circuit) (able .lent .valid))
+
+  nothing-spent : (h : ℕ → Round → ℕ) → spent (J .circuit) h (sending (s .point .gate) Input) ≡ 0
+  unfolding overRun
+  nothing-spent h = rw gate-zero (goes .spent-is h)
+
+  none-opened : openedIn (unchecked (J .circuit) 0) Input ≡ 0
+  unfolding openedIn unchecked
+  none-opened = refl
+
+  ready-first : (i : ℕ) → i < J .parties → Ready (party J i) (band (f .scratch) l i) (f .layout) (siteOf s i) Input
+  unfolding siteOf party
+  ready-first i h =
+      let k = b .tallied (J .circuit) i (omega (arith, able .lent .few)) in
+      rw gate-zero
+      (record {
+        valid = able .lent .valid;
+        prep-long = party-prep (able .lent) i h;
+        prep-low = party-prep-low (able .lent) i h;
+        inputs-long = party-inputs (able .lent) i h;
+        inputs-low = party-inputs-low (able .lent) i h;
+        lay = able .lent .framed .lay;
+        room = omega (arith, able .lent .framed .scratch, length-band (f .scratch) (J .parties) l (able .room) i h);
+        sited = record { within = goes .fits .0; prep = k .prep; unchecked = k .unchecked; input = k .inputs };
+        occurs = goes .fits .1;
+        worked = λ x z. absurd (omega arith);
+        opened = λ x z. absurd (omega (arith, none-opened));
+      })
+
+  pub running-start : Running J f l t o s l t o
+  unfolding whole begun stateOf
+  running-start =
+      record {
+        st = begun prime J l;
+        alike =
+            record {
+              point = at-start;
+              held = λ i h. b .held i;
+              scratch = λ i h. ap (λ (k : ℕ). band k l i) (able .lent .framed .scratch);
+              used = b .used;
+            };
+        left = mostRounds prime J * gates (J .circuit);
+        ws = [];
+        vs = [];
+        long = refl;
+        long-t = refl;
+        long-o = refl;
+        excess = refl;
+        words = record { are = rw (b .written); place = b .written };
+        outs = record { are = rw (b .released); place = b .released };
+        transcript = refl;
+        outputs = refl;
+        rounds = omega (arith, b .rounds);
+        last = refl;
+        due =
+            rw stage-input
+            (record {
+              going =
+                  record {
+                    lent = able .lent;
+                    room = able .room;
+                    eight = b .eight;
+                    tallied = λ i h. rw gate-zero (b .tallied (J .circuit) i (omega (arith, able .lent .few)));
+                    held-low = λ i h. rw (b .held i) (omega arith);
+                    ready = ready-first;
+                    draws = omega (arith, nothing-drawn, b .used);
+                    draws-low = able .draws-low;
+                  };
+              fuel = omega (arith, b .rounds);
+              rounds = omega (arith, b .rounds, nothing-spent one);
+              written = omega (arith, b .written, ap (λ (k : ℕ). J .parties * k) (nothing-spent (wordsOf (J .circuit))));
+              used = omega (arith, b .used, nothing-spent (drawsOf (J .circuit)));
+              given = omega (arith, b .released, nothing-spent outputOf);
+            });
+      }
+    where
+      nothing-drawn : coefficientsIn (unchecked (J .circuit) (s .point .gate)) Input ≡ 0
+      nothing-drawn = unfold coefficientsIn isCommit in refl

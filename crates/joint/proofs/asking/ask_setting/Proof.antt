@@ -1,0 +1,32 @@
+-- `joint::asking::ask_setting` meets its contract. The questions of the parties and of the circuit are asked in their order.
+-- Assumes nothing.
+use borrow.Author.Needs.{needs}
+use Rattle.circuit.specs.Code.{verdictOf}
+use Rattle.party.proofs.Loops.{call-then, refused-then}
+use Rattle.joint.proofs.asking.ask_setting.Statement.{statement}
+use Rattle.joint.proofs.asking.ask_setting.Tie as tie
+
+ask-parties-requires : tie.Need-ask-parties-requires
+ask-parties-requires c κs = search needs
+
+enum-known-number : tie.Need-enum-known-number
+enum-known-number c = search needs
+
+returns : tie.Need-returns
+unfolding verdictOf
+returns c = refused-then _ _ (c .before .before .before .ask-parties .ensures) (c .before .number .given .1)
+
+enum-told : tie.Need-enum-told
+enum-told c = search needs
+
+accept-requires : tie.Need-accept-requires
+accept-requires c κs = search needs
+
+returns-2 : tie.Need-returns-2
+unfolding verdictOf
+returns-2 c = call-then _ _ (c .before .before .before .ask-parties .ensures) (c .before .enum-told .given .1) (c .accept .ensures)
+
+pub ask-setting-spec : {M : Type 1} → statement M
+ask-setting-spec =
+    tie.close
+    (tie.spec ask-parties-requires enum-known-number returns enum-told accept-requires returns-2)

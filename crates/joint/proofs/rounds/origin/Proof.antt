@@ -1,0 +1,30 @@
+-- `joint::rounds::origin` meets its contract. Nothing is counted, held, used, written or made yet.
+-- Assumes nothing.
+use mathlib.Core.Path.{refl}
+use borrow.Author.Needs.{needs}
+use Rattle.circuit.specs.declared.Tally.{Tally}
+use Rattle.circuit.specs.Code.{roundOf, Tallied}
+use Rattle.party.specs.Code.{pointOf, stageOf}
+use Rattle.party.specs.Ask.{mostParties}
+use Rattle.joint.proofs.Arrays.{same-each, zeros}
+use Rattle.joint.proofs.rounds.origin.Statement.{statement}
+use Rattle.joint.proofs.rounds.origin.Tie as tie
+
+no-tally-requires : tie.Need-no-tally-requires
+no-tally-requires c κs = search needs
+
+returns : tie.Need-returns
+unfolding pointOf stageOf roundOf
+returns c = record {
+  point = refl;
+  eight = refl;
+  tallied = λ cs i h. same-each (λ (t : Tally). Tallied cs i 0 t) _ (c .no-tally .result) (c .no-tally .ensures cs i) mostParties i h;
+  held = zeros mostParties;
+  used = refl;
+  written = refl;
+  released = refl;
+  rounds = refl;
+}
+
+pub origin-spec : {M : Type 1} → statement M
+origin-spec = tie.close (tie.spec no-tally-requires returns)

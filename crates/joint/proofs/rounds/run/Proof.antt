@@ -1,0 +1,78 @@
+-- `joint::rounds::run` meets its contract. The loop's invariant: what is written so far and the run that remains make up the whole run. The measure is the number of rounds that may still be made.
+-- Assumes nothing.
+use Prim.Native.Nat.{_-_, _*_}
+use mathlib.Core.Path.{subst}
+use native.Mathlib.Omega.{arith}
+use borrow.Author.Needs.{needs}
+use Rattle.field.specs.Prime.{prime}
+use Rattle.circuit.specs.Gate.{gates}
+use Rattle.joint.specs.Run.{mostRounds}
+use Rattle.joint.specs.Code.{jointOf, IsDue}
+use Rattle.joint.proofs.Running.{Running, running-start, rounds-left, running-turning, running-again, running-ended}
+use Rattle.joint.proofs.rounds.run.Statement.{statement}
+use Rattle.joint.proofs.rounds.run.Tie as tie
+
+abbrev Inv-loop : tie.InvT-loop
+Inv-loop f c preps inputs scratch₀ coefficients transcript₀ outputs₀ s₀ scratch transcript outputs s = Running (jointOf (f .parties) c preps inputs coefficients) f scratch₀ transcript₀ outputs₀ s scratch transcript outputs
+
+abbrev μ-loop : tie.MeasureT-loop
+μ-loop f c preps inputs scratch₀ coefficients transcript₀ outputs₀ s₀ scratch transcript outputs s = mostRounds prime (jointOf (f .parties) c preps inputs coefficients) * gates c - s .rounds
+
+origin-requires : tie.Need-origin-requires Inv-loop μ-loop
+origin-requires c κs = search needs
+
+loop-holds : tie.Need-loop-holds Inv-loop μ-loop
+loop-holds c = running-start _ _ _ _ _ (c .before .before .before .before .before .before .before .before .pre) _ (c .origin .ensures)
+
+due-at-requires : tie.Need-due-at-requires Inv-loop μ-loop
+due-at-requires c κs = search needs
+
+enum-known-r : tie.Need-enum-known-r Inv-loop μ-loop
+enum-known-r c = search needs
+
+one-round-requires : tie.Need-one-round-requires Inv-loop μ-loop
+one-round-requires c κs = running-turning _ _ _ _ _ (c .before .before .before .before .before .before .before .before .before .before .before .before .before .before .before .before .before .pre) (c .before .before .before .before .before .before .before .before .loop .inv) _ (subst (IsDue _) (c .before .before .before .before .r .given .1) (c .before .before .before .before .before .before .due-at .ensures))
+
+loop-less : tie.Need-loop-less Inv-loop μ-loop
+loop-less c = omega (arith, c .before .before .before .before .before .before .one-round .ensures .rounds, rounds-left _ _ _ _ _ (c .before .before .before .before .before .before .before .before .before .before .before .before .before .before .before .before .before .before .before .before .before .before .before .before .pre) (c .before .before .before .before .before .before .before .before .before .before .before .before .before .before .before .loop .inv) _ (subst (IsDue _) (c .before .before .before .before .before .before .before .before .before .before .before .r .given .1) (c .before .before .before .before .before .before .before .before .before .before .before .before .before .due-at .ensures)))
+
+loop-again : tie.Need-loop-again Inv-loop μ-loop
+loop-again c = running-again _ _ _ _ _ (c .before .before .before .before .before .before .before .before .before .before .before .before .before .before .before .before .before .before .before .before .before .before .before .before .pre) (c .before .before .before .before .before .before .before .before .before .before .before .before .before .before .before .loop .inv) _ (subst (IsDue _) (c .before .before .before .before .before .before .before .before .before .before .before .r .given .1) (c .before .before .before .before .before .before .before .before .before .before .before .before .before .due-at .ensures)) (c .before .before .before .before .before .before .one-round .ensures)
+
+enum-told : tie.Need-enum-told Inv-loop μ-loop
+enum-told c = search needs
+
+ending-requires : tie.Need-ending-requires Inv-loop μ-loop
+ending-requires c κs = search needs
+
+same-length : tie.Need-same-length Inv-loop μ-loop
+same-length c = c .before .before .before .before .before .loop .inv .long
+
+same-length-2 : tie.Need-same-length-2 Inv-loop μ-loop
+same-length-2 c = c .before .before .before .before .before .loop .inv .long-t
+
+same-length-3 : tie.Need-same-length-3 Inv-loop μ-loop
+same-length-3 c = c .before .before .before .before .before .loop .inv .long-o
+
+returns : tie.Need-returns Inv-loop μ-loop
+returns c = running-ended _ _ _ _ _ (c .before .before .before .before .before .before .before .before .before .before .before .before .before .before .pre) (c .before .before .before .before .before .loop .inv) (subst (IsDue _) (c .before .enum-told .given .1) (c .before .before .before .due-at .ensures)) (c .ending .ensures)
+
+pub run-spec : {M : Type 1} → statement M
+run-spec =
+    tie.close
+    (tie.spec
+    Inv-loop
+    μ-loop
+    origin-requires
+    loop-holds
+    due-at-requires
+    enum-known-r
+    one-round-requires
+    loop-less
+    loop-again
+    enum-told
+    ending-requires
+    same-length
+    same-length-2
+    same-length-3
+    returns)

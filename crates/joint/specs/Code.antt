@@ -1,0 +1,170 @@
+-- What the code's types stand for, and what its functions ask.
+-- Assumes nothing.
+use Prim.Native.Nat.{ℕ, _+_, _*_, _<_, _≤_}
+use mathlib.Core.Path.{_≡_}
+use mathlib.Core.Bool.{true, cond, _&&_}
+use mathlib.Core.List.{List, [], _∷_, _++_}
+use lib.ListN.{length, getD, take, drop}
+use Rattle.field.specs.Prime.{p, prime}
+use Rattle.circuit.specs.Gate.{gate, gates}
+use Rattle.circuit.specs.Count.{prepSize, inCount, outCount, unchecked}
+use Rattle.circuit.specs.Round.{Round, Input, words, coefficientsIn, wordCount, coefficientCount}
+use Rattle.circuit.specs.Valid.{Valid}
+use Rattle.circuit.specs.Code.{roundOf, Tallied}
+use Rattle.circuit.specs.declared.Tally.{Tally}
+use Rattle.party.specs.Scratch.{layout, scratchSize, Value, read}
+use Rattle.party.specs.Position.{Stage, Send}
+use Rattle.party.specs.Send.{sent}
+use Rattle.party.specs.Receive.{passes, received}
+use Rattle.party.specs.Entry.{releases, overwrite}
+use Rattle.party.specs.Ask.{fewestParties, mostParties}
+use Rattle.party.specs.Code.{layoutOf, pointOf, Below, Ready}
+use Rattle.party.specs.declared.Site.{Site}
+use Rattle.joint.specs.Joint.{Joint, joined, band, inputsAt, party}
+use Rattle.joint.specs.Run.{State, said, step, released, mostRounds, whole}
+use Rattle.joint.specs.Entry as E
+use Rattle.joint.specs.declared.JointAnswer.{JointAnswer}
+use Rattle.joint.specs.declared.JointAnswer.the-variants.{Refusal, Done, Stopped}
+use Rattle.joint.specs.declared.Due.{Due}
+use Rattle.joint.specs.declared.Due.the-variants.{Next, Over}
+use Rattle.joint.specs.declared.Frame.{Frame}
+use Rattle.joint.specs.declared.Course.{Course}
+
+unfoldable pub jointAnswerOf : JointAnswer → E.JointAnswer
+jointAnswerOf (Refusal number index) = E.Refusal number index
+jointAnswerOf (Done rounds) = E.Done rounds
+jointAnswerOf (Stopped gate rounds) = E.Stopped gate rounds
+
+-- a round is due at its sending half, and elsewhere none
+abbrev pub IsDue : Stage → Due → Type 0
+IsDue x (Next r) = x ≡ Send (roundOf r)
+IsDue x Over = (r : Round) → x ≡ Send r → ⊥
+
+-- what a joint run is lent, from the lists of the code
+abbrev pub jointOf : ℕ → List ℕ → List ℕ → List ℕ → List ℕ → Joint
+jointOf n c preps inputs coefficients =
+    record { parties = n; circuit = c; preps = preps; inputs = inputs; coefficients = coefficients }
+
+-- what is counted for party i of the gates before the point
+abbrev pub tallyOf : List Tally → ℕ → Tally
+tallyOf ts i = getD ts i (record { prep = 0; openings = 0; unchecked = 0; inputs = 0 })
+
+unfoldable pub siteOf : Course → ℕ → Site
+siteOf s i =
+    record {
+      gate = s .point .gate;
+      prep = tallyOf (s .tallies) i .prep;
+      unchecked = tallyOf (s .tallies) i .unchecked;
+      input = tallyOf (s .tallies) i .inputs;
+    }
+
+-- all parties between two rounds, where l is the scratch of all
+unfoldable pub stateOf : Frame → Course → List ℕ → State
+stateOf f s l =
+    record {
+      point = pointOf (s .point);
+      held = λ i. getD (s .held) i 0;
+      scratch = band (f .scratch) l;
+      used = s .used;
+    }
+
+-- the numbers of a frame are those of a circuit and a number of parties
+pub record Framed (n : ℕ) (c : List ℕ) (f : Frame) : Type 0 where
+  pub parties : f .parties ≡ n
+  pub lay : layoutOf (f .layout) ≡ layout c
+  pub scratch : f .scratch ≡ scratchSize (layout c)
+  pub prep : f .prep ≡ prepSize c
+  pub starts : (i : ℕ) → i ≤ n → getD (f .starts) i 0 ≡ inputsAt c i
+
+-- what questions 1 to 11 make sure of, and the frame
+pub record Lent (J : Joint) (f : Frame) : Type 0 where
+  pub framed : Framed (J .parties) (J .circuit) f
+  pub some : fewestParties ≤ J .parties
+  pub few : J .parties ≤ mostParties
+  pub valid : Valid (J .parties) p (J .circuit)
+  pub preps-long : length (J .preps) ≡ J .parties * prepSize (J .circuit)
+  pub preps-low : Below (J .preps)
+  pub inputs-long : length (J .inputs) ≡ inCount (J .circuit)
+  pub inputs-low : Below (J .inputs)
+
+-- what the words of party i in round r are, and what its scratch is once it has received the words of all
+abbrev pub saidBy : Joint → State → Round → ℕ → List ℕ
+saidBy J s r i = sent prime (party J i) (s .scratch i) (s .point .gate) (s .held i) r
+
+abbrev pub receivedBy : Joint → State → Round → List ℕ → ℕ → List ℕ
+receivedBy J s r heard i = received prime (party J i) (s .scratch i) (s .point .gate) r heard
+
+-- what round r releases, where l is the scratch of party 0
+abbrev pub freed : ℕ → List ℕ → Round → List ℕ → List ℕ → List ℕ
+freed n c r l heard = cond (releases r && passes prime n r heard) (read (layout c) l (Value 0) ∷ []) []
+
+-- ws written at k in xs
+abbrev pub writtenAt : ℕ → List ℕ → List ℕ → List ℕ
+writtenAt k ws xs = take k xs ++ (ws ++ drop (k + length ws) xs)
+
+-- what round r asks of all parties. l is the scratch of all
+pub record Going (J : Joint) (f : Frame) (s : Course) (r : Round) (l : List ℕ) : Type 0 where
+  pub lent : Lent J f
+  pub room : J .parties * f .scratch ≤ length l
+  pub eight : length (s .tallies) ≡ mostParties
+  pub tallied : (i : ℕ) → i < J .parties → Tallied (J .circuit) i (s .point .gate) (tallyOf (s .tallies) i)
+  pub held-low : (i : ℕ) → i < J .parties → getD (s .held) i 0 < p
+  pub ready : (i : ℕ) → i < J .parties → Ready (party J i) (band (f .scratch) l i) (f .layout) (siteOf s i) r
+  pub draws : s .used + coefficientsIn (unchecked (J .circuit) (s .point .gate)) r ≤ length (J .coefficients)
+  pub draws-low : Below (J .coefficients)
+
+-- and of the lists that it writes to: t is the transcript, and o the outputs
+pub record Turning (J : Joint) (f : Frame) (s : Course) (r : Round) (l t o : List ℕ) : Type 0 where
+  pub going : Going J f s r l
+  pub words-fit : s .written + J .parties * words (gate (J .circuit) (s .point .gate)) r ≤ length t
+  pub outputs-upto : s .released ≤ length o
+  pub outputs-fit : releases r ≡ true → s .released < length o
+  pub rounds-few : s .rounds < mostRounds prime J * gates (J .circuit)
+
+-- two states are the same to n parties
+pub record Alike (n : ℕ) (s s′ : State) : Type 0 where
+  pub point : s .point ≡ s′ .point
+  pub held : (i : ℕ) → i < n → s .held i ≡ s′ .held i
+  pub scratch : (i : ℕ) → i < n → s .scratch i ≡ s′ .scratch i
+  pub used : s .used ≡ s′ .used
+
+-- what a round leaves
+pub record Turned (J : Joint) (f : Frame) (s : Course) (r : Round) (l t o : List ℕ) (s′ : Course) (l′ t′ o′ : List ℕ) : Type 0 where
+  pub alike : Alike (J .parties) (stateOf f s′ l′) (step prime J (stateOf f s l) r)
+  pub eight : length (s′ .tallies) ≡ mostParties
+  pub tallied : (i : ℕ) → i < J .parties → Tallied (J .circuit) i (s′ .point .gate) (tallyOf (s′ .tallies) i)
+  pub held-low : (i : ℕ) → i < J .parties → getD (s′ .held) i 0 < p
+  pub long : length l′ ≡ length l
+  pub excess : drop (J .parties * f .scratch) l′ ≡ drop (J .parties * f .scratch) l
+  pub transcript : t′ ≡ writtenAt (s .written) (said prime J (stateOf f s l) r) t
+  pub outputs : o′ ≡ writtenAt (s .released) (released prime J (stateOf f s l) r) o
+  pub written : s′ .written ≡ s .written + length (said prime J (stateOf f s l) r)
+  pub given : s′ .released ≡ s .released + length (released prime J (stateOf f s l) r)
+  pub rounds : s′ .rounds ≡ s .rounds + 1
+
+-- before the first round, which is an in gate's
+pub record Started (s : Course) : Type 0 where
+  pub point : pointOf (s .point) ≡ record { gate = 0; stage = Send Input }
+  pub eight : length (s .tallies) ≡ mostParties
+  pub tallied : (c : List ℕ) (i : ℕ) → i < mostParties → Tallied c i 0 (tallyOf (s .tallies) i)
+  pub held : (i : ℕ) → getD (s .held) i 0 ≡ 0
+  pub used : s .used ≡ 0
+  pub written : s .written ≡ 0
+  pub released : s .released ≡ 0
+  pub rounds : s .rounds ≡ 0
+
+-- what all questions make sure of
+pub record Runnable (J : Joint) (f : Frame) (l t o : List ℕ) : Type 0 where
+  pub lent : Lent J f
+  pub room : J .parties * f .scratch ≤ length l
+  pub draws : length (J .coefficients) ≡ coefficientCount (J .circuit)
+  pub draws-low : Below (J .coefficients)
+  pub words-fit : J .parties * wordCount (J .circuit) ≤ length t
+  pub outputs-fit : outCount (J .circuit) ≤ length o
+
+-- what a run leaves
+pub record Ran (J : Joint) (l t o : List ℕ) (a : JointAnswer) (l′ t′ o′ : List ℕ) : Type 0 where
+  pub answer : jointAnswerOf a ≡ E.ended (whole prime J l .last .point .stage) (whole prime J l .last .point .gate) (whole prime J l .rounds)
+  pub scratch : l′ ≡ joined (J .parties) (whole prime J l .last .scratch) ++ drop (J .parties * scratchSize (layout (J .circuit))) l
+  pub transcript : t′ ≡ overwrite (whole prime J l .transcript) t
+  pub outputs : o′ ≡ overwrite (whole prime J l .outputs) o

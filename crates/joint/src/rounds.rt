@@ -1,0 +1,397 @@
+// The rounds of a run: in each, every party sends, and then every party receives the words of all. Nothing is asked here: what is
+// needed is what the entry has asked.
+use crate::Course;
+use crate::Due;
+use crate::Frame;
+use crate::JointAnswer;
+use circuit::Round;
+use circuit::Tally;
+use party::Point;
+use party::Site;
+use party::Slot;
+use party::Stage;
+ghost use mathlib.Core.Path.{_≡_};
+ghost use mathlib.Core.Bool.{true};
+ghost use mathlib.Core.List.{[], _++_};
+ghost use Prim.Native.Nat.{ℕ, _+_, _*_, _<_, _≤_};
+ghost use lib.ListN.{length, getD, drop};
+ghost use Rattle.field.specs.Prime.{p, prime, Is};
+ghost use Rattle.circuit.specs.Gate.{gateSize, gate, gates};
+ghost use Rattle.circuit.specs.Round.{words};
+ghost use Rattle.circuit.specs.Accept.{mostGates};
+ghost use Rattle.circuit.specs.Code.{roundOf, Tallied};
+ghost use Rattle.party.specs.Ask.{mostParties};
+ghost use Rattle.party.specs.Receive.{next, received};
+ghost use Rattle.party.specs.Entry.{releases, overwrite};
+ghost use Rattle.party.specs.Code.{stageOf, pointOf, Below, Receives};
+ghost use Rattle.joint.specs.Joint.{joined, band, party};
+ghost use Rattle.joint.specs.Run.{said, step};
+ghost use Rattle.joint.specs.Entry.{ended};
+ghost use Rattle.joint.specs.Code.{jointAnswerOf, IsDue, jointOf, tallyOf, siteOf, stateOf, Framed, Lent, saidBy, receivedBy, freed, writtenAt, Going, Turning, Turned, Started, Runnable, Ran};
+
+// Words of a reveal.
+const CHECK_WORDS: usize = 1;
+
+// Where the numbers of the point's gate stand for party i.
+fn site_of(s: Course, i: usize) -> Site
+    requires { ⌜ i < mostParties ⌝ }
+    ensures { λ x. ⌜ x ≡ siteOf s i ⌝ }
+{
+    let point = s.point;
+    let tallies = s.tallies;
+    let t = tallies[i];
+    Site {
+        gate: point.gate,
+        prep: t.prep,
+        unchecked: t.unchecked,
+        input: t.inputs,
+    }
+}
+
+// Party i sends: its words into out. The check share that it then holds.
+fn send_one(
+    f: Frame,
+    s: Course,
+    r: Round,
+    i: usize,
+    c: &[u32],
+    preps: &[u32],
+    inputs: &[u32],
+    scratch: &[u32],
+    coefficients: &[u32],
+    out: &mut [u32],
+) -> u32
+    requires { ⌜ Going (jointOf (f .parties) (now c) (now preps) (now inputs) (now coefficients)) f s (roundOf r) (now scratch) × (i < f .parties) × (words (gate (now c) (s .point .gate)) (roundOf r) ≤ length (now out)) ⌝ }
+    ensures { λ h. ⌜ Is (step prime (jointOf (f .parties) (now (c .entry)) (now (preps .entry)) (now (inputs .entry)) (now (coefficients .entry))) (stateOf f s (now (scratch .entry))) (roundOf r) .held i) h × (now (out .exit) ≡ overwrite (saidBy (jointOf (f .parties) (now (c .entry)) (now (preps .entry)) (now (inputs .entry)) (now (coefficients .entry))) (stateOf f s (now (scratch .entry))) (roundOf r) i) (now (out .entry))) ⌝ }
+{
+    let starts = f.starts;
+    let held = s.held;
+    let at = site_of(s, i);
+    let a = starts[i];
+    let b = starts[i + 1];
+    let m = i * f.prep;
+    let n = m + f.prep;
+    let k = i * f.scratch;
+    let l = k + f.scratch;
+    let u = s.used;
+    let v = u + circuit::coefficients_in(at.unchecked, r);
+    party::sending::send_step(
+        f.parties,
+        i,
+        c,
+        &preps[m..n],
+        &inputs[a..b],
+        &scratch[k..l],
+        f.layout,
+        at,
+        r,
+        held[i],
+        &coefficients[u..v],
+        out,
+    )
+}
+
+// Every party sends, into its part of out. The check share that each then holds.
+fn send_all(
+    f: Frame,
+    s: Course,
+    r: Round,
+    c: &[u32],
+    preps: &[u32],
+    inputs: &[u32],
+    scratch: &[u32],
+    coefficients: &[u32],
+    out: &mut [u32],
+) -> [u32; 8]
+    requires { ⌜ Going (jointOf (f .parties) (now c) (now preps) (now inputs) (now coefficients)) f s (roundOf r) (now scratch) × (length (now out) ≡ f .parties * words (gate (now c) (s .point .gate)) (roundOf r)) ⌝ }
+    ensures { λ h. ⌜ ((i : ℕ) → i < f .parties → Is (step prime (jointOf (f .parties) (now (c .entry)) (now (preps .entry)) (now (inputs .entry)) (now (coefficients .entry))) (stateOf f s (now (scratch .entry))) (roundOf r) .held i) (getD h i 0)) × (now (out .exit) ≡ said prime (jointOf (f .parties) (now (c .entry)) (now (preps .entry)) (now (inputs .entry)) (now (coefficients .entry))) (stateOf f s (now (scratch .entry))) (roundOf r)) ⌝ }
+{
+    let point = s.point;
+    let k = circuit::words_in(circuit::gate_at(c, point.gate), r);
+    let mut held = [0u32; 8];
+    let mut a = 0;
+    let mut i = 0;
+    while i < f.parties {
+        let b = a + k;
+        let h = send_one(
+            f,
+            s,
+            r,
+            i,
+            c,
+            preps,
+            inputs,
+            scratch,
+            coefficients,
+            &mut out[a..b],
+        );
+        held[i] = h;
+        a = b;
+        i += 1;
+    }
+    held
+}
+
+// Party i receives the words of all; l is its band of the scratch.
+fn receive_one(
+    f: Frame,
+    s: Course,
+    r: Round,
+    i: usize,
+    c: &[u32],
+    preps: &[u32],
+    inputs: &[u32],
+    l: &mut [u32],
+    heard: &[u32],
+) -> Point
+    requires { ⌜ Lent (jointOf (f .parties) (now c) (now preps) (now inputs) []) f × (i < f .parties) × Receives (party (jointOf (f .parties) (now c) (now preps) (now inputs) []) i) (now l) (f .layout) (siteOf s i) (roundOf r) (now heard) ⌝ }
+    ensures { λ x. ⌜ (pointOf x ≡ next prime (f .parties) (now (c .entry)) (s .point .gate) (roundOf r) (now (heard .entry))) × (now (l .exit) ≡ received prime (party (jointOf (f .parties) (now (c .entry)) (now (preps .entry)) (now (inputs .entry)) []) i) (now (l .entry)) (s .point .gate) (roundOf r) (now (heard .entry))) ⌝ }
+{
+    let starts = f.starts;
+    let at = site_of(s, i);
+    let a = starts[i];
+    let b = starts[i + 1];
+    let m = i * f.prep;
+    let n = m + f.prep;
+    party::receiving::receive_step(
+        f.parties,
+        i,
+        c,
+        &preps[m..n],
+        &inputs[a..b],
+        l,
+        f.layout,
+        at,
+        r,
+        heard,
+    )
+}
+
+// Every party receives the words of all, and is lent its own band of the scratch. All come to the same point.
+fn receive_all(
+    f: Frame,
+    s: Course,
+    r: Round,
+    c: &[u32],
+    preps: &[u32],
+    inputs: &[u32],
+    scratch: &mut [u32],
+    heard: &[u32],
+) -> Point
+    requires { ⌜ Lent (jointOf (f .parties) (now c) (now preps) (now inputs) []) f × (f .parties * f .scratch ≤ length (now scratch)) × ((i : ℕ) → i < f .parties → Receives (party (jointOf (f .parties) (now c) (now preps) (now inputs) []) i) (band (f .scratch) (now scratch) i) (f .layout) (siteOf s i) (roundOf r) (now heard)) ⌝ }
+    ensures { λ x. ⌜ (pointOf x ≡ next prime (f .parties) (now (c .entry)) (s .point .gate) (roundOf r) (now (heard .entry))) × (now (scratch .exit) ≡ joined (f .parties) (receivedBy (jointOf (f .parties) (now (c .entry)) (now (preps .entry)) (now (inputs .entry)) []) (stateOf f s (now (scratch .entry))) (roundOf r) (now (heard .entry))) ++ drop (f .parties * f .scratch) (now (scratch .entry))) ⌝ }
+{
+    let mut point = s.point;
+    let mut start = 0;
+    let mut i = 0;
+    while i < f.parties {
+        let end = start + f.scratch;
+        point = receive_one(
+            f,
+            s,
+            r,
+            i,
+            c,
+            preps,
+            inputs,
+            &mut scratch[start..end],
+            heard,
+        );
+        start = end;
+        i += 1;
+    }
+    point
+}
+
+// The second check's reveal releases an output.
+fn is_release(r: Round) -> bool
+    ensures { λ b. ⌜ b ≡ releases (roundOf r) ⌝ }
+{
+    match r {
+        Round::Input => false,
+        Round::Multiply => false,
+        Round::CommitOpened => false,
+        Round::RevealOpened => false,
+        Round::OpenOutput => false,
+        Round::CommitOutput => false,
+        Round::RevealOutput => true,
+    }
+}
+
+// What the round releases goes to the outputs, where at are there. How many are there then.
+fn release(
+    f: Frame,
+    r: Round,
+    c: &[u32],
+    scratch: &[u32],
+    heard: &[u32],
+    outputs: &mut [u32],
+    at: usize,
+) -> usize
+    requires { ⌜ Framed (f .parties) (now c) f × (f .scratch ≤ length (now scratch)) × Below (now heard) × (at ≤ length (now outputs)) × (releases (roundOf r) ≡ true → (f .parties ≤ length (now heard)) × (at < length (now outputs))) ⌝ }
+    ensures { λ k. ⌜ (k ≡ at + length (freed (f .parties) (now (c .entry)) (roundOf r) (band (f .scratch) (now (scratch .entry)) 0) (now (heard .entry)))) × (now (outputs .exit) ≡ writtenAt at (freed (f .parties) (now (c .entry)) (roundOf r) (band (f .scratch) (now (scratch .entry)) 0) (now (heard .entry))) (now (outputs .entry))) ⌝ }
+{
+    if !is_release(r) {
+        return at;
+    }
+    if party::receiving::heard_sum(f.parties, CHECK_WORDS, 0, heard) != 0 {
+        return at;
+    }
+    let w = f.scratch;
+    outputs[at] = party::scratch::read_slot(&scratch[..w], f.layout, Slot::Value(0));
+    at + 1
+}
+
+// What is counted for each party goes on from one gate to another.
+fn advance(parties: usize, c: &[u32], from: usize, to: usize, before: [Tally; 8]) -> [Tally; 8]
+    requires { ⌜ (parties ≤ mostParties) × (from ≤ to) × (gateSize * to ≤ length (now c)) × (to ≤ mostGates) × (length before ≡ mostParties) × ((i : ℕ) → i < parties → Tallied (now c) i from (tallyOf before i)) ⌝ }
+    ensures { λ ts. ⌜ (length ts ≡ mostParties) × ((i : ℕ) → i < parties → Tallied (now (c .entry)) i to (tallyOf ts i)) ⌝ }
+{
+    let mut tallies = before;
+    let mut i = 0;
+    while i < parties {
+        let t = tallies[i];
+        tallies[i] = circuit::tally_between(c, i, from, to, t);
+        i += 1;
+    }
+    tallies
+}
+
+// Round r. The words that are received are those that stand in the transcript.
+fn one_round(
+    f: Frame,
+    s: Course,
+    r: Round,
+    c: &[u32],
+    preps: &[u32],
+    inputs: &[u32],
+    scratch: &mut [u32],
+    coefficients: &[u32],
+    transcript: &mut [u32],
+    outputs: &mut [u32],
+) -> Course
+    requires { ⌜ Turning (jointOf (f .parties) (now c) (now preps) (now inputs) (now coefficients)) f s (roundOf r) (now scratch) (now transcript) (now outputs) ⌝ }
+    ensures { λ x. ⌜ Turned (jointOf (f .parties) (now (c .entry)) (now (preps .entry)) (now (inputs .entry)) (now (coefficients .entry))) f s (roundOf r) (now (scratch .entry)) (now (transcript .entry)) (now (outputs .entry)) x (now (scratch .exit)) (now (transcript .exit)) (now (outputs .exit)) ⌝ }
+{
+    let at = site_of(s, 0);
+    let start = s.written;
+    let end = start + f.parties * circuit::words_in(circuit::gate_at(c, at.gate), r);
+    let held = send_all(
+        f,
+        s,
+        r,
+        c,
+        preps,
+        inputs,
+        scratch,
+        coefficients,
+        &mut transcript[start..end],
+    );
+    let released = release(
+        f,
+        r,
+        c,
+        scratch,
+        &transcript[start..end],
+        outputs,
+        s.released,
+    );
+    let point = receive_all(f, s, r, c, preps, inputs, scratch, &transcript[start..end]);
+    let before = s.tallies;
+    let tallies = advance(f.parties, c, at.gate, point.gate, before);
+    let used = s.used + circuit::coefficients_in(at.unchecked, r);
+    Course {
+        point,
+        tallies,
+        held,
+        used,
+        written: end,
+        released,
+        rounds: s.rounds + 1,
+    }
+}
+
+// Before the first round, which is an in gate's.
+fn origin() -> Course
+    ensures { λ s. ⌜ Started s ⌝ }
+{
+    let t = circuit::no_tally();
+    Course {
+        point: Point {
+            gate: 0,
+            stage: Stage::Send(Round::Input),
+        },
+        tallies: [t; 8],
+        held: [0; 8],
+        used: 0,
+        written: 0,
+        released: 0,
+        rounds: 0,
+    }
+}
+
+// Nothing is sent any more once a run is finished or aborted.
+fn due_at(stage: Stage) -> Due
+    ensures { λ d. ⌜ IsDue (stageOf stage) d ⌝ }
+{
+    match stage {
+        Stage::Send(r) => Due::Next(r),
+        Stage::Receive(_) => Due::Over,
+        Stage::Finished => Due::Over,
+        Stage::Aborted => Due::Over,
+    }
+}
+
+// How a run that stands at a point has ended.
+fn ending(point: Point, rounds: usize) -> JointAnswer
+    ensures { λ a. ⌜ jointAnswerOf a ≡ ended (stageOf (point .stage)) (point .gate) rounds ⌝ }
+{
+    let gate = point.gate;
+    let stage = point.stage;
+    match stage {
+        Stage::Send(_) => JointAnswer::Done(rounds),
+        Stage::Receive(_) => JointAnswer::Done(rounds),
+        Stage::Finished => JointAnswer::Done(rounds),
+        Stage::Aborted => JointAnswer::Stopped { gate, rounds },
+    }
+}
+
+// Round after round, until no party sends any more.
+pub fn run(
+    f: Frame,
+    c: &[u32],
+    preps: &[u32],
+    inputs: &[u32],
+    scratch: &mut [u32],
+    coefficients: &[u32],
+    transcript: &mut [u32],
+    outputs: &mut [u32],
+) -> JointAnswer
+    requires { ⌜ Runnable (jointOf (f .parties) (now c) (now preps) (now inputs) (now coefficients)) f (now scratch) (now transcript) (now outputs) ⌝ }
+    ensures { λ a. ⌜ Ran (jointOf (f .parties) (now (c .entry)) (now (preps .entry)) (now (inputs .entry)) (now (coefficients .entry))) (now (scratch .entry)) (now (transcript .entry)) (now (outputs .entry)) a (now (scratch .exit)) (now (transcript .exit)) (now (outputs .exit)) ⌝ }
+{
+    let mut s = origin();
+    loop {
+        let point = s.point;
+        let stage = point.stage;
+        match due_at(stage) {
+            Due::Next(r) => {
+                s = one_round(
+                    f,
+                    s,
+                    r,
+                    c,
+                    preps,
+                    inputs,
+                    scratch,
+                    coefficients,
+                    transcript,
+                    outputs,
+                );
+            }
+            Due::Over => {
+                return ending(point, s.rounds);
+            }
+        }
+    }
+}
