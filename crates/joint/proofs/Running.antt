@@ -17,7 +17,7 @@ use Rattle.party.specs.Receive.{passes, next}
 use Rattle.party.specs.Entry.{releases, overwrite}
 use Rattle.party.specs.Code.{pointOf, stageOf, Ready}
 use Rattle.party.proofs.Following.{start-is}
-use Rattle.party.proofs.Points.{FitsStage, spent, sending, spent-follow, Goes, goes-start}
+use Rattle.party.proofs.Points.{FitsStage, spent, sending, spent-follow, Goes, goes-start, spent-le}
 use Rattle.joint.specs.Joint.{Joint, joined, band, party}
 use Rattle.joint.specs.Run.{State, Run, said, step, released, takes, begun, still, ahead, run, mostRounds, whole}
 use Rattle.joint.specs.Entry as E
@@ -30,7 +30,7 @@ use Rattle.joint.proofs.Written.{Written, written-more, written-le, wri
 use Rattle.joint.proofs.Bands.{joined-bands}
 use Rattle.joint.proofs.Said.{length-said}
 use Rattle.joint.proofs.Parties.{party-prep, party-prep-low, party-inputs, party-inputs-low}
-use Rattle.joint.proofs.Spending.{spent-within, rounds-le, outputs-all}
+use Rattle.joint.proofs.Spending.{rounds-le, outputs-all}
 use Rattle.joint.proofs.States.{said-alike, released-alike, step-alike, alike-then}
 use Rattle.joint.proofs.Going.{heardIn, nextIn, within, occurs, point-is, next-fits, going-next}
 
@@ -146,7 +146,7 @@ module _ (J : Joint) (f : Frame) where
 
       -- there are rounds left
       pub rounds-left : s .rounds < mostRounds prime J * gates (J .circuit)
-      rounds-left = omega (arith, due-is .rounds, spent-within (J .circuit) one (s .point .gate) r fits, rounds-le (J .circuit))
+      rounds-left = omega (arith, due-is .rounds, spent-le (J .circuit) one (s .point .gate) r fits, rounds-le (J .circuit) (gates (J .circuit)))
 
       words-left : s .written + J .parties * words (gate (J .circuit) (s .point .gate)) r ≤ length t
       unfolding wordCount
@@ -155,7 +155,7 @@ module _ (J : Joint) (f : Frame) where
             arith,
             due-is .written,
             mul-add (J .parties) (spent (J .circuit) (wordsOf (J .circuit)) (sending (s .point .gate) r)) (words (gate (J .circuit) (s .point .gate)) r),
-            mul-le-mul-left (J .parties) (spent-within (J .circuit) (wordsOf (J .circuit)) (s .point .gate) r fits),
+            mul-le-mul-left (J .parties) (spent-le (J .circuit) (wordsOf (J .circuit)) (s .point .gate) r fits),
             able .words-fit,
             inv .long-t,
           )
@@ -163,7 +163,7 @@ module _ (J : Joint) (f : Frame) where
       outputs-left : releases r ≡ true → s .released < length o
       outputs-left h =
           let z : _≡_ {A = ℕ} (cond (releases r) 1 0) 1 = rw h in
-          omega (arith, due-is .given, spent-within (J .circuit) outputOf (s .point .gate) r fits, outputs-all (J .circuit), able .outputs-fit, inv .long-o)
+          omega (arith, due-is .given, spent-le (J .circuit) outputOf (s .point .gate) r fits, outputs-all (J .circuit), able .outputs-fit, inv .long-o)
 
       -- the round is asked what it may ask
       pub running-turning : Turning J f s r l t o
@@ -241,7 +241,7 @@ module _ (J : Joint) (f : Frame) where
               record {
                 going =
                     going-next J f s r l (due-is .going) d r′ e′
-                    (omega (arith, used-next, spent-within (J .circuit) (drawsOf (J .circuit)) (s′ .point .gate) r′ fits-next, able .draws));
+                    (omega (arith, used-next, spent-le (J .circuit) (drawsOf (J .circuit)) (s′ .point .gate) r′ fits-next, able .draws));
                 fuel = omega (arith, due-is .fuel, d .rounds, rest-is);
                 rounds = omega (arith, d .rounds, due-is .rounds, spent-next one);
                 written =

@@ -11,7 +11,6 @@ pub mod Readiness
 pub mod Sent
 pub mod Received
 pub mod Keeping
-pub mod Points
 pub mod Order
 pub mod Loops
 pub mod SlotQuestions
@@ -22,3 +21,5 @@ pub mod Accepted
 pub mod Halves
 pub mod Answers
 pub mod Returned
+pub mod InOrder
+pub mod Points

@@ -3,169 +3,32 @@
 use Prim.Native.Nat.{ℕ, zero, suc, _+_, _-_, _<_, _≤_}
 use mathlib.Core.Path.{_≡_, refl, sym, ap, subst, _∙_}
 use mathlib.Core.Bool.{Bool, true, false, cond}
-use mathlib.Core.List.{List, [], _∷_, _++_}
+use mathlib.Core.List.{List, [], _∷_}
 use native.Mathlib.Decide.{ℕ-discrete}
 use native.Mathlib.Omega.{arith}
-use lib.Dec.{ltb, eqb}
-use borrow.Author.Tests.{ltb-true, ltb-false, eqb-true, eq-eqb}
+use lib.Dec.{ltb}
+use borrow.Author.Tests.{ltb-true, ltb-false, eq-eqb}
 use Rattle.circuit.specs.Gate.{Gate, In, Add, Sub, Plus, Times, Mul, Out, gate, gates}
 use Rattle.circuit.specs.Kind.{isLinear}
 use Rattle.circuit.specs.Count.{unchecked}
-use Rattle.circuit.specs.Round.{Round, Input, Multiply, CommitOpened, RevealOpened, OpenOutput, CommitOutput, RevealOutput, roundNumber, outRounds, roundsOf, rounds, among, following, overRounds, overRun}
+use Rattle.circuit.specs.Round.{Round, roundNumber, roundsOf, rounds, among, following, overRounds, overRun}
 use Rattle.circuit.specs.Valid.{Names, Valid}
-use Rattle.party.specs.Position.{Point, Stage, Send, Receive, Finished, Aborted, finished, begin, reach, enter, resume, start, proceed, follow}
-use Rattle.circuit.proofs.Tests.{false-no}
+use Rattle.party.specs.Position.{Point, Stage, Send, Receive, Finished, Aborted, finished, begin, reach, enter, resume, start, proceed}
+use Rattle.party.specs.Position.{follow}
+use Rattle.party.proofs.InOrder.{differ, preceding, distinct-rounds, overRounds-split, among-first, follows, begins, Rounds, has-round}
 
--- A test does not both hold and fail.
-pub differ : {A : Type 0} {b : Bool} → b ≡ true → b ≡ false → A
-differ e f = false-no (sym f ∙ e)
-
--- the round that has a number
-numbered : ℕ → Round
-numbered zero = Input
-numbered (suc zero) = Multiply
-numbered (suc (suc zero)) = CommitOpened
-numbered (suc (suc (suc zero))) = RevealOpened
-numbered (suc (suc (suc (suc zero)))) = OpenOutput
-numbered (suc (suc (suc (suc (suc zero))))) = CommitOutput
-numbered (suc (suc (suc (suc (suc (suc k)))))) = RevealOutput
-
--- Each round has its own number.
-numbered-is : (r : Round) → numbered (roundNumber r) ≡ r
-unfolding numbered roundNumber
-numbered-is Input = refl
-numbered-is Multiply = refl
-numbered-is CommitOpened = refl
-numbered-is RevealOpened = refl
-numbered-is OpenOutput = refl
-numbered-is CommitOutput = refl
-numbered-is RevealOutput = refl
-
--- Rounds of one number are the same.
-pub same-round : (r s : Round) → eqb (roundNumber r) (roundNumber s) ≡ true → r ≡ s
-same-round r s e = sym (numbered-is r) ∙ ap numbered (eqb-true (roundNumber r) (roundNumber s) e) ∙ numbered-is s
-
--- the rounds that come before r
-unfoldable pub preceding : Round → List Round → List Round
-preceding r [] = []
-preceding r (s ∷ rs) = cond (eqb (roundNumber r) (roundNumber s)) [] (s ∷ preceding r rs)
-
--- no round comes twice
-abbrev pub Distinct : List Round → Type 0
-Distinct [] = Unit {0}
-Distinct (s ∷ rs) = (among s rs ≡ false) × Distinct rs
-
--- No round of a gate comes twice.
-pub distinct-rounds : (u : ℕ) (g : Gate) → Distinct (roundsOf u g)
-unfolding roundsOf outRounds among roundNumber
-distinct-rounds u (In s) = (refl, tt)
-distinct-rounds u (Add x y) = tt
-distinct-rounds u (Sub x y) = tt
-distinct-rounds u (Plus x k) = tt
-distinct-rounds u (Times x k) = tt
-distinct-rounds u (Mul x y) = (refl, tt)
-distinct-rounds u (Out x) = go (eqb u 0)
+-- What never falls from one number to the next never falls.
+pub rising : (f : ℕ → ℕ) → ((j : ℕ) → f j ≤ f (suc j)) → (j m : ℕ) → j ≤ m → f j ≤ f m
+rising f up j zero l = let e : j ≡ 0 = omega arith in rw e (omega arith)
+rising f up j (suc m) l = go (ℕ-discrete j (suc m)) (rising f up j m)
   where
-    go : (b : Bool) → Distinct (cond b [] (CommitOpened ∷ RevealOpened ∷ []) ++ (OpenOutput ∷ CommitOutput ∷ RevealOutput ∷ []))
-    go true = (refl, (refl, (refl, tt)))
-    go false = (refl, (refl, (refl, (refl, (refl, tt)))))
-
--- A sum over rounds is that of those before r, of r, and of those after it.
-pub overRounds-split : (f : Round → ℕ) (r : Round) (rs : List Round) → among r rs ≡ true
-    → overRounds f rs ≡ overRounds f (preceding r rs) + (f r + overRounds f (following r rs))
-unfolding overRounds preceding following among
-overRounds-split f r [] h = differ h refl
-overRounds-split f r (s ∷ rs) h = go (eqb (roundNumber r) (roundNumber s)) refl (overRounds-split f r rs) h
-  where
-    go : (b : Bool) → eqb (roundNumber r) (roundNumber s) ≡ b
-        → (among r rs ≡ true → overRounds f rs ≡ overRounds f (preceding r rs) + (f r + overRounds f (following r rs)))
-        → cond b true (among r rs) ≡ true
-        → f s + overRounds f rs ≡ overRounds f (cond b [] (s ∷ preceding r rs)) + (f r + overRounds f (cond b rs (following r rs)))
-    go true e later h = let q : f r ≡ f s = ap f (same-round r s e) in omega arith
-    go false e later h = omega (arith, later h)
-
--- The first of some rounds is among them.
-among-first : (r : Round) (rs : List Round) → among r (r ∷ rs) ≡ true
-unfolding among
-among-first r rs = rw (eq-eqb (roundNumber r) (roundNumber r) refl)
-
--- the round r′ that follows r is one of the rounds, and before it come those before r, and r
-pub record Follows (f : Round → ℕ) (r r′ : Round) (rs : List Round) : Type 0 where
-  pub is-round : among r′ rs ≡ true
-  pub before : overRounds f (preceding r′ rs) ≡ overRounds f (preceding r rs) + f r
-
-follows : (f : Round → ℕ) (r r′ : Round) (rest rs : List Round) → Distinct rs → among r rs ≡ true → following r rs ≡ r′ ∷ rest → Follows f r r′ rs
-unfolding overRounds preceding following among
-follows f r r′ rest [] d h e = differ h refl
-follows f r r′ rest (s ∷ rs) d h e =
-    go (eqb (roundNumber r) (roundNumber s)) refl (follows f r r′ rest rs (d .1)) h e (eqb (roundNumber r′) (roundNumber s)) refl
-  where
-    after : among r′ rs ≡ true → (b : Bool) → eqb (roundNumber r′) (roundNumber s) ≡ b → b ≡ false
-    after h true q = differ (ap (λ (t : Round). among t rs) (sym (same-round r′ s q)) ∙ h) (d .0)
-    after h false q = refl
-
-    there : rs ≡ r′ ∷ rest → among r′ rs ≡ true
-    there e = rw e (among-first r′ rest)
-
-    alone : rs ≡ r′ ∷ rest → overRounds f (preceding r′ rs) ≡ 0
-    alone e = rw (e, eq-eqb (roundNumber r′) (roundNumber r′) refl)
-
-    go : (b : Bool) → eqb (roundNumber r) (roundNumber s) ≡ b
-        → (among r rs ≡ true → following r rs ≡ r′ ∷ rest → Follows f r r′ rs)
-        → cond b true (among r rs) ≡ true
-        → cond b rs (following r rs) ≡ r′ ∷ rest
-        → (b′ : Bool)
-        → eqb (roundNumber r′) (roundNumber s) ≡ b′
-        → Follows f r r′ (s ∷ rs)
-    go true q later h e b′ q′ =
-        record {
-          is-round = rw (q′, after (there e) b′ q′) (there e);
-          before =
-              rw (q′, after (there e) b′ q′, q)
-              (let z : f r ≡ f s = ap f (same-round r s q) in omega (arith, alone e));
-        }
-    go false q later h e b′ q′ =
-        let n = later h e in
-        record {
-          is-round = rw (q′, after (n .is-round) b′ q′) (n .is-round);
-          before = rw (q′, after (n .is-round) b′ q′, q) (omega (arith, n .before));
-        }
+    go : Dec (j ≡ suc m) → (j ≤ m → f j ≤ f m) → f j ≤ f (suc m)
+    go (yes e) earlier = rw e (omega arith)
+    go (no e) earlier = omega (arith, earlier (omega arith), up m)
 
 -- about to send round r of gate j
 abbrev pub sending : ℕ → Round → Point
 sending j r = record { gate = j; stage = Send r }
-
--- a round that a gate may begin with
-unfoldable pub begins : Round → Bool
-begins Input = true
-begins Multiply = true
-begins CommitOpened = true
-begins RevealOpened = false
-begins OpenOutput = true
-begins CommitOutput = false
-begins RevealOutput = false
-
--- the first round of a gate and those after it
-pub record Rounds (rs : List Round) : Type 0 where
-  pub first : Round
-  pub rest : List Round
-  pub are : rs ≡ first ∷ rest
-  pub first-begins : begins first ≡ true
-
--- A gate that is not linear has a round.
-has-round : (u : ℕ) (g : Gate) → isLinear g ≡ false → Rounds (roundsOf u g)
-unfolding roundsOf outRounds isLinear begins
-has-round u (In s) e = record { first = Input; rest = []; are = refl; first-begins = refl }
-has-round u (Add x y) e = differ refl e
-has-round u (Sub x y) e = differ refl e
-has-round u (Plus x k) e = differ refl e
-has-round u (Times x k) e = differ refl e
-has-round u (Mul x y) e = record { first = Multiply; rest = []; are = refl; first-begins = refl }
-has-round u (Out x) e = go (eqb u 0)
-  where
-    go : (b : Bool) → Rounds (cond b [] (CommitOpened ∷ RevealOpened ∷ []) ++ (OpenOutput ∷ CommitOutput ∷ RevealOutput ∷ []))
-    go true = record { first = OpenOutput; rest = CommitOutput ∷ RevealOutput ∷ []; are = refl; first-begins = refl }
-    go false = record { first = CommitOpened; rest = RevealOpened ∷ OpenOutput ∷ CommitOutput ∷ RevealOutput ∷ []; are = refl; first-begins = refl }
 
 module _ (c : List ℕ) where
   -- gate k is where a run goes on once the gates before j are done: the end, or a gate that is not linear, with linear gates between
@@ -210,6 +73,7 @@ module _ (c : List ℕ) where
   FitsStage j Finished = j ≡ gates c - 1
   FitsStage j Aborted = ⊥
 
+  -- the same of a point
   abbrev pub Fits : Point → Type 0
   Fits p = FitsStage (p .gate) (p .stage)
 
@@ -220,6 +84,7 @@ module _ (c : List ℕ) where
   spentStage f j Finished = overRun f c (gates c)
   spentStage f j Aborted = 0
 
+  -- the same of a point
   abbrev pub spent : (ℕ → Round → ℕ) → Point → ℕ
   spent f p = spentStage f (p .gate) (p .stage)
 
@@ -230,6 +95,7 @@ module _ (c : List ℕ) where
   doneStage j Finished = gates c
   doneStage j Aborted = j
 
+  -- the same of a point
   abbrev pub done : Point → ℕ
   done p = doneStage (p .gate) (p .stage)
 
@@ -307,7 +173,7 @@ module _ (c : List ℕ) where
       go [] e = leaves e (follow-leaves j r e)
       go (r′ ∷ rest) e = stays r′ rest e (follow-stays j r r′ rest e)
 
-  -- The point after a round fits, and one round more lies behind it.
+  -- The point after a round fits.
   pub fits-follow : (j : ℕ) (r : Round) → FitsStage j (Send r) → Fits (follow c j r)
   fits-follow j r h = go (follow c j r) (followed j r)
     where
@@ -317,6 +183,7 @@ module _ (c : List ℕ) where
           (h .0, follows (λ s. 0) r r′ rest (rounds c j) (unfold rounds in distinct-rounds (unchecked c j) (gate c j)) (h .1) e .is-round)
       go p (leaves e q) = subst Fits (sym q) (goes-resume (suc j) (h .0) .fits)
 
+  -- One round more lies behind it.
   pub spent-follow : (f : ℕ → Round → ℕ) (j : ℕ) (r : Round) → FitsStage j (Send r) → spent f (follow c j r) ≡ spent f (sending j r) + f j r
   spent-follow f j r h = go (follow c j r) (followed j r)
     where
@@ -333,19 +200,14 @@ module _ (c : List ℕ) where
       go p (leaves e q) = rw q (goes-resume (suc j) (h .0) .spent-is f ∙ whole e)
 
   -- A sum over the rounds of more gates is no less.
-  overRun-mono : (f : ℕ → Round → ℕ) (j m : ℕ) → j ≤ m → overRun f c j ≤ overRun f c m
+  overRun-rises : (f : ℕ → Round → ℕ) (j m : ℕ) → j ≤ m → overRun f c j ≤ overRun f c m
   unfolding overRun
-  overRun-mono f j zero l = let e : j ≡ 0 = omega arith in rw e (omega arith)
-  overRun-mono f j (suc m) l = go (ℕ-discrete j (suc m)) (overRun-mono f j m)
-    where
-      go : Dec (j ≡ suc m) → (j ≤ m → overRun f c j ≤ overRun f c m) → overRun f c j ≤ overRun f c m + overRounds (f m) (rounds c m)
-      go (yes e) earlier = rw e (unfold overRun in omega arith)
-      go (no e) earlier = omega (arith, earlier (omega arith))
+  overRun-rises f = rising (overRun f c) (λ j. omega arith)
 
   -- What lies behind a round, and the round itself, are a part of the whole.
   pub spent-le : (f : ℕ → Round → ℕ) (j : ℕ) (r : Round) → FitsStage j (Send r) → spent f (sending j r) + f j r ≤ overRun f c (gates c)
   unfolding spentStage overRun
-  spent-le f j r h = omega (arith, overRounds-split (f j) r (rounds c j) (h .1), overRun-mono f (suc j) (gates c) (h .0))
+  spent-le f j r h = omega (arith, overRounds-split (f j) r (rounds c j) (h .1), overRun-rises f (suc j) (gates c) (h .0))
 
   -- A run starts at the first round of gate 0: an accepted circuit's gate 0 names no gate, so it is not linear.
   pub entered-start : {n q : ℕ} → Valid n q c → Entered 0 (start c)

@@ -24,9 +24,10 @@ use Rattle.joint.specs.Joint.{Joint, party}
 use Rattle.joint.specs.Run.{State, Run, begun, said, step, released, run, whole, mostRounds}
 use Rattle.theorems.specs.Premises.{Accepts, after}
 use Rattle.theorems.specs.Abort.{Fails, StopsAt, Stops}
-use Rattle.theorems.proofs.Bools.{differ}
-use Rattle.theorems.proofs.Points.{Fits, FitsStage, spentStage, spent, goes-start, fits-follow, spent-follow, spent-le}
-use Rattle.theorems.proofs.Rounds.{ones, rounds-le}
+use Rattle.party.proofs.InOrder.{differ}
+use Rattle.party.proofs.Points.{Fits, FitsStage, spentStage, spent, goes-start, fits-follow, spent-follow, spent-le}
+use Rattle.joint.proofs.Spending.{rounds-le}
+use Rattle.theorems.proofs.Rounds.{ones}
 use Rattle.theorems.proofs.Runs.{Idle, longer, run-ended, first, last-first, first-longer, after-step, after-idle, rounds-first}
 
 module _ (O : Ops) (J : Joint) (scratch : List ℕ) where

@@ -22,7 +22,7 @@ use Rattle.party.proofs.Wires.{Carries, carries-plus, carries-minus, carries-sc
 use Rattle.joint.specs.Joint.{Joint, party}
 use Rattle.joint.specs.Plain.{plainInput, value}
 use Rattle.joint.specs.Good.{recordAt, wholeKey, shareSum, macSum, Authentic, GoodRecord, GoodMask, GoodTriple}
-use Rattle.theorems.proofs.Bools.{differ}
+use Rattle.party.proofs.InOrder.{differ}
 use Rattle.theorems.proofs.Course.{course, course-is, strong}
 use Rattle.theorems.proofs.Given.{Given}
 use Rattle.theorems.proofs.Values.{valueBy, value-is}

@@ -1,6 +1,6 @@
 -- Recursion and induction on all earlier numbers.
 -- Assumes nothing.
-use Prim.Native.Nat.{ℕ, zero, suc, _<_, _≤_}
+use Prim.Native.Nat.{ℕ, zero, suc, _<_}
 use mathlib.Core.Path.{_≡_, refl, _∙_}
 use mathlib.Core.List.{List, [], _∷_, _++_}
 use native.Mathlib.Decide.{ℕ-discrete}
@@ -38,15 +38,6 @@ module _ {A : Type 0} (d : A) (step : ℕ → (ℕ → A) → A) where
   -- Where a step looks at earlier entries alone, entry j is made of the entries.
   pub course-is : (j : ℕ) → ((f g : ℕ → A) → ((x : ℕ) → x < j → f x ≡ g x) → step j f ≡ step j g) → course j ≡ step j course
   course-is j local = unfold course in local (λ x. getD (before j) x d) course (before-at j)
-
--- What never falls from one number to the next never falls.
-pub rising : (f : ℕ → ℕ) → ((j : ℕ) → f j ≤ f (suc j)) → (j m : ℕ) → j ≤ m → f j ≤ f m
-rising f up j zero l = let e : j ≡ 0 = omega arith in rw e (omega arith)
-rising f up j (suc m) l = go (ℕ-discrete j (suc m)) (rising f up j m)
-  where
-    go : Dec (j ≡ suc m) → (j ≤ m → f j ≤ f m) → f j ≤ f (suc m)
-    go (yes e) earlier = rw e (omega arith)
-    go (no e) earlier = omega (arith, earlier (omega arith), up m)
 
 -- What follows from itself for all earlier numbers holds of every number.
 pub strong : (P : ℕ → Type 0) → ((j : ℕ) → ((x : ℕ) → x < j → P x) → P j) → (j : ℕ) → P j

@@ -14,7 +14,7 @@ use Rattle.circuit.specs.Verdict.{Accepted}
 use Rattle.circuit.specs.Gate.{gate, gates, first}
 use Rattle.circuit.specs.Count.{inputAt, inputCount}
 use Rattle.circuit.specs.Valid.{Valid}
-use Rattle.circuit.proofs.Tests.{by-cases}
+use Rattle.circuit.proofs.Tests.{by-cases, both-left}
 use Rattle.circuit.proofs.Verdicts.{ask-true, then-right, elements-below}
 use Rattle.circuit.proofs.Valid.{valid}
 use Rattle.party.specs.Party.{inputOf}
@@ -23,7 +23,6 @@ use Rattle.joint.specs.Joint.{Joint, inputsAt, party}
 use Rattle.joint.specs.Plain.{plainInput}
 use Rattle.joint.specs.Good.{Good, GoodRecord}
 use Rattle.theorems.specs.Premises.{Accepts, InputsPass, Honest}
-use Rattle.theorems.proofs.Bools.{and-left}
 
 -- an accepted circuit, at least one party, good records and inputs that are elements
 pub record Given (O : Ops) (J : Joint) : Type 0 where
@@ -42,7 +41,7 @@ below-cut q l h m n k =
 -- Where the number of parties is accepted there is a party.
 pub some-party : (n : ℕ) → askParties n ≡ Accepted → 0 < n
 unfolding askParties
-some-party n e = omega (arith, leb-true fewestParties n (and-left _ _ (ask-true 1 0 _ e)))
+some-party n e = omega (arith, leb-true fewestParties n (both-left _ _ (ask-true 1 0 _ e)))
 
 module _ {O : Ops} (F : Field O) (J : Joint) where
   -- Inputs that pass are elements.

@@ -20,13 +20,13 @@ use Rattle.party.specs.Party.{recordOf, maskAt, aAt, bAt, cAt}
 use Rattle.party.specs.Send.{maskedFirst, maskedSecond}
 use Rattle.party.specs.Receive.{afterInput, afterMultiply, afterOpenOutput, afterLinear, settle}
 use Rattle.joint.specs.Joint.{Joint, party}
-use Rattle.theorems.proofs.Bools.{differ}
-use Rattle.theorems.proofs.Course.{rising}
+use Rattle.party.proofs.InOrder.{differ}
+use Rattle.party.proofs.Points.{rising}
 use Rattle.theorems.proofs.Closed.{Opening, Masked, Shown, openingsAfter, openings, length-openings, keys, prepared, ownerWord}
 use Rattle.theorems.proofs.Closed.{masked, sumOf, wireBy, wires, opened, wires-are}
-use Rattle.theorems.proofs.Slots.{length-putWire, length-putOpened, wire-putWire-same, wire-putWire-other, value-putWire}
-use Rattle.theorems.proofs.Slots.{mac-putWire, wire-putOpened}
-use Rattle.theorems.proofs.Slots.{value-putOpened-same, mac-putOpened-same, value-putOpened-other, mac-putOpened-other}
+use Rattle.party.proofs.Slots.{length-put, length-opened, wire-put-same, wire-put-other, value-put}
+use Rattle.party.proofs.Slots.{value-mac-put, wire-opened}
+use Rattle.party.proofs.Slots.{value-opened-same, value-mac-opened-same, value-opened-other, value-mac-opened-other}
 
 -- A sum over more gates is no less.
 total-rises : (f : Gate → ℕ) (c : List ℕ) (j m : ℕ) → j ≤ m → total f c j ≤ total f c m
@@ -73,16 +73,16 @@ module _ (O : Ops) (J : Joint) where
       record {
         within = lt;
         few = h .few;
-        long = rw length-putWire (h .long);
+        long = rw length-put (h .long);
         worked = λ x lx v. go x lx v (ℕ-discrete x j);
-        values = λ t lx. value-putWire (layout (J .circuit)) l j t p lt (omega (arith, h .few)) ∙ h .values t lx;
-        macs = λ t lx. mac-putWire (layout (J .circuit)) l j t p lt (omega (arith, h .few)) ∙ h .macs t lx;
+        values = λ t lx. value-put (layout (J .circuit)) l j t p lt (omega (arith, h .few)) ∙ h .values t lx;
+        macs = λ t lx. value-mac-put (layout (J .circuit)) l j t p lt (omega (arith, h .few)) ∙ h .macs t lx;
       }
     where
       go : (x : ℕ) → x < suc j → hasValue (gate (J .circuit) x) ≡ true → Dec (x ≡ j)
           → wire (layout (J .circuit)) (putWire (layout (J .circuit)) l j p) x ≡ wires O J x i
-      go x lx v (yes q) = rw q (wire-putWire-same (layout (J .circuit)) l j p (h .long) lt ∙ e)
-      go x lx v (no ne) = wire-putWire-other (layout (J .circuit)) l j x p lt (omega arith) ne ∙ h .worked x (omega arith) v
+      go x lx v (yes q) = rw q (wire-put-same (layout (J .circuit)) l j p (h .long) lt ∙ e)
+      go x lx v (no ne) = wire-put-other (layout (J .circuit)) l j x p lt (omega arith) ne ∙ h .worked x (omega arith) v
 
   -- A gate without a value is passed, and what was opened is checked.
   pub holds-pass : {i j : ℕ} {os : List Opening} {l : List ℕ} → Holds i j os l → j < gates (J .circuit) → hasValue (gate (J .circuit) j) ≡ false
@@ -124,8 +124,8 @@ module _ (O : Ops) (J : Joint) where
       record {
         within = h .within;
         few = rw len lt;
-        long = rw length-putOpened (h .long);
-        worked = λ x lx w. wire-putOpened (layout (J .circuit)) l x u v m (omega (arith, h .within)) (omega arith) ∙ h .worked x lx w;
+        long = rw length-opened (h .long);
+        worked = λ x lx w. wire-opened (layout (J .circuit)) l x u v m (omega (arith, h .within)) (omega arith) ∙ h .worked x lx w;
         values = λ t lx. value t (omega (arith, len)) (ℕ-discrete t (length os));
         macs = λ t lx. mac t (omega (arith, len)) (ℕ-discrete t (length os));
       }
@@ -138,20 +138,20 @@ module _ (O : Ops) (J : Joint) where
           ≡ sumOf O J (opened O J (getD (os ++ (o ∷ [])) t (Shown 0)))
       value t lt₁ (yes q) =
           rw (q, eu, getD-append-seam os o [] (Shown 0))
-          (value-putOpened-same (layout (J .circuit)) l (length os) v m (h .long) (omega arith) ∙ ev)
+          (value-opened-same (layout (J .circuit)) l (length os) v m (h .long) (omega arith) ∙ ev)
       value t lt₁ (no ne) =
           rw (List·getD-append os (o ∷ []) (Shown 0) t (omega arith))
-          (value-putOpened-other (layout (J .circuit)) l u t v m (omega arith) (omega arith) (omega arith) ∙ h .values t (omega arith))
+          (value-opened-other (layout (J .circuit)) l u t v m (omega arith) (omega arith) (omega arith) ∙ h .values t (omega arith))
 
       mac : (t : ℕ) → t < suc (length os) → Dec (t ≡ length os)
           → read (layout (J .circuit)) (putOpened (layout (J .circuit)) l u v m) (ValueMac t)
           ≡ opened O J (getD (os ++ (o ∷ [])) t (Shown 0)) i .mac
       mac t lt₁ (yes q) =
           rw (q, eu, getD-append-seam os o [] (Shown 0))
-          (mac-putOpened-same (layout (J .circuit)) l (length os) v m (h .long) (omega arith) ∙ em)
+          (value-mac-opened-same (layout (J .circuit)) l (length os) v m (h .long) (omega arith) ∙ em)
       mac t lt₁ (no ne) =
           rw (List·getD-append os (o ∷ []) (Shown 0) t (omega arith))
-          (mac-putOpened-other (layout (J .circuit)) l u t v m (omega arith) (omega arith) (omega arith) ∙ h .macs t (omega arith))
+          (value-mac-opened-other (layout (J .circuit)) l u t v m (omega arith) (omega arith) (omega arith) ∙ h .macs t (omega arith))
 
   -- What a party reads of its scratch is its part of what is opened:
   module _ {i j : ℕ} {os : List Opening} {l : List ℕ} (x : ℕ) (h : Holds i j os l) (r : Ref (J .circuit) j x) where

@@ -27,16 +27,16 @@ use Rattle.party.specs.Send.{inputWord, checkShare, sent, holds}
 use Rattle.party.specs.Receive.{heardSum, onward, received, passes, next}
 use Rattle.joint.specs.Joint.{Joint, party}
 use Rattle.joint.specs.Run.{State, begun, takes, said, step}
-use Rattle.theorems.proofs.Bools.{differ}
+use Rattle.party.proofs.InOrder.{differ}
 use Rattle.theorems.proofs.Given.{Given}
 use Rattle.theorems.proofs.Closed.{Opening, Masked, Shown, openingsAfter, openings, length-openings, Every, every-at, keys}
 use Rattle.theorems.proofs.Closed.{ownerWord, sumOf, opened, names, CarriesOpened, carries-shown, carries-openings, check-zero}
-use Rattle.theorems.proofs.Words.{length-band, getD-joined, heard-sum}
+use Rattle.joint.proofs.Words.{length-band, getD-joined, heard-sum}
 use Rattle.theorems.proofs.Holds.{Holds, holds-pass, holds-checked, own-first, own-second, own-shown, holds-input, holds-multiply}
 use Rattle.theorems.proofs.Holds.{holds-shown, holds-settle}
-use Rattle.theorems.proofs.InOrder.{outs, begins}
-use Rattle.theorems.proofs.Points.{Reached, reached, Entered, ended, begun as beginning, entered, Fits, FitsStage, goes-entered}
-use Rattle.theorems.proofs.Points.{sending, follow-stays, follow-leaves, fits-follow, entered-start}
+use Rattle.party.proofs.InOrder.{outs, begins}
+use Rattle.party.proofs.Points.{Reached, reached, Entered, ended, begun as beginning, entered, Fits, FitsStage, goes-entered}
+use Rattle.party.proofs.Points.{sending, follow-stays, follow-leaves, fits-follow, entered-start}
 use Rattle.theorems.proofs.Sent.{gate-at, saidBy, revealed-sum}
 
 -- what is opened and unchecked in round r of gate j

@@ -18,19 +18,19 @@ use Rattle.party.specs.Entry.{leave}
 use Rattle.joint.specs.Joint.{Joint, joined, band}
 use Rattle.joint.specs.Run.{State, begun, step, still, ahead, run, whole}
 use Rattle.joint.specs.Entry.{verdict, jointScratch}
-use Rattle.theorems.proofs.Slots.{length-putWire, length-putOpened}
-use Rattle.theorems.proofs.Words.{length-band, length-joined}
-use Rattle.theorems.proofs.Bands.{band-front, band-joined}
+use Rattle.party.proofs.Slots.{length-put, length-opened}
+use Rattle.joint.proofs.Words.{length-band, length-joined}
+use Rattle.joint.proofs.Bands.{band-front, band-joined}
 
 module _ (O : Ops) where
   -- A gate that needs no round writes in place ..
   length-afterLinear : (i key : ℕ) (y : Layout) (l : List ℕ) (j : ℕ) (g : Gate) → length (afterLinear O i key y l j g) ≡ length l
   unfolding afterLinear
   length-afterLinear i key y l j (In s) = refl
-  length-afterLinear i key y l j (Add x z) = length-putWire y l j _
-  length-afterLinear i key y l j (Sub x z) = length-putWire y l j _
-  length-afterLinear i key y l j (Plus x k) = length-putWire y l j _
-  length-afterLinear i key y l j (Times x k) = length-putWire y l j _
+  length-afterLinear i key y l j (Add x z) = length-put y l j _
+  length-afterLinear i key y l j (Sub x z) = length-put y l j _
+  length-afterLinear i key y l j (Plus x k) = length-put y l j _
+  length-afterLinear i key y l j (Times x k) = length-put y l j _
   length-afterLinear i key y l j (Mul x z) = refl
   length-afterLinear i key y l j (Out x) = refl
 
@@ -54,13 +54,13 @@ module _ (O : Ops) where
     -- Receiving a round keeps the length.
     length-received : (l : List ℕ) (j : ℕ) (r : Round) (heard : List ℕ) → length (received O P l j r heard) ≡ length l
     unfolding received
-    length-received l j Input heard = length-onward j _ ∙ (unfold afterInput in length-putWire _ l j _)
+    length-received l j Input heard = length-onward j _ ∙ (unfold afterInput in length-put _ l j _)
     length-received l j Multiply heard =
         length-onward j _
-        ∙ (unfold afterMultiply in length-putWire _ _ j _ ∙ length-putOpened _ _ _ _ _ ∙ length-putOpened _ l _ _ _)
+        ∙ (unfold afterMultiply in length-put _ _ j _ ∙ length-opened _ _ _ _ _ ∙ length-opened _ l _ _ _)
     length-received l j CommitOpened heard = refl
     length-received l j RevealOpened heard = refl
-    length-received l j OpenOutput heard = unfold afterOpenOutput in length-putOpened _ l _ _ _
+    length-received l j OpenOutput heard = unfold afterOpenOutput in length-opened _ l _ _ _
     length-received l j CommitOutput heard = refl
     length-received l j RevealOutput heard = go (passes O (P .parties) RevealOutput heard)
       where

@@ -1,14 +1,9 @@
 -- The proofs of what is claimed of the joint run.
-pub mod Bools
 pub mod Course
 pub mod Given
 pub mod Values
 pub mod Closed
-pub mod Slots
-pub mod Words
 pub mod Holds
-pub mod InOrder
-pub mod Points
 pub mod Sent
 pub mod Honest
 pub mod Rounds

@@ -25,8 +25,9 @@ use Rattle.party.specs.Party.{recordIn, maskAt, wholeMaskAt, aAt, bAt, cAt}
 use Rattle.joint.specs.Joint.{joined, band}
 use Rattle.joint.specs.Good.{Good, GoodRecord, GoodMask, GoodTriple, recordAt, wholeKey, shareSum, macSum}
 use Rattle.theorems.specs.Matching.{only, addLists, inputMove, valueMove, moved, productMove, recordMove, prepMove, match}
-use Rattle.theorems.proofs.Words.{length-band, length-joined}
-use Rattle.theorems.proofs.Bands.{band-joined, length-addLists, getD-addLists, band-addLists, Elements, elements-of, elements-band, elements-addLists, Zeros, no-more, zero-then, zeros-append, add-zeros, Cancel, cancel-none, cancel-then, cancel-append, cancel-joined, add-cancel}
+use Rattle.joint.proofs.Words.{length-band, length-joined}
+use Rattle.joint.proofs.Bands.{band-joined}
+use Rattle.theorems.proofs.Bands.{length-addLists, getD-addLists, band-addLists, Elements, elements-of, elements-band, elements-addLists, Zeros, no-more, zero-then, zeros-append, add-zeros, Cancel, cancel-none, cancel-then, cancel-append, cancel-joined, add-cancel}
 
 -- The record of a gate ends before the records of the gates after it.
 pub record-end : (c : List ℕ) (j r : ℕ) → j < r → prepAt c j + shape (gate c j) .prep ≤ prepAt c r

@@ -20,8 +20,8 @@ use Rattle.circuit.specs.Accept.{fewestGates, mostGates, askCircuit}
 use Rattle.circuit.specs.Valid.{Names, Valid}
 use Rattle.joint.specs.Formula.{mulCount, bareOuts, roundFormula, mostRoundsOfAll}
 use Rattle.joint.proofs.Computing.{computing}
-use Rattle.theorems.proofs.Bools.{differ}
-use Rattle.theorems.proofs.InOrder.{outs}
+use Rattle.party.proofs.InOrder.{differ}
+use Rattle.party.proofs.InOrder.{outs}
 
 -- one for each round
 abbrev pub ones : ℕ → Round → ℕ
@@ -110,16 +110,6 @@ at-most-766 {n} {q} {c} ok = rw formula-is (go (gates c) (ok .two) (ok .few))
     go : (m : ℕ) → fewestGates ≤ m → m ≤ mostGates → overRun ones c m ≤ mostRoundsOfAll
     go zero l h = absurd (omega arith)
     go (suc m) l h = omega (arith, rounds-owed ok m)
-
--- A gate takes at most 5 rounds.
-five-a-gate : (u : ℕ) (g : Gate) → overRounds (λ r. 1) (roundsOf u g) ≤ 5
-five-a-gate u g = omega (arith, three-a-gate u g, owed-le (eqb u 0))
-
--- So the rounds that a run is given suffice.
-pub rounds-le : (c : List ℕ) (j : ℕ) → overRun ones c j ≤ 5 * j
-unfolding overRun rounds
-rounds-le c zero = omega arith
-rounds-le c (suc j) = omega (arith, rounds-le c j, five-a-gate (unchecked c j) (gate c j))
 
 -- the out gates before j with something unchecked
 unfoldable pub checkedOuts : List ℕ → ℕ → ℕ

@@ -20,9 +20,9 @@ use Rattle.party.specs.Send.{sent}
 use Rattle.party.specs.Receive.{heardSum}
 use Rattle.joint.specs.Joint.{Joint, party}
 use Rattle.joint.specs.Run.{State, said}
-use Rattle.theorems.proofs.Bools.{differ}
-use Rattle.theorems.proofs.Words.{length-joined, heard-sum}
-use Rattle.theorems.proofs.InOrder.{same-round, outs}
+use Rattle.party.proofs.InOrder.{differ}
+use Rattle.joint.proofs.Words.{length-joined, heard-sum}
+use Rattle.party.proofs.InOrder.{same-round, outs}
 
 -- the kind of a gate that has round r
 abbrev pub Wants : Round → Gate → Type 0

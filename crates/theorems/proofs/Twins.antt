@@ -16,7 +16,7 @@ use Rattle.party.specs.Position.{Stage, Send, Receive, Finished, Aborted, Point
 use Rattle.party.specs.Send.{sent, holds}
 use Rattle.joint.specs.Joint.{Joint, party}
 use Rattle.joint.specs.Run.{State, Run, said, takes, step, still, ahead, run, begun, whole}
-use Rattle.theorems.proofs.Words.{joined-ext}
+use Rattle.joint.proofs.Words.{joined-ext}
 use Rattle.theorems.proofs.Closed.{Every}
 use Rattle.theorems.proofs.Holds.{Holds}
 use Rattle.theorems.proofs.Sent.{Wants, gate-at}

@@ -11,7 +11,11 @@ use Rattle.circuit.specs.Gate.{Gate, In, Add, Sub, Plus, Times, Mul, Out}
 use Rattle.circuit.specs.Kind.{isLinear}
 use Rattle.circuit.specs.Round.{Round, Input, Multiply, CommitOpened, RevealOpened, OpenOutput, CommitOutput, RevealOutput, roundNumber}
 use Rattle.circuit.specs.Round.{outRounds, roundsOf, among, following, overRounds}
-use Rattle.theorems.proofs.Bools.{differ}
+use Rattle.circuit.proofs.Tests.{false-no}
+
+-- No test both holds and does not.
+pub differ : {A : Type 0} {b : Bool} → b ≡ true → b ≡ false → A
+differ e h = false-no (sym h ∙ e)
 
 -- the round that has a number
 numbered : ℕ → Round
