@@ -18,3 +18,4 @@ pub mod SideBySide
 pub mod SameRound
 pub mod Twins
 pub mod Secrecy
+pub mod Corollaries
