@@ -18,6 +18,7 @@ pub mod prep;
 pub mod random;
 pub mod refusal;
 pub mod requests;
+pub mod text;
 pub mod theorems;
 
 pub use field::P;

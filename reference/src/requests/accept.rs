@@ -84,7 +84,7 @@ pub(super) fn whole_run(random: &mut Random, turn: usize, size: Size) -> Vec<(Re
     let scene = Scene::new(random, parties, circuit, key);
     let party = scene.any_party(random);
     scene
-        .whole(random, party)
+        .whole(random, Some(party))
         .into_iter()
         .map(|request| (request, Accepted))
         .collect()

@@ -10,6 +10,9 @@ mod refuse_steps;
 mod rotation;
 mod scene;
 
+use std::slice::from_ref;
+
+use crate::circuit;
 use crate::joint::{joint_run, Ending, JointResult};
 use crate::party::{open, receive, send, Party, Position, Received, Stage};
 use crate::refusal::Refusal;
@@ -123,7 +126,115 @@ pub enum Entry {
     Joint,
 }
 
+impl Entry {
+    pub const ALL: [Entry; 4] = [Entry::Open, Entry::Send, Entry::Receive, Entry::Joint];
+
+    pub fn name(self) -> &'static str {
+        match self {
+            Entry::Open => "open",
+            Entry::Send => "send",
+            Entry::Receive => "receive",
+            Entry::Joint => "joint",
+        }
+    }
+}
+
+/// One thing that an entry is lent.
+#[derive(Clone, Copy, Debug, PartialEq, Eq)]
+pub enum Field<'a> {
+    Numbers(&'a [u32]),
+    Position(Position),
+}
+
+impl Lent {
+    fn fields(&self) -> Vec<(&'static str, Field<'_>)> {
+        vec![
+            ("parties", Field::Numbers(from_ref(&self.parties))),
+            ("party", Field::Numbers(from_ref(&self.party))),
+            ("circuit", Field::Numbers(&self.circuit)),
+            ("prep", Field::Numbers(&self.prep)),
+            ("inputs", Field::Numbers(&self.inputs)),
+            ("scratch", Field::Numbers(&self.scratch)),
+        ]
+    }
+}
+
+/// A joint run whose lists to be written are zeros and just long enough. Fails as questions 1 and 3
+/// to 7 do.
+pub fn blank_joint(
+    parties: u32,
+    circuit: &[u32],
+    preps: &[u32],
+    inputs: &[u32],
+    coefficients: &[u32],
+) -> Result<Request, Refusal> {
+    let shape = circuit::shape(parties, circuit)?;
+    let count = parties as usize;
+    Ok(Request::Joint {
+        parties,
+        circuit: circuit.to_vec(),
+        preps: preps.to_vec(),
+        inputs: inputs.to_vec(),
+        scratch: vec![0; count * shape.scratch_len()],
+        coefficients: coefficients.to_vec(),
+        transcript: vec![0; count * shape.words()],
+        outputs: vec![0; shape.outputs],
+    })
+}
+
 impl Request {
+    /// All that the entry is lent, in the order and by the names of the text.
+    pub fn fields(&self) -> Vec<(&'static str, Field<'_>)> {
+        match self {
+            Request::Open { lent } => lent.fields(),
+            Request::Send {
+                lent,
+                position,
+                coefficients,
+                out,
+            } => {
+                let mut fields = lent.fields();
+                fields.extend([
+                    ("position", Field::Position(*position)),
+                    ("coefficients", Field::Numbers(coefficients)),
+                    ("out", Field::Numbers(out)),
+                ]);
+                fields
+            }
+            Request::Receive {
+                lent,
+                position,
+                heard,
+            } => {
+                let mut fields = lent.fields();
+                fields.extend([
+                    ("position", Field::Position(*position)),
+                    ("heard", Field::Numbers(heard)),
+                ]);
+                fields
+            }
+            Request::Joint {
+                parties,
+                circuit,
+                preps,
+                inputs,
+                scratch,
+                coefficients,
+                transcript,
+                outputs,
+            } => vec![
+                ("parties", Field::Numbers(from_ref(parties))),
+                ("circuit", Field::Numbers(circuit)),
+                ("preps", Field::Numbers(preps)),
+                ("inputs", Field::Numbers(inputs)),
+                ("scratch", Field::Numbers(scratch)),
+                ("coefficients", Field::Numbers(coefficients)),
+                ("transcript", Field::Numbers(transcript)),
+                ("outputs", Field::Numbers(outputs)),
+            ],
+        }
+    }
+
     pub fn entry(&self) -> Entry {
         match self {
             Request::Open { .. } => Entry::Open,
@@ -206,6 +317,25 @@ impl Request {
 }
 
 impl Answer {
+    /// The later contents of the lists that the entry may write, in the order of the text.
+    pub fn lists(&self) -> Vec<(&'static str, &[u32])> {
+        match self {
+            Answer::Open { .. } => Vec::new(),
+            Answer::Send { out, .. } => vec![("out", out)],
+            Answer::Receive { scratch, .. } => vec![("scratch", scratch)],
+            Answer::Joint {
+                scratch,
+                transcript,
+                outputs,
+                ..
+            } => vec![
+                ("scratch", scratch),
+                ("transcript", transcript),
+                ("outputs", outputs),
+            ],
+        }
+    }
+
     pub fn refusal(&self) -> Option<Refusal> {
         match self {
             Answer::Open { result } | Answer::Send { result, .. } => result.err(),
@@ -229,12 +359,7 @@ impl Answer {
 impl Answered {
     /// The entry with its refusal number, or with the round and what came of it.
     pub fn label(&self) -> String {
-        let entry = match self.request.entry() {
-            Entry::Open => "open",
-            Entry::Send => "send",
-            Entry::Receive => "receive",
-            Entry::Joint => "joint",
-        };
+        let entry = self.request.entry().name();
         if let Some(refusal) = self.answer.refusal() {
             return format!("{entry} refused {:02}", refusal.number);
         }

@@ -2,6 +2,8 @@
 
 use super::{Entry, Lent, Request, Size};
 use crate::circuit::{self, Shape};
+use crate::docket;
+use crate::field;
 use crate::joint::first_inputs;
 use crate::party::{receive, send, Party, Position, Received, Round, Stage};
 use crate::prep;
@@ -17,6 +19,59 @@ pub(super) struct Scene {
     pub preps: Vec<u32>,
     pub inputs: Vec<u32>,
     pub coefficients: Vec<u32>,
+    /// Whether lists to be written hold zeros at first, which keeps long requests short as text.
+    /// Otherwise they hold any numbers, and sometimes have an excess.
+    pub zeros: bool,
+}
+
+/// A word that is heard otherwise than it was sent: in which round, which one, and what is added.
+#[derive(Clone, Copy, Debug)]
+pub(super) struct Tamper {
+    pub round: usize,
+    pub word: usize,
+    pub by: u32,
+}
+
+/// The parties of a run by single entries after some rounds, and requests made on the way.
+struct Played<'a> {
+    players: Vec<Player<'a>>,
+    requests: Vec<Request>,
+}
+
+struct Player<'a> {
+    view: Party<'a>,
+    scratch: Vec<u32>,
+    position: Position,
+}
+
+impl Player<'_> {
+    fn lend(&self) -> Lent {
+        Lent {
+            parties: self.view.parties,
+            party: self.view.party,
+            circuit: self.view.circuit.to_vec(),
+            prep: self.view.prep.to_vec(),
+            inputs: self.view.inputs.to_vec(),
+            scratch: self.scratch.clone(),
+        }
+    }
+
+    fn sending(&self, coefficients: &[u32], out: Vec<u32>) -> Request {
+        Request::Send {
+            lent: self.lend(),
+            position: self.position,
+            coefficients: coefficients.to_vec(),
+            out,
+        }
+    }
+
+    fn receiving(&self, heard: &[u32]) -> Request {
+        Request::Receive {
+            lent: self.lend(),
+            position: self.position,
+            heard: heard.to_vec(),
+        }
+    }
 }
 
 impl Scene {
@@ -31,6 +86,22 @@ impl Scene {
             coefficients: random.elements(shape.coefficients()),
             circuit,
             shape,
+            zeros: false,
+        }
+    }
+
+    /// Document 01's example run.
+    pub fn docket() -> Scene {
+        let shape = circuit::shape(docket::PARTIES, &docket::CIRCUIT).expect("an accepted circuit");
+        Scene {
+            parties: docket::PARTIES,
+            circuit: docket::CIRCUIT.to_vec(),
+            shape,
+            rounds: circuit::rounds(&docket::CIRCUIT),
+            preps: docket::PREPS.to_vec(),
+            inputs: docket::INPUTS.to_vec(),
+            coefficients: docket::COEFFICIENTS.to_vec(),
+            zeros: true,
         }
     }
 
@@ -90,30 +161,45 @@ impl Scene {
         }
     }
 
-    /// A starting scratch: any numbers, sometimes with an excess.
-    fn scratch(&self, random: &mut Random, parties: usize) -> Vec<u32> {
-        let excess = random.below(3);
-        random.numbers(parties * self.shape.scratch_len() + excess)
+    /// The contents, before a call, of a list to be written that must hold `len` numbers.
+    fn fresh(&self, random: &mut Random, len: usize) -> Vec<u32> {
+        if self.zeros {
+            vec![0; len]
+        } else {
+            let excess = random.below(3);
+            random.numbers(len + excess)
+        }
+    }
+
+    fn player(&self, random: &mut Random, party: u32) -> Player<'_> {
+        Player {
+            view: self.view(party),
+            scratch: self.fresh(random, self.shape.scratch_len()),
+            position: Position {
+                gate: 0,
+                stage: Stage::Send(Round::Input),
+                held: 0,
+            },
+        }
     }
 
     pub fn open(&self, random: &mut Random, party: u32) -> Request {
         Request::Open {
-            lent: lend(self.view(party), &self.scratch(random, 1)),
+            lent: self.player(random, party).lend(),
         }
     }
 
     pub fn joint(&self, random: &mut Random) -> Request {
         let count = self.parties as usize;
-        let (more_words, more_outputs) = (random.below(3), random.below(3));
         Request::Joint {
             parties: self.parties,
             circuit: self.circuit.clone(),
             preps: self.preps.clone(),
             inputs: self.inputs.clone(),
-            scratch: self.scratch(random, count),
+            scratch: self.fresh(random, count * self.shape.scratch_len()),
             coefficients: self.coefficients.clone(),
-            transcript: random.numbers(count * self.shape.words() + more_words),
-            outputs: random.numbers(self.shape.outputs + more_outputs),
+            transcript: self.fresh(random, count * self.shape.words()),
+            outputs: self.fresh(random, self.shape.outputs),
         }
     }
 
@@ -131,43 +217,79 @@ impl Scene {
 
     /// The party's sending or receiving half of a round.
     pub fn step(&self, random: &mut Random, entry: Entry, party: u32, round: usize) -> Request {
-        let mut halves = self.play(random, party, round..round + 1).into_iter();
-        let request = match entry {
-            Entry::Send => halves.next(),
-            _ => halves.nth(1),
-        };
-        request.expect("a round has two halves")
+        let halves = self.halves(random, party, &[round]).into_iter();
+        let mut halves = halves.filter(|request| request.entry() == entry);
+        halves.next().expect("a round has two halves")
     }
 
-    /// All requests of the party in a run by single entries.
-    pub fn whole(&self, random: &mut Random, party: u32) -> Vec<Request> {
-        let mut requests = self.play(random, party, 0..self.rounds.len());
-        if let Some(Request::Send { lent, .. }) = requests.first() {
-            let open = Request::Open { lent: lent.clone() };
-            requests.insert(0, open);
+    /// The party's two halves of each of the rounds.
+    pub fn halves(&self, random: &mut Random, party: u32, rounds: &[usize]) -> Vec<Request> {
+        let wanted = |round: usize, here: u32| rounds.contains(&round) && here == party;
+        let end = rounds.iter().max().map_or(0, |last| last + 1);
+        self.play(random, wanted, end, None).requests
+    }
+
+    /// All requests of one party, or of all parties, in a run by single entries: opening, and both
+    /// halves of every round until the run ends.
+    pub fn whole(&self, random: &mut Random, party: Option<u32>) -> Vec<Request> {
+        self.play_all(random, party, None).requests
+    }
+
+    /// The same with a word tampered with, and then a call of both halves at the position where the
+    /// run has ended, which has neither.
+    pub fn whole_and_after(
+        &self,
+        random: &mut Random,
+        party: Option<u32>,
+        tamper: Option<Tamper>,
+    ) -> Vec<Request> {
+        let played = self.play_all(random, party, tamper);
+        let mut requests = played.requests;
+        let words = vec![0; self.parties as usize];
+        for player in &played.players {
+            if party.is_none_or(|party| party == player.view.party) {
+                requests.extend([player.sending(&[], vec![0]), player.receiving(&words)]);
+            }
         }
         requests
     }
 
-    /// Runs all parties by single entries, and gives the party's requests in the wanted rounds.
+    fn play_all(
+        &self,
+        random: &mut Random,
+        party: Option<u32>,
+        tamper: Option<Tamper>,
+    ) -> Played<'_> {
+        let wanted = |_, here| party.is_none_or(|party| party == here);
+        let mut played = self.play(random, wanted, self.rounds.len(), tamper);
+        let halves = std::mem::take(&mut played.requests);
+        for request in halves {
+            if let Request::Send { lent, position, .. } = &request {
+                if position.gate == 0 {
+                    let open = Request::Open { lent: lent.clone() };
+                    played.requests.push(open);
+                }
+            }
+            played.requests.push(request);
+        }
+        played
+    }
+
+    /// Runs all parties by single entries for some rounds or until the run ends, and keeps the
+    /// requests of the wanted rounds and parties.
     fn play(
         &self,
         random: &mut Random,
-        party: u32,
-        wanted: std::ops::Range<usize>,
-    ) -> Vec<Request> {
-        let start = Position {
-            gate: 0,
-            stage: Stage::Send(Round::Input),
-            held: 0,
-        };
-        let mut players: Vec<(Party<'_>, Vec<u32>, Position)> = (0..self.parties)
-            .map(|party| (self.view(party), self.scratch(random, 1), start))
+        wanted: impl Fn(usize, u32) -> bool,
+        end: usize,
+        tamper: Option<Tamper>,
+    ) -> Played<'_> {
+        let mut players: Vec<Player<'_>> = (0..self.parties)
+            .map(|party| self.player(random, party))
             .collect();
         let mut requests = Vec::new();
         let mut coefficients = &self.coefficients[..];
-        for (index, &(gate, round)) in self.rounds.iter().enumerate().take(wanted.end) {
-            let keep = |party_here: u32| wanted.contains(&index) && party_here == party;
+        for (index, &(gate, round)) in self.rounds.iter().enumerate().take(end) {
             let entries = if round.is_commit() {
                 round.unchecked(self.pending(gate))
             } else {
@@ -177,46 +299,51 @@ impl Scene {
             coefficients = later;
 
             let mut heard = Vec::with_capacity(2 * players.len());
-            for (view, scratch, position) in &mut players {
-                if keep(view.party) {
-                    let len = round.words() + random.below(3);
-                    requests.push(Request::Send {
-                        lent: lend(*view, scratch),
-                        position: *position,
-                        coefficients: now.to_vec(),
-                        out: random.numbers(len),
-                    });
+            for player in &mut players {
+                if wanted(index, player.view.party) {
+                    let out = self.fresh(random, round.words());
+                    requests.push(player.sending(now, out));
                 }
+                let Player {
+                    view,
+                    scratch,
+                    position,
+                } = player;
                 let mut out = [0; 2];
                 *position = send(view, scratch, *position, now, &mut out).expect("an honest step");
                 heard.extend(&out[..round.words()]);
             }
-            for (view, scratch, position) in &mut players {
-                if keep(view.party) {
-                    requests.push(Request::Receive {
-                        lent: lend(*view, scratch),
-                        position: *position,
-                        heard: heard.clone(),
-                    });
+            let tamper = tamper.filter(|tamper| tamper.round == index);
+            let mut tampered = heard.clone();
+            if let Some(Tamper { word, by, .. }) = tamper {
+                tampered[word] = field::add(tampered[word], by);
+            }
+            if !round.is_commit() {
+                heard.clone_from(&tampered);
+            }
+            for player in &mut players {
+                if wanted(index, player.view.party) {
+                    // Another mark than 1 is refused, and the round goes on with the right ones.
+                    if tampered != heard {
+                        requests.push(player.receiving(&tampered));
+                    }
+                    requests.push(player.receiving(&heard));
                 }
+                let Player {
+                    view,
+                    scratch,
+                    position,
+                } = player;
                 let (Received::Moved(next)
                 | Received::Released { position: next, .. }
                 | Received::Aborted(next)) =
                     receive(view, scratch, *position, &heard).expect("an honest step");
                 *position = next;
             }
+            if !matches!(players[0].position.stage, Stage::Send(_)) {
+                break;
+            }
         }
-        requests
-    }
-}
-
-fn lend(view: Party<'_>, scratch: &[u32]) -> Lent {
-    Lent {
-        parties: view.parties,
-        party: view.party,
-        circuit: view.circuit.to_vec(),
-        prep: view.prep.to_vec(),
-        inputs: view.inputs.to_vec(),
-        scratch: scratch.to_vec(),
+        Played { players, requests }
     }
 }

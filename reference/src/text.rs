@@ -1,0 +1,202 @@
+//! Requests and answers as text, in the format of `docs/REPLAY.md`.
+
+use crate::circuit;
+use crate::joint::{Ending, JointResult};
+use crate::party::{Position, Received, Round, Stage};
+use crate::refusal::Refusal;
+use crate::requests::{Answer, Answered, Field, Request};
+
+/// A request to the entry that it is made for.
+pub fn request(request: &Request) -> String {
+    request_to(request.entry().name(), request)
+}
+
+/// A request under another entry's name: a joint run may be asked of `show` too.
+pub fn request_to(entry: &str, request: &Request) -> String {
+    let mut text = format!("{entry}\n");
+    for (name, field) in request.fields() {
+        match field {
+            Field::Numbers(numbers) => text.push_str(&line(name, numbers)),
+            Field::Position(at) => text.push_str(&format!("{name} {}\n", position(at))),
+        }
+    }
+    text
+}
+
+/// The result, and the later contents of every list that the entry may write.
+pub fn answer(answer: &Answer) -> String {
+    let mut text = first_line(answer);
+    for (name, numbers) in answer.lists() {
+        text.push_str(&line(name, numbers));
+    }
+    text
+}
+
+/// The answer of `show` to a joint run.
+pub fn show(one: &Answered) -> String {
+    first_line(&one.answer) + &rounds(one)
+}
+
+/// A line for each round that a joint run made, and after a finished run the outputs; nothing for a
+/// refused one.
+pub fn rounds(one: &Answered) -> String {
+    let mut text = String::new();
+    if let (
+        Request::Joint {
+            parties, circuit, ..
+        },
+        Answer::Joint {
+            result: Ok(result),
+            transcript,
+            outputs,
+            ..
+        },
+    ) = (&one.request, &one.answer)
+    {
+        let mut rest = &transcript[..result.words];
+        for (_, round) in circuit::rounds(circuit).into_iter().take(result.rounds) {
+            let (words, later) = rest.split_at(*parties as usize * round.words());
+            rest = later;
+            text.push_str(&line(round.name(), words));
+        }
+        if result.ending == Ending::Finished {
+            text.push_str(&line("out", &outputs[..result.outputs]));
+        }
+    }
+    text
+}
+
+fn line(name: &str, numbers: &[u32]) -> String {
+    let mut text = String::from(name);
+    for number in numbers {
+        text.push(' ');
+        text.push_str(&number.to_string());
+    }
+    text.push('\n');
+    text
+}
+
+fn first_line(answer: &Answer) -> String {
+    let text = match answer {
+        Answer::Open { result } | Answer::Send { result, .. } => {
+            result.map(|next| format!("next {}", position(next)))
+        }
+        Answer::Receive { result, .. } => result.map(|received| match received {
+            Received::Moved(next) => format!("next {}", position(next)),
+            Received::Released {
+                output,
+                position: next,
+            } => format!("output {output} {}", position(next)),
+            Received::Aborted(next) => format!("abort {}", position(next)),
+        }),
+        Answer::Joint { result, .. } => {
+            result.map(|JointResult { ending, rounds, .. }| match ending {
+                Ending::Finished => format!("done {rounds}"),
+                Ending::Aborted { gate } => format!("stopped {gate} {rounds}"),
+            })
+        }
+    };
+    match text {
+        Ok(text) => text + "\n",
+        Err(Refusal { number, index }) => format!("refusal {number} {index}\n"),
+    }
+}
+
+fn position(at: Position) -> String {
+    format!("{} {} {}", at.gate, stage(at.stage), at.held)
+}
+
+pub fn stage(stage: Stage) -> String {
+    match stage {
+        Stage::Send(round) => format!("send-{}", full_name(round)),
+        Stage::Receive(round) => format!("receive-{}", full_name(round)),
+        Stage::Finished => String::from("finished"),
+        Stage::Aborted => String::from("aborted"),
+    }
+}
+
+/// The name that tells an out gate's two checks apart.
+fn full_name(round: Round) -> String {
+    match round {
+        Round::CommitOutput | Round::RevealOutput => format!("output-{}", round.name()),
+        _ => String::from(round.name()),
+    }
+}
+
+#[cfg(test)]
+mod tests {
+    use super::*;
+    use crate::docket;
+    use crate::requests::Lent;
+
+    const REPLAY: &str = include_str!("../../docs/REPLAY.md");
+
+    /// The example at the end of docs/REPLAY.md: its indented lines, before and after "is answered by".
+    fn example() -> (String, String) {
+        let (_, example) = REPLAY.split_once("## An example\n").unwrap();
+        let (request, answer) = example.split_once("is answered by\n").unwrap();
+        let indented = |text: &str| {
+            let lines = text.lines().filter_map(|line| line.strip_prefix("    "));
+            lines.map(|line| format!("{line}\n")).collect()
+        };
+        (indented(request), indented(answer))
+    }
+
+    #[test]
+    fn writes_the_documented_example() {
+        let one = Request::Send {
+            lent: Lent {
+                parties: docket::PARTIES,
+                party: 0,
+                circuit: docket::CIRCUIT.to_vec(),
+                prep: docket::PREPS[..13].to_vec(),
+                inputs: vec![5],
+                scratch: vec![0; 14],
+            },
+            position: Position {
+                gate: 0,
+                stage: Stage::Send(Round::Input),
+                held: 0,
+            },
+            coefficients: Vec::new(),
+            out: vec![9, 9],
+        }
+        .answered();
+        assert_eq!((request(&one.request), answer(&one.answer)), example());
+    }
+
+    #[test]
+    fn stages_are_the_documented_ones() {
+        let table = REPLAY.split_once("The stages:").unwrap().1;
+        let table = table.split_once("## Answers").unwrap().0;
+        let documented = table.lines().filter(|line| line.starts_with("| `"));
+        let documented: Vec<&str> = documented
+            .flat_map(|line| line.split('|').nth(1).unwrap().split(','))
+            .map(|name| name.trim().trim_matches('`'))
+            .collect();
+        let written: Vec<String> = Round::ALL
+            .into_iter()
+            .flat_map(|round| [Stage::Send(round), Stage::Receive(round)])
+            .chain([Stage::Finished, Stage::Aborted])
+            .map(stage)
+            .collect();
+        assert_eq!(documented, written);
+    }
+
+    #[test]
+    fn shows_the_docket() {
+        let one = docket::request().unwrap().answered();
+        let shown = format!("done 8\n{}", docket::print().unwrap());
+        assert_eq!(show(&one), shown);
+        assert_eq!(answer(&one.answer).lines().next(), shown.lines().next());
+    }
+
+    #[test]
+    fn a_refusal_shows_its_line_alone() {
+        let mut refused = docket::request().unwrap();
+        if let Request::Joint { parties, .. } = &mut refused {
+            *parties = 9;
+        }
+        assert_eq!(show(&refused.answered()), "refusal 1 0\n");
+    }
+}
