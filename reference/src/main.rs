@@ -1,9 +1,13 @@
 use std::process::ExitCode;
 
-use reference::requests::{self, Size};
+use reference::requests::{self, Set, Size};
+use reference::text;
 
-const USAGE: &str =
-    "usage: reference docket | reference coverage SEED COUNT | reference theorems SEED COUNT";
+const USAGE: &str = "usage:
+    reference docket
+    reference coverage SEED COUNT
+    reference theorems SEED COUNT
+    reference vectors small|large SEED requests|answers";
 
 fn main() -> ExitCode {
     let arguments: Vec<String> = std::env::args().skip(1).collect();
@@ -31,6 +35,17 @@ fn main() -> ExitCode {
             };
             let answered = requests::generate(seed, count, Size::SMALL);
             print!("{}", reference::theorems::theorems(&answered));
+        }
+        ["vectors", name, seed, part] => {
+            let set = Set::ALL.into_iter().find(|set| set.name() == name);
+            let (Some(set), Ok(seed)) = (set, seed.parse()) else {
+                return usage();
+            };
+            match part {
+                "requests" => print!("{}", text::requests(set, seed)),
+                "answers" => print!("{}", text::answers(set, seed)),
+                _ => return usage(),
+            }
         }
         _ => return usage(),
     }

@@ -4,7 +4,28 @@ use crate::circuit;
 use crate::joint::{Ending, JointResult};
 use crate::party::{Position, Received, Round, Stage};
 use crate::refusal::Refusal;
-use crate::requests::{Answer, Answered, Field, Request};
+use crate::requests::{Answer, Answered, Field, Request, Set};
+
+/// The requests of a set, after comments that say what they are.
+pub fn requests(set: Set, seed: u64) -> String {
+    let all = set.make(seed);
+    let mut text = format!(
+        "# {} requests, {}.\n# Made by: reference vectors {} {seed} requests\n",
+        all.len(),
+        set.about(),
+        set.name(),
+    );
+    for one in &all {
+        text.push_str(&request(&one.request));
+    }
+    text
+}
+
+/// The answers to the requests of a set.
+pub fn answers(set: Set, seed: u64) -> String {
+    let all = set.make(seed);
+    all.iter().map(|one| answer(&one.answer)).collect()
+}
 
 /// A request to the entry that it is made for.
 pub fn request(request: &Request) -> String {

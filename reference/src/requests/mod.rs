@@ -5,10 +5,14 @@
 //! edges of what is accepted.
 
 mod accept;
+mod boundary;
+mod boundary_steps;
 mod refuse;
 mod refuse_steps;
 mod rotation;
+mod runs;
 mod scene;
+mod sets;
 
 use std::slice::from_ref;
 
@@ -18,6 +22,7 @@ use crate::party::{open, receive, send, Party, Position, Received, Stage};
 use crate::refusal::Refusal;
 
 pub use rotation::{coverage, generate};
+pub use sets::Set;
 
 /// Bounds for the circuits and the numbers of parties. A few cases need more than a small bound
 /// allows and take it: the boundaries at 8 parties and at 256 gates, and circuits of 10 gates.

@@ -73,6 +73,13 @@ fn turn_requests(
     })
 }
 
+/// The requests of one turn.
+pub(super) fn requests(random: &mut Random, turn: usize, size: Size) -> Vec<Request> {
+    turn_requests(random, turn, size)
+        .map(|(request, _)| request)
+        .collect()
+}
+
 /// The first `count` requests of the rotation, with their answers. The same arguments give the same
 /// requests.
 pub fn generate(seed: u64, count: usize, size: Size) -> Vec<Answered> {

@@ -115,6 +115,10 @@ impl Scene {
             size.max_lines.min(18)
         };
         let lines = random.between(random::RICH_LINES, bound);
+        Scene::rich_of(random, parties, lines)
+    }
+
+    pub fn rich_of(random: &mut Random, parties: u32, lines: usize) -> Scene {
         let circuit = random::rich_circuit(random, parties, lines);
         let key = random.element();
         Scene::new(random, parties, circuit, key)

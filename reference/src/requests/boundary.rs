@@ -1,0 +1,324 @@
+//! Both sides of the boundary of every question: requests that differ in one place, of which the
+//! question lets the first pass and refuses the others. Here questions 1 to 12.
+
+use super::refuse::add_later_faults;
+use super::scene::Scene;
+use super::{Entry, Request};
+use crate::circuit::{ADD, IN, MAX_GATES, MUL, OUT, PLUS, SUB, TIMES};
+use crate::field::P;
+use crate::random::{self, Random};
+
+/// The least and the greatest number that is no element.
+pub(super) const NO_ELEMENTS: [u32; 2] = [P, u32::MAX];
+
+/// One of the lists of a request.
+pub(super) type ListOf = fn(&mut Request) -> &mut Vec<u32>;
+
+pub(super) fn len_of(request: &Request, list: ListOf) -> usize {
+    list(&mut request.clone()).len()
+}
+
+pub(super) struct Boundary {
+    pub number: u32,
+    pub inside: Request,
+    pub outside: Vec<Request>,
+}
+
+impl Boundary {
+    /// The same boundary with further faults, of which later questions would refuse.
+    pub fn crowded(&self, random: &mut Random) -> Boundary {
+        let mut seen = random.clone();
+        let mut add = |request: &Request| {
+            seen = random.clone();
+            let mut request = request.clone();
+            add_later_faults(&mut seen, &mut request, self.number);
+            request
+        };
+        let crowded = Boundary {
+            number: self.number,
+            inside: add(&self.inside),
+            outside: self.outside.iter().map(&mut add).collect(),
+        };
+        *random = seen;
+        crowded
+    }
+
+    pub fn requests(self) -> impl Iterator<Item = Request> {
+        std::iter::once(self.inside).chain(self.outside)
+    }
+}
+
+/// The boundaries of one entry, in scenes for a given number of parties.
+pub(super) struct Boundaries<'a> {
+    pub random: &'a mut Random,
+    pub entry: Entry,
+    scene_of: &'a dyn Fn(&mut Random, u32) -> Scene,
+    made: Vec<Boundary>,
+}
+
+/// Every boundary of the entry.
+pub(super) fn boundaries(
+    random: &mut Random,
+    entry: Entry,
+    scene_of: &dyn Fn(&mut Random, u32) -> Scene,
+) -> Vec<Boundary> {
+    let mut all = Boundaries {
+        random,
+        entry,
+        scene_of,
+        made: Vec::new(),
+    };
+    all.parties();
+    all.length_of_circuit();
+    all.gates();
+    all.lists();
+    all.steps();
+    all.made
+}
+
+impl Boundaries<'_> {
+    /// `put` puts what differs into a copy of the request.
+    pub fn add<T: Copy>(
+        &mut self,
+        number: u32,
+        base: &Request,
+        inside: T,
+        outside: &[T],
+        put: impl Fn(&mut Request, T),
+    ) {
+        let with = |differing: T| {
+            let mut request = base.clone();
+            put(&mut request, differing);
+            request
+        };
+        self.made.push(Boundary {
+            number,
+            inside: with(inside),
+            outside: outside.iter().map(|&differing| with(differing)).collect(),
+        });
+    }
+
+    /// A question for the exact length of a list: one less, one more, none.
+    pub fn exact_length(&mut self, number: u32, base: &Request, list: ListOf) {
+        let len = len_of(base, list);
+        let mut outside = vec![len + 1];
+        outside.extend(len.checked_sub(1));
+        if len > 1 {
+            outside.push(0);
+        }
+        self.add(number, base, len, &outside, |request, len| {
+            list(request).resize(len, 1);
+        });
+    }
+
+    /// A question for a length that is enough: one less, none.
+    pub fn least_length(&mut self, number: u32, base: &Request, len: usize, list: ListOf) {
+        let outside = if len > 1 { vec![len - 1, 0] } else { vec![0] };
+        self.add(number, base, len, &outside, |request, len| {
+            list(request).resize(len, 1);
+        });
+    }
+
+    /// A question whether the numbers of a list are elements, at some indices of it.
+    pub fn elements(&mut self, number: u32, base: &Request, indices: &[usize], list: ListOf) {
+        for &index in indices {
+            self.add(number, base, P - 1, &NO_ELEMENTS, |request, element| {
+                list(request)[index] = element;
+            });
+        }
+    }
+
+    pub fn scene(&mut self) -> Scene {
+        let parties = self.random.between(2, 8) as u32;
+        (self.scene_of)(self.random, parties)
+    }
+
+    pub fn scene_where(&mut self, wanted: impl Fn(&Scene) -> bool) -> Scene {
+        loop {
+            let scene = self.scene();
+            if wanted(&scene) {
+                return scene;
+            }
+        }
+    }
+
+    fn base(&mut self, scene: &Scene, party: u32) -> Request {
+        scene.any(self.random, self.entry, party)
+    }
+
+    fn any_base(&mut self) -> (Scene, Request) {
+        let scene = self.scene();
+        let party = scene.any_party(self.random);
+        let request = self.base(&scene, party);
+        (scene, request)
+    }
+
+    /// Questions 1 and 2.
+    fn parties(&mut self) {
+        for (parties, outside) in [(2, [1, 0]), (8, [9, u32::MAX])] {
+            let scene = (self.scene_of)(self.random, parties);
+            let base = self.base(&scene, 0);
+            self.add(1, &base, parties, &outside, |request, parties| {
+                *request.lists().parties = parties;
+            });
+        }
+        if self.entry != Entry::Joint {
+            let scene = self.scene();
+            let last = scene.parties - 1;
+            let base = self.base(&scene, last);
+            let outside = [scene.parties, u32::MAX];
+            self.add(2, &base, last, &outside, |request, new| {
+                if let Request::Open { lent }
+                | Request::Send { lent, .. }
+                | Request::Receive { lent, .. } = request
+                {
+                    lent.party = new;
+                }
+            });
+        }
+    }
+
+    /// Question 3.
+    fn length_of_circuit(&mut self) {
+        let (_, base) = self.any_base();
+        let put = |request: &mut Request, len| request.lists().circuit.resize(len, 0);
+        let len = len_of(&base, |request| request.lists().circuit);
+        self.add(3, &base, len, &[len - 1, len + 1], put);
+
+        let mut kinds = vec![PLUS; MAX_GATES];
+        kinds[0] = IN;
+        kinds[MAX_GATES - 1] = OUT;
+        for (kinds, outside) in [
+            (&[IN, OUT][..], &[4, 0][..]),
+            (&kinds, &[4 * (MAX_GATES + 1)]),
+        ] {
+            let circuit = random::from_kinds(self.random, 2, kinds);
+            let mut scene = Scene::new(self.random, 2, circuit, 0);
+            scene.zeros = true;
+            let base = self.base(&scene, 0);
+            self.add(3, &base, 4 * kinds.len(), outside, |request, len| {
+                let circuit = request.lists().circuit;
+                circuit.truncate(len);
+                while circuit.len() < len {
+                    circuit.extend([OUT, 0, 0, 0]);
+                }
+            });
+        }
+    }
+
+    /// One number of a gate of a circuit.
+    fn gate_number(
+        &mut self,
+        number: u32,
+        base: &Request,
+        (gate, field): (usize, usize),
+        inside: u32,
+        outside: &[u32],
+    ) {
+        self.add(number, base, inside, outside, |request, new| {
+            request.lists().circuit[4 * gate + field] = new;
+        });
+    }
+
+    /// A gate of the kind, and a request for its circuit. The gate stands after an out gate if the
+    /// kind allows it, so that it may name one.
+    fn gate_of(&mut self, kind: u32) -> (usize, Scene, Request) {
+        let (scene, base) = self.any_base();
+        let gate = scene.gates_of(&[kind]).pop();
+        (gate.expect("the scene has every kind"), scene, base)
+    }
+
+    /// Questions 4 to 7.
+    fn gates(&mut self) {
+        for (kind, outside) in [(IN, &[0][..]), (OUT, &[8, u32::MAX])] {
+            let (gate, _, base) = self.gate_of(kind);
+            self.gate_number(4, &base, (gate, 0), kind, outside);
+        }
+
+        let with_names: [(u32, &[usize]); 6] = [
+            (ADD, &[1, 2]),
+            (SUB, &[1, 2]),
+            (PLUS, &[1]),
+            (TIMES, &[1]),
+            (MUL, &[1, 2]),
+            (OUT, &[1]),
+        ];
+        for (kind, fields) in with_names {
+            for &field in fields {
+                let (gate, scene, base) = self.gate_of(kind);
+                let (outs, wires): (Vec<usize>, Vec<usize>) =
+                    (0..gate).partition(|&earlier| scene.circuit[4 * earlier] == OUT);
+                let nearest = wires[wires.len() - 1] as u32;
+                let mut outside = vec![gate as u32, gate as u32 + 1, u32::MAX];
+                outside.extend(outs.last().map(|&out| out as u32));
+                self.gate_number(5, &base, (gate, field), nearest, &outside);
+            }
+        }
+        let last_owns =
+            |scene: &Scene, gate: usize| scene.circuit[4 * gate + 1] + 1 == scene.parties;
+        let scene = self.scene_where(|scene| last_owns(scene, scene.gates_of(&[IN])[0]));
+        let party = scene.any_party(self.random);
+        let base = self.base(&scene, party);
+        let outside = [scene.parties, u32::MAX];
+        self.gate_number(5, &base, (0, 1), scene.parties - 1, &outside);
+
+        for kind in [PLUS, TIMES] {
+            let (gate, _, base) = self.gate_of(kind);
+            self.gate_number(6, &base, (gate, 3), P - 1, &NO_ELEMENTS);
+        }
+        let unused: [(u32, &[usize]); 7] = [
+            (IN, &[2, 3]),
+            (ADD, &[3]),
+            (SUB, &[3]),
+            (PLUS, &[2]),
+            (TIMES, &[2]),
+            (MUL, &[3]),
+            (OUT, &[2, 3]),
+        ];
+        for (kind, fields) in unused {
+            for &field in fields {
+                let (gate, _, base) = self.gate_of(kind);
+                self.gate_number(6, &base, (gate, field), 0, &[1, u32::MAX]);
+            }
+        }
+
+        let (scene, base) = self.any_base();
+        self.gate_number(7, &base, (scene.shape.gates - 1, 0), OUT, &[PLUS, TIMES]);
+    }
+
+    /// Questions 8 to 12.
+    fn lists(&mut self) {
+        let prep: ListOf = |request| request.lists().prep;
+        let inputs: ListOf = |request| request.lists().inputs;
+        let scratch: ListOf = |request| request.lists().scratch;
+
+        let (_, base) = self.any_base();
+        self.exact_length(8, &base, prep);
+
+        // The whole mask of gate 0, number 3, is then one that the party never reads.
+        let scene = self.scene();
+        let unowned = (scene.circuit[1] + 1) % scene.parties;
+        let base = self.base(&scene, unowned);
+        let last = len_of(&base, prep) - 1;
+        let middle = self.random.between(4, last - 1);
+        self.elements(9, &base, &[0, 3, middle, last], prep);
+
+        let owner = scene.circuit[1];
+        let base = self.base(&scene, owner);
+        self.exact_length(10, &base, inputs);
+        let last = len_of(&base, inputs) - 1;
+        self.elements(11, &base, &[0, last], inputs);
+        if self.entry != Entry::Joint {
+            let scene = self.scene_where(|scene| scene.shape.owned[0] == 0);
+            let base = self.base(&scene, 0);
+            self.exact_length(10, &base, inputs);
+        }
+
+        let (scene, base) = self.any_base();
+        let bands = match self.entry {
+            Entry::Joint => scene.parties as usize,
+            _ => 1,
+        };
+        self.least_length(12, &base, bands * scene.shape.scratch_len(), scratch);
+    }
+}

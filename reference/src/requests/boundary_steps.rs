@@ -1,0 +1,310 @@
+//! Both sides of the boundaries of questions 13 to 21.
+
+use super::boundary::{len_of, Boundaries, NO_ELEMENTS};
+use super::refuse::set_position;
+use super::scene::Scene;
+use super::{Entry, Request};
+use crate::circuit::{IN, MUL, OUT};
+use crate::field::P;
+use crate::party::{Position, Round, Stage};
+
+/// One round of a scene, and a party's request in it.
+struct At {
+    scene: Scene,
+    gate: usize,
+    round: Round,
+    position: Position,
+    base: Request,
+}
+
+impl At {
+    /// The kind of the gates that have such a round.
+    fn kind(&self) -> u32 {
+        match self.round {
+            Round::Input => IN,
+            Round::Multiply => MUL,
+            _ => OUT,
+        }
+    }
+
+    /// The nearest gate of another kind.
+    fn other_gate(&self) -> u32 {
+        let gates = 0..self.scene.shape.gates;
+        let others = gates.filter(|gate| self.scene.circuit[4 * gate] != self.kind());
+        let nearest = others.min_by_key(|gate| gate.abs_diff(self.gate));
+        nearest.expect("the scene has every kind") as u32
+    }
+
+    /// The out gate before which nothing is unchecked.
+    fn unneeded(&self) -> u32 {
+        let mut outs = self.scene.gates_of(&[OUT]).into_iter();
+        let found = outs.find(|&out| self.scene.pending(out) == 0);
+        found.expect("the scene has such an out gate") as u32
+    }
+
+    /// The indices of the scratch that question 15 asks, by its four parts.
+    fn asked(&self) -> [Vec<usize>; 4] {
+        let layout = self.scene.shape.layout();
+        let unchecked = self.round.unchecked(self.scene.pending(self.gate));
+        let circuit = &self.scene.circuit;
+        let wires: Vec<usize> = (0..self.gate)
+            .filter(|wire| circuit[4 * wire] != OUT)
+            .collect();
+        [
+            wires.iter().map(|&wire| layout.share(wire)).collect(),
+            wires.iter().map(|&wire| layout.mac(wire)).collect(),
+            (0..unchecked).map(|entry| layout.opened(entry)).collect(),
+            (0..unchecked)
+                .map(|entry| layout.opened_mac(entry))
+                .collect(),
+        ]
+    }
+}
+
+fn coefficients(request: &mut Request) -> &mut Vec<u32> {
+    match request {
+        Request::Send { coefficients, .. } | Request::Joint { coefficients, .. } => coefficients,
+        _ => unreachable!("the entry takes no coefficients"),
+    }
+}
+
+fn heard(request: &mut Request) -> &mut Vec<u32> {
+    match request {
+        Request::Receive { heard, .. } => heard,
+        _ => unreachable!("the entry hears nothing"),
+    }
+}
+
+/// The list for the words of a round or of a run.
+fn words(request: &mut Request) -> &mut Vec<u32> {
+    match request {
+        Request::Send { out, .. } => out,
+        Request::Joint { transcript, .. } => transcript,
+        _ => unreachable!("the entry sends nothing"),
+    }
+}
+
+fn outputs(request: &mut Request) -> &mut Vec<u32> {
+    match request {
+        Request::Joint { outputs, .. } => outputs,
+        _ => unreachable!("the entry has no list of outputs"),
+    }
+}
+
+impl Boundaries<'_> {
+    /// Questions 13 to 21, as far as the entry asks them.
+    pub fn steps(&mut self) {
+        match self.entry {
+            Entry::Open => {}
+            Entry::Joint => {
+                let scene = self.scene();
+                let base = scene.joint(self.random);
+                self.coefficients_of(&base);
+                let len = scene.parties as usize * scene.shape.words();
+                self.least_length(18, &base, len, words);
+                self.least_length(18, &base, scene.shape.outputs, outputs);
+            }
+            Entry::Send | Entry::Receive => {
+                for round in Round::ALL {
+                    let at = self.at(round);
+                    self.positions(&at);
+                    self.scratch_of(&at);
+                    match self.entry {
+                        Entry::Send => self.sending(&at),
+                        _ => self.receiving(&at),
+                    }
+                }
+                self.ends();
+            }
+        }
+    }
+
+    /// A request of a party in the last such round of a scene.
+    fn at(&mut self, round: Round) -> At {
+        // An in gate after the first, so that question 15 has something to ask.
+        let scene = self.scene_where(|scene| scene.gates_of(&[IN]).len() > 1);
+        let chosen = scene.rounds.iter().rposition(|&(_, here)| here == round);
+        let chosen = chosen.expect("the scene has every round");
+        let party = scene.any_party(self.random);
+        let base = scene.step(self.random, self.entry, party, chosen);
+        let (Request::Send { position, .. } | Request::Receive { position, .. }) = base else {
+            unreachable!("a step is a request to send or to receive")
+        };
+        At {
+            gate: scene.rounds[chosen].0,
+            round,
+            position,
+            scene,
+            base,
+        }
+    }
+
+    fn half(&self, round: Round) -> Stage {
+        match self.entry {
+            Entry::Send => Stage::Send(round),
+            _ => Stage::Receive(round),
+        }
+    }
+
+    fn other_half(&self, round: Round) -> Stage {
+        match self.entry {
+            Entry::Send => Stage::Receive(round),
+            _ => Stage::Send(round),
+        }
+    }
+
+    fn position(&mut self, number: u32, base: &Request, inside: Position, outside: &[Position]) {
+        self.add(number, base, inside, outside, set_position);
+    }
+
+    /// Questions 13 and 14 of the positions next to that of a round.
+    fn positions(&mut self, at: &At) {
+        let here = at.position;
+        let with_held = |held| Position { held, ..here };
+        let with_gate = |gate| Position { gate, ..here };
+        let with_stage = |stage| Position { stage, ..here };
+
+        let holds = match here.stage {
+            Stage::Receive(round) => round.is_commit(),
+            Stage::Send(round) => round.is_reveal(),
+            _ => false,
+        };
+        if holds {
+            let outside = NO_ELEMENTS.map(with_held);
+            self.position(13, &at.base, with_held(P - 1), &outside);
+        } else {
+            self.position(13, &at.base, here, &[1, P - 1, u32::MAX].map(with_held));
+        }
+
+        let past_the_end = at.scene.shape.gates as u32;
+        let mut gates = vec![at.other_gate(), past_the_end, u32::MAX];
+        if [Round::CommitOpened, Round::RevealOpened].contains(&at.round) {
+            gates.push(at.unneeded());
+        }
+        let outside: Vec<Position> = gates.into_iter().map(with_gate).collect();
+        self.position(13, &at.base, here, &outside);
+
+        let elsewhere = match at.kind() {
+            IN => [Round::Multiply, Round::OpenOutput],
+            MUL => [Round::Input, Round::CommitOutput],
+            _ => [Round::Input, Round::Multiply],
+        };
+        let outside = elsewhere.map(|round| with_stage(self.half(round)));
+        self.position(13, &at.base, here, &outside);
+
+        let unheld = with_held(0);
+        let stage = self.other_half(at.round);
+        self.position(14, &at.base, unheld, &[Position { stage, ..unheld }]);
+    }
+
+    /// Questions 13 and 14 of an out gate with nothing unchecked and of the ends.
+    fn ends(&mut self) {
+        let at = self.at(Round::OpenOutput);
+        let unneeded = Position {
+            gate: at.unneeded(),
+            ..at.position
+        };
+        let checks = [Round::CommitOpened, Round::RevealOpened];
+        let outside = checks.map(|round| Position {
+            stage: self.half(round),
+            ..unneeded
+        });
+        self.position(13, &at.base, unneeded, &outside);
+
+        let at = self.at(Round::RevealOutput);
+        let last = Position {
+            held: 0,
+            ..at.position
+        };
+        let [finished, aborted] = [Stage::Finished, Stage::Aborted];
+        let outside = [finished, aborted].map(|stage| Position { stage, ..last });
+        self.position(14, &at.base, last, &outside);
+        let beside = [
+            (finished, [last.gate - 1, last.gate + 1]),
+            (aborted, [at.other_gate(), last.gate + 1]),
+        ];
+        for (stage, gates) in beside {
+            let end = Position { stage, ..last };
+            let outside = gates.map(|gate| Position { gate, ..end });
+            self.position(13, &at.base, end, &outside);
+            let outside = [1, P - 1, u32::MAX].map(|held| Position { held, ..end });
+            self.position(13, &at.base, end, &outside);
+        }
+    }
+
+    /// Question 15, with numbers that are no elements wherever it does not ask.
+    fn scratch_of(&mut self, at: &At) {
+        let asked = at.asked();
+        let mut base = at.base.clone();
+        for (index, number) in base.lists().scratch.iter_mut().enumerate() {
+            if !asked.iter().flatten().any(|&asked| asked == index) {
+                *number = NO_ELEMENTS[index % 2];
+            }
+        }
+        for part in asked.iter().filter(|part| !part.is_empty()) {
+            let index = self.random.pick(&[part[0], part[part.len() - 1]]);
+            self.elements(15, &base, &[index], |request| request.lists().scratch);
+        }
+    }
+
+    /// Questions 16 to 18 of a round.
+    fn sending(&mut self, at: &At) {
+        self.coefficients_of(&at.base);
+        self.least_length(18, &at.base, at.round.words(), words);
+    }
+
+    /// Questions 16 and 17.
+    fn coefficients_of(&mut self, base: &Request) {
+        self.exact_length(16, base, coefficients);
+        let len = len_of(base, coefficients);
+        if len > 0 {
+            self.elements(17, base, &[0, len - 1], coefficients);
+        }
+    }
+
+    /// Questions 19 to 21 of a round.
+    fn receiving(&mut self, at: &At) {
+        self.exact_length(19, &at.base, heard);
+        let last = len_of(&at.base, heard) - 1;
+        // At a commitment the inside, p - 1, is refused by 21, which is asked after 20.
+        self.elements(20, &at.base, &[0, last], heard);
+        if at.round.is_commit() {
+            for index in [0, last] {
+                self.add(21, &at.base, 1, &[0, 2, P - 1], |request, mark| {
+                    heard(request)[index] = mark;
+                });
+            }
+        }
+    }
+}
+
+#[cfg(test)]
+mod tests {
+    use super::super::boundary::boundaries;
+    use super::*;
+    use crate::random::Random;
+
+    #[test]
+    fn only_the_outside_is_refused_by_the_number() {
+        let mut random = Random::new(1);
+        let small = |random: &mut Random, parties| Scene::rich_of(random, parties, 12);
+        for entry in Entry::ALL {
+            for boundary in boundaries(&mut random, entry, &small) {
+                let refused = |request: &Request| request.answer().refusal().map(|no| no.number);
+                let crowded = boundary.crowded(&mut random);
+                for boundary in [boundary, crowded] {
+                    let number = boundary.number;
+                    assert_ne!(
+                        refused(&boundary.inside),
+                        Some(number),
+                        "{:?}",
+                        boundary.inside
+                    );
+                    for outside in boundary.outside {
+                        assert_eq!(refused(&outside), Some(number), "{outside:?}");
+                    }
+                }
+            }
+        }
+    }
+}

@@ -1,0 +1,181 @@
+//! The named sets of requests that are kept as test vectors.
+
+use super::boundary::{boundaries, Boundary};
+use super::runs::{self, Wrong};
+use super::scene::Scene;
+use super::{rotation, Answered, Entry, Request, Size};
+use crate::circuit::{IN, MAX_GATES, MUL, OUT, PLUS};
+use crate::random::{self, Random};
+
+#[derive(Clone, Copy, Debug, PartialEq, Eq)]
+pub enum Set {
+    Small,
+    Large,
+}
+
+impl Set {
+    pub const ALL: [Set; 2] = [Set::Small, Set::Large];
+
+    pub fn name(self) -> &'static str {
+        match self {
+            Set::Small => "small",
+            Set::Large => "large",
+        }
+    }
+
+    pub fn about(self) -> &'static str {
+        match self {
+            Set::Small => "short circuits: both sides of every question's boundary, whole runs, tampered words, bad preprocessing",
+            Set::Large => "circuits of up to 256 gates and 8 parties: the longest runs and lists, refusals at high indices",
+        }
+    }
+
+    /// The requests with their answers. The same seed gives the same requests.
+    pub fn make(self, seed: u64) -> Vec<Answered> {
+        let mut random = Random::new(seed);
+        let requests = match self {
+            Set::Small => small(&mut random),
+            Set::Large => large(&mut random),
+        };
+        requests.into_iter().map(Request::answered).collect()
+    }
+}
+
+/// Turns of the rotation in the small set, about 150 requests each.
+const TURNS: usize = 3;
+
+fn small(random: &mut Random) -> Vec<Request> {
+    let mut requests = runs::docket(random);
+    let scene_of = |random: &mut Random, parties| {
+        let lines = random.between(random::RICH_LINES, 14);
+        Scene::rich_of(random, parties, lines)
+    };
+    for entry in Entry::ALL {
+        for boundary in boundaries(random, entry, &scene_of) {
+            let crowded = random.once_in(3).then(|| boundary.crowded(random));
+            requests.extend(boundary.requests());
+            requests.extend(crowded.into_iter().flat_map(Boundary::requests));
+        }
+    }
+    requests.extend(runs::good(random, 40));
+    requests.extend(runs::bad_preps(random));
+    requests.extend(runs::tampered(random));
+    let size = Size {
+        max_lines: 40,
+        max_parties: 8,
+    };
+    for turn in 0..TURNS {
+        requests.extend(rotation::requests(random, turn, size));
+    }
+    requests
+}
+
+/// A scene of which the lists to be written hold zeros.
+fn scene(random: &mut Random, parties: u32, kinds: &[u32]) -> Scene {
+    let circuit = random::from_kinds(random, parties, kinds);
+    let key = random.nonzero();
+    let mut scene = Scene::new(random, parties, circuit, key);
+    scene.zeros = true;
+    scene
+}
+
+/// As many gates as there can be, of one kind between the first and the last.
+fn filled(kind: u32) -> Vec<u32> {
+    let mut kinds = vec![kind; MAX_GATES];
+    kinds[0] = IN;
+    kinds[MAX_GATES - 1] = OUT;
+    kinds
+}
+
+/// The kinds of a circuit that takes 766 rounds, with a check before every output but the last.
+fn longest_run() -> Vec<u32> {
+    let mut kinds = vec![IN];
+    kinds.extend([MUL, OUT].repeat((MAX_GATES - 2) / 2));
+    kinds.push(OUT);
+    kinds
+}
+
+/// Mostly gates without a round, so that a whole run takes few requests.
+fn few_rounds() -> Vec<u32> {
+    let mut kinds = filled(PLUS);
+    for (gate, kind) in [
+        (60, IN),
+        (120, MUL),
+        (150, OUT),
+        (200, MUL),
+        (MAX_GATES - 2, OUT),
+    ] {
+        kinds[gate] = kind;
+    }
+    kinds
+}
+
+fn large(random: &mut Random) -> Vec<Request> {
+    let mut requests = Vec::new();
+
+    // The longest lists: inputs, preprocessing with scratch and coefficients, outputs, transcript.
+    for kinds in [filled(IN), filled(MUL), filled(OUT), longest_run()] {
+        requests.push(scene(random, 8, &kinds).joint(random));
+    }
+    for parties in 2..=8 {
+        let circuit = random::rich_circuit(random, parties, MAX_GATES);
+        let key = random.nonzero();
+        let mut scene = Scene::new(random, parties, circuit, key);
+        scene.zeros = true;
+        requests.push(scene.joint(random));
+    }
+    // Aborts at the first check of the last product, late in a run, and in the largest check.
+    for kinds in [longest_run(), filled(MUL)] {
+        let mut scene = scene(random, 2, &kinds);
+        runs::spoil(random, &mut scene, Wrong::Triple(1));
+        requests.push(scene.joint(random));
+    }
+
+    // Single entries: a whole run, and rounds at the start, in the middle and at the end of long ones.
+    let whole = scene(random, 8, &few_rounds());
+    requests.extend(whole.whole_and_after(random, Some(7), None));
+    for (kinds, party) in [(longest_run(), 0), (filled(MUL), 7)] {
+        let scene = scene(random, 8, &kinds);
+        let rounds = scene.rounds.len();
+        let chosen = [
+            0,
+            1,
+            rounds / 2,
+            rounds - 5,
+            rounds - 4,
+            rounds - 3,
+            rounds - 2,
+            rounds - 1,
+        ];
+        requests.extend(scene.halves(random, party, &chosen));
+    }
+
+    let scene_of = |random: &mut Random, parties| {
+        let mut scene = Scene::rich_of(random, parties, MAX_GATES);
+        scene.preps.fill(0);
+        scene.zeros = true;
+        scene
+    };
+    for entry in Entry::ALL {
+        let all = boundaries(random, entry, &scene_of);
+        requests.extend(highest(all).into_iter().flat_map(Boundary::requests));
+    }
+    requests
+}
+
+/// For each number the boundary that is refused with the highest index.
+fn highest(all: Vec<Boundary>) -> Vec<Boundary> {
+    let index = |boundary: &Boundary| {
+        let refusals = boundary.outside.iter().map(|one| one.answer().refusal());
+        refusals.flatten().map(|refusal| refusal.index).max()
+    };
+    let mut highest: Vec<Boundary> = Vec::new();
+    for boundary in all {
+        match highest.iter_mut().find(|one| one.number == boundary.number) {
+            None => highest.push(boundary),
+            Some(one) if index(one) < index(&boundary) => *one = boundary,
+            Some(_) => {}
+        }
+    }
+    highest
+}
