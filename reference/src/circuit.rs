@@ -17,6 +17,9 @@ pub const TIMES: u32 = 5;
 pub const MUL: u32 = 6;
 pub const OUT: u32 = 7;
 
+/// The names of kinds 1 to 7.
+pub const KIND_NAMES: [&str; 7] = ["in", "add", "sub", "plus", "times", "mul", "out"];
+
 /// Numbers of preprocessing for an in gate: mask share, MAC share, whole mask.
 pub const INPUT_RECORD: usize = 3;
 /// Numbers of preprocessing for a mul gate: a, MAC of a, b, MAC of b, c, MAC of c.
@@ -84,6 +87,11 @@ pub fn gates(circuit: &[u32]) -> impl Iterator<Item = Gate> + '_ {
 
 pub fn gate(circuit: &[u32], index: usize) -> Option<Gate> {
     circuit.chunks_exact(4).nth(index).and_then(decode)
+}
+
+/// Whether both first and second name gates.
+pub(crate) fn has_two_names(kind: u32) -> bool {
+    [ADD, SUB, MUL].contains(&kind)
 }
 
 /// Whether the gate has a value: "an out line has no value".

@@ -8,6 +8,7 @@
 
 pub mod circuit;
 pub mod docket;
+pub mod example;
 pub mod field;
 pub mod joint;
 mod local;

@@ -1,5 +1,6 @@
 use std::process::ExitCode;
 
+use reference::example::Example;
 use reference::requests::{self, Set, Size};
 use reference::text;
 
@@ -7,7 +8,9 @@ const USAGE: &str = "usage:
     reference docket
     reference coverage SEED COUNT
     reference theorems SEED COUNT
-    reference vectors small|large SEED requests|answers";
+    reference vectors small|large SEED requests|answers
+    reference vectors SEED coverage
+    reference example SEED request|answer";
 
 fn main() -> ExitCode {
     let arguments: Vec<String> = std::env::args().skip(1).collect();
@@ -44,6 +47,24 @@ fn main() -> ExitCode {
             match part {
                 "requests" => print!("{}", text::requests(set, seed)),
                 "answers" => print!("{}", text::answers(set, seed)),
+                _ => return usage(),
+            }
+        }
+        ["vectors", seed, "coverage"] => {
+            let Ok(seed) = seed.parse() else {
+                return usage();
+            };
+            let [small, large] = Set::ALL.map(|set| set.make(seed));
+            print!("{}", requests::table(&small, &large));
+        }
+        ["example", seed, part] => {
+            let Ok(seed) = seed.parse() else {
+                return usage();
+            };
+            let example = Example::make(seed);
+            match part {
+                "request" => print!("{}", example.request(seed)),
+                "answer" => print!("{}", example.answer()),
                 _ => return usage(),
             }
         }

@@ -5,7 +5,7 @@ use crate::field::P;
 
 /// A round. An out gate has two checks: the first of all opened and unchecked entries, the second of
 /// the output itself.
-#[derive(Clone, Copy, Debug, PartialEq, Eq)]
+#[derive(Clone, Copy, Debug, PartialEq, Eq, PartialOrd, Ord)]
 pub enum Round {
     Input,
     Multiply,

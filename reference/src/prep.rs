@@ -1,7 +1,7 @@
 //! Good preprocessing from a generator, and the conditions for it.
 
 use crate::circuit::{self, Gate};
-use crate::field::{mul, sub, sum};
+use crate::field::{mul, sub, sum, P};
 use crate::random::Random;
 
 /// Random shares of a number, one for each party.
@@ -64,37 +64,63 @@ pub fn make(random: &mut Random, parties: u32, circuit: &[u32], key: u32) -> Vec
     preps.lists.concat()
 }
 
-/// Whether the joined preprocessing of all parties is good for an accepted circuit: lengths and
-/// elements as questions 8 and 9 ask, and the sentence "Material over all seats is good when".
-pub fn is_good(parties: u32, circuit: &[u32], preps: &[u32]) -> bool {
-    let Ok(shape) = circuit::shape(parties, circuit) else {
-        return false;
-    };
-    let len = shape.prep_len();
-    if preps.len() != parties as usize * len || preps.iter().any(|&x| x >= crate::P) {
-        return false;
-    }
+/// A condition of good preprocessing that does not hold.
+#[derive(Clone, Copy, Debug, PartialEq, Eq, PartialOrd, Ord)]
+pub enum Fault {
+    /// MAC shares of a mask that do not sum to the key times the mask.
+    MaskMac,
+    /// An owner's whole mask that is not the mask.
+    WholeMask,
+    /// MAC shares of a, b or c that do not sum to the key times it.
+    TripleMac,
+    /// c is not a times b.
+    Product,
+}
+
+/// What is wrong with joined preprocessing that passes questions 8 and 9: "Material over all seats is
+/// good when".
+pub fn faults(parties: u32, circuit: &[u32], preps: &[u32]) -> Vec<Fault> {
+    let len = preps.len() / parties as usize;
     let total = |index: usize| sum(preps.iter().skip(index).step_by(len));
     let key = total(0);
     let shared = |index: usize| total(index + 1) == mul(key, total(index));
     let mut record = 1;
+    let mut faults = Vec::new();
     for gate in circuit::gates(circuit) {
-        let good = match gate {
+        let conditions = match gate {
             Gate::Input { owner } => {
                 let whole = preps[owner as usize * len + record + 2];
-                shared(record) && whole == total(record)
+                vec![
+                    (Fault::MaskMac, shared(record)),
+                    (Fault::WholeMask, whole == total(record)),
+                ]
             }
             Gate::Multiply { .. } => {
                 let product = mul(total(record), total(record + 2));
-                [0, 2, 4].into_iter().all(|number| shared(record + number))
-                    && total(record + 4) == product
+                let macs = [0, 2, 4].into_iter().all(|number| shared(record + number));
+                vec![
+                    (Fault::TripleMac, macs),
+                    (Fault::Product, total(record + 4) == product),
+                ]
             }
-            _ => true,
+            _ => Vec::new(),
         };
-        if !good {
-            return false;
-        }
+        faults.extend(
+            conditions
+                .iter()
+                .filter(|(_, good)| !good)
+                .map(|(fault, _)| *fault),
+        );
         record += gate.record_len();
     }
-    true
+    faults
+}
+
+/// Whether the joined preprocessing of all parties is good for an accepted circuit.
+pub fn is_good(parties: u32, circuit: &[u32], preps: &[u32]) -> bool {
+    circuit::shape(parties, circuit).is_ok_and(|shape| {
+        preps.len() == parties as usize * shape.prep_len()
+            && preps.iter().all(|&number| number < P)
+            && faults(parties, circuit, preps).is_empty()
+    })
 }

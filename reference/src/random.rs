@@ -70,9 +70,14 @@ impl Random {
         (0..len).map(|_| self.element()).collect()
     }
 
-    /// Numbers of which many are no elements.
+    /// Any numbers: mostly digits, the rest around `P` or of any size.
     pub fn numbers(&mut self, len: usize) -> Vec<u32> {
-        (0..len).map(|_| self.number()).collect()
+        let mut number = || match self.below(10) {
+            0 => self.number(),
+            1 => self.pick(&[P - 1, P, u32::MAX]),
+            digit => digit as u32,
+        };
+        (0..len).map(|_| number()).collect()
     }
 
     pub fn shuffle<T>(&mut self, list: &mut [T]) {

@@ -129,15 +129,15 @@ fn position(at: Position) -> String {
 
 pub fn stage(stage: Stage) -> String {
     match stage {
-        Stage::Send(round) => format!("send-{}", full_name(round)),
-        Stage::Receive(round) => format!("receive-{}", full_name(round)),
+        Stage::Send(round) => format!("send-{}", self::round(round)),
+        Stage::Receive(round) => format!("receive-{}", self::round(round)),
         Stage::Finished => String::from("finished"),
         Stage::Aborted => String::from("aborted"),
     }
 }
 
 /// The name that tells an out gate's two checks apart.
-fn full_name(round: Round) -> String {
+pub fn round(round: Round) -> String {
     match round {
         Round::CommitOutput | Round::RevealOutput => format!("output-{}", round.name()),
         _ => String::from(round.name()),

@@ -56,6 +56,21 @@ pub(super) struct Boundaries<'a> {
     made: Vec<Boundary>,
 }
 
+/// The boundary of a list's last number, in a request of any length.
+pub(super) fn last_element(number: u32, base: &Request, list: ListOf) -> Boundary {
+    let last = len_of(base, list) - 1;
+    let with = |element| {
+        let mut request = base.clone();
+        list(&mut request)[last] = element;
+        request
+    };
+    Boundary {
+        number,
+        inside: with(P - 1),
+        outside: vec![with(P)],
+    }
+}
+
 /// Every boundary of the entry.
 pub(super) fn boundaries(
     random: &mut Random,
@@ -119,17 +134,27 @@ impl Boundaries<'_> {
         });
     }
 
-    /// A question whether the numbers of a list are elements, at some indices of it.
+    /// A question whether the numbers of a list are elements, at some indices of it, and at all of
+    /// these, of which the first decides.
     pub fn elements(&mut self, number: u32, base: &Request, indices: &[usize], list: ListOf) {
         for &index in indices {
             self.add(number, base, P - 1, &NO_ELEMENTS, |request, element| {
                 list(request)[index] = element;
             });
         }
+        if indices.len() > 1 {
+            self.add(number, base, P - 1, &[P], |request, element| {
+                indices
+                    .iter()
+                    .for_each(|&index| list(request)[index] = element);
+            });
+        }
     }
 
     pub fn scene(&mut self) -> Scene {
-        let parties = self.random.between(2, 8) as u32;
+        // More often few parties: the requests are as telling and shorter.
+        let most = self.random.between(2, 8);
+        let parties = self.random.between(2, most) as u32;
         (self.scene_of)(self.random, parties)
     }
 
@@ -282,8 +307,48 @@ impl Boundaries<'_> {
             }
         }
 
+        self.gates_in_order();
+
         let (scene, base) = self.any_base();
         self.gate_number(7, &base, (scene.shape.gates - 1, 0), OUT, &[PLUS, TIMES]);
+    }
+
+    /// "All three are asked of line 0 before line 1": faults in the first and in the last gate; within
+    /// the last gate, 4 before 5 before 6.
+    fn gates_in_order(&mut self) {
+        for early in 4..=6 {
+            for late in 4..=6 {
+                let (scene, mut base) = self.any_base();
+                let gate = scene.shape.gates - 1;
+                // For each number the field, and what is wrong in it, of an in and of an out gate.
+                let first = [(0, 0), (1, scene.parties), (2, 1)];
+                let last =
+                    [(0, 8), (1, gate as u32), (2, 1)].map(|(field, no)| (4 * gate + field, no));
+                let (at, no) = first[early - 4];
+                let (late_at, late_no) = last[late - 4];
+                let put = |request: &mut Request, (at, number): (usize, u32)| {
+                    request.lists().circuit[at] = number;
+                };
+                if early == late {
+                    // The inside has no fault, the outside two.
+                    self.add(early as u32, &base, false, &[true], |request, wrong| {
+                        if wrong {
+                            put(request, (at, no));
+                            put(request, (late_at, late_no));
+                        }
+                    });
+                    continue;
+                }
+                put(&mut base, (late_at, late_no));
+                let right = scene.circuit[at];
+                self.add(early as u32, &base, (at, right), &[(at, no)], put);
+                if early < late {
+                    let (at, no) = last[early - 4];
+                    let right = scene.circuit[at];
+                    self.add(early as u32, &base, (at, right), &[(at, no)], put);
+                }
+            }
+        }
     }
 
     /// Questions 8 to 12.
@@ -303,6 +368,7 @@ impl Boundaries<'_> {
         let middle = self.random.between(4, last - 1);
         self.elements(9, &base, &[0, 3, middle, last], prep);
 
+        let scene = self.scene_where(|scene| scene.shape.owned[scene.circuit[1] as usize] > 1);
         let owner = scene.circuit[1];
         let base = self.base(&scene, owner);
         self.exact_length(10, &base, inputs);

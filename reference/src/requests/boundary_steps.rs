@@ -61,7 +61,7 @@ impl At {
     }
 }
 
-fn coefficients(request: &mut Request) -> &mut Vec<u32> {
+pub(super) fn coefficients(request: &mut Request) -> &mut Vec<u32> {
     match request {
         Request::Send { coefficients, .. } | Request::Joint { coefficients, .. } => coefficients,
         _ => unreachable!("the entry takes no coefficients"),
@@ -161,7 +161,6 @@ impl Boundaries<'_> {
     fn positions(&mut self, at: &At) {
         let here = at.position;
         let with_held = |held| Position { held, ..here };
-        let with_gate = |gate| Position { gate, ..here };
         let with_stage = |stage| Position { stage, ..here };
 
         let holds = match here.stage {
@@ -181,8 +180,12 @@ impl Boundaries<'_> {
         if [Round::CommitOpened, Round::RevealOpened].contains(&at.round) {
             gates.push(at.unneeded());
         }
-        let outside: Vec<Position> = gates.into_iter().map(with_gate).collect();
-        self.position(13, &at.base, here, &outside);
+        let unheld = with_held(0);
+        let outside: Vec<Position> = gates
+            .into_iter()
+            .map(|gate| Position { gate, ..unheld })
+            .collect();
+        self.position(13, &at.base, unheld, &outside);
 
         let elsewhere = match at.kind() {
             IN => [Round::Multiply, Round::OpenOutput],
@@ -192,7 +195,6 @@ impl Boundaries<'_> {
         let outside = elsewhere.map(|round| with_stage(self.half(round)));
         self.position(13, &at.base, here, &outside);
 
-        let unheld = with_held(0);
         let stage = self.other_half(at.round);
         self.position(14, &at.base, unheld, &[Position { stage, ..unheld }]);
     }
@@ -241,10 +243,10 @@ impl Boundaries<'_> {
                 *number = NO_ELEMENTS[index % 2];
             }
         }
-        for part in asked.iter().filter(|part| !part.is_empty()) {
-            let index = self.random.pick(&[part[0], part[part.len() - 1]]);
-            self.elements(15, &base, &[index], |request| request.lists().scratch);
-        }
+        let parts = asked.iter().filter(|part| !part.is_empty());
+        let ends = parts.map(|part| self.random.pick(&[part[0], part[part.len() - 1]]));
+        let indices: Vec<usize> = ends.collect();
+        self.elements(15, &base, &indices, |request| request.lists().scratch);
     }
 
     /// Questions 16 to 18 of a round.
@@ -274,6 +276,9 @@ impl Boundaries<'_> {
                     heard(request)[index] = mark;
                 });
             }
+            self.add(21, &at.base, 1, &[2], |request, mark| {
+                heard(request).fill(mark)
+            });
         }
     }
 }

@@ -7,12 +7,15 @@
 mod accept;
 mod boundary;
 mod boundary_steps;
+mod coverage;
+mod neighbours;
 mod refuse;
 mod refuse_steps;
 mod rotation;
 mod runs;
 mod scene;
 mod sets;
+mod single_runs;
 
 use std::slice::from_ref;
 
@@ -21,8 +24,11 @@ use crate::joint::{joint_run, Ending, JointResult};
 use crate::party::{open, receive, send, Party, Position, Received, Stage};
 use crate::refusal::Refusal;
 
-pub use rotation::{coverage, generate};
+pub use coverage::{coverage, measured, table};
+pub use neighbours::neighbours;
+pub use rotation::generate;
 pub use sets::Set;
+pub use single_runs::{single_runs, SingleRun};
 
 /// Bounds for the circuits and the numbers of parties. A few cases need more than a small bound
 /// allows and take it: the boundaries at 8 parties and at 256 gates, and circuits of 10 gates.
@@ -123,7 +129,7 @@ pub struct Answered {
     pub answer: Answer,
 }
 
-#[derive(Clone, Copy, Debug, PartialEq, Eq)]
+#[derive(Clone, Copy, Debug, PartialEq, Eq, PartialOrd, Ord)]
 pub enum Entry {
     Open,
     Send,

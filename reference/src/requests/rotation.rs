@@ -1,7 +1,5 @@
 //! The fixed rotation of cases, and the requests generated from it.
 
-use std::collections::BTreeMap;
-
 use super::{accept, refuse, Answered, Entry, Request, Size};
 use crate::circuit::{MAX_GATES, MAX_PARTIES};
 use crate::random::{Random, RICH_LINES};
@@ -98,15 +96,6 @@ pub fn generate(seed: u64, count: usize, size: Size) -> Vec<Answered> {
         answered.extend(requests.map(|(request, _)| request.answered()));
     }
     answered
-}
-
-/// How often each label occurs.
-pub fn coverage(answered: &[Answered]) -> BTreeMap<String, usize> {
-    let mut counts = BTreeMap::new();
-    for one in answered {
-        *counts.entry(one.label()).or_default() += 1;
-    }
-    counts
 }
 
 #[cfg(test)]

@@ -98,11 +98,11 @@ pub(super) fn bad_preps(random: &mut Random) -> Vec<Request> {
     requests
 }
 
-/// Runs of one party that hears one word otherwise than it was sent, in each kind of round.
+/// Runs of two or three parties that hear one word otherwise than it was sent, in each kind of round.
 pub(super) fn tampered(random: &mut Random) -> Vec<Request> {
     let mut requests = Vec::new();
     for round in Round::ALL {
-        let parties = random.between(2, 8) as u32;
+        let parties = random.between(2, 3) as u32;
         let key = random.nonzero();
         let scene = two_products(random, parties, key);
         let chosen = scene.find(random, |_, here| here == round);
@@ -114,14 +114,12 @@ pub(super) fn tampered(random: &mut Random) -> Vec<Request> {
             _ => vec![random.below(words)],
         };
         for word in altered {
-            let by = random.nonzero();
             let tamper = Tamper {
                 round: chosen,
                 word,
-                by,
+                by: random.nonzero(),
             };
-            let party = scene.any_party(random);
-            requests.extend(scene.whole_and_after(random, Some(party), Some(tamper)));
+            requests.extend(scene.whole_and_after(random, None, Some(tamper)));
         }
     }
     requests

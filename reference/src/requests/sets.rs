@@ -1,6 +1,7 @@
 //! The named sets of requests that are kept as test vectors.
 
-use super::boundary::{boundaries, Boundary};
+use super::boundary::{boundaries, last_element, Boundary, ListOf};
+use super::boundary_steps::coefficients;
 use super::runs::{self, Wrong};
 use super::scene::Scene;
 use super::{rotation, Answered, Entry, Request, Size};
@@ -42,12 +43,12 @@ impl Set {
 }
 
 /// Turns of the rotation in the small set, about 150 requests each.
-const TURNS: usize = 3;
+const TURNS: usize = 2;
 
 fn small(random: &mut Random) -> Vec<Request> {
     let mut requests = runs::docket(random);
     let scene_of = |random: &mut Random, parties| {
-        let lines = random.between(random::RICH_LINES, 14);
+        let lines = random.between(random::RICH_LINES, 12);
         Scene::rich_of(random, parties, lines)
     };
     for entry in Entry::ALL {
@@ -117,13 +118,15 @@ fn large(random: &mut Random) -> Vec<Request> {
     for kinds in [filled(IN), filled(MUL), filled(OUT), longest_run()] {
         requests.push(scene(random, 8, &kinds).joint(random));
     }
-    for parties in 2..=8 {
-        let circuit = random::rich_circuit(random, parties, MAX_GATES);
-        let key = random.nonzero();
-        let mut scene = Scene::new(random, parties, circuit, key);
+    for parties in [2, 3, 5, 8] {
+        let mut scene = Scene::rich_of(random, parties, MAX_GATES);
         scene.zeros = true;
         requests.push(scene.joint(random));
     }
+    // Lists to be written that hold any numbers and have an excess.
+    let mut used = scene(random, 8, &filled(PLUS));
+    used.zeros = false;
+    requests.push(used.joint(random));
     // Aborts at the first check of the last product, late in a run, and in the largest check.
     for kinds in [longest_run(), filled(MUL)] {
         let mut scene = scene(random, 2, &kinds);
@@ -134,22 +137,24 @@ fn large(random: &mut Random) -> Vec<Request> {
     // Single entries: a whole run, and rounds at the start, in the middle and at the end of long ones.
     let whole = scene(random, 8, &few_rounds());
     requests.extend(whole.whole_and_after(random, Some(7), None));
-    for (kinds, party) in [(longest_run(), 0), (filled(MUL), 7)] {
-        let scene = scene(random, 8, &kinds);
-        let rounds = scene.rounds.len();
-        let chosen = [
-            0,
-            1,
-            rounds / 2,
-            rounds - 5,
-            rounds - 4,
-            rounds - 3,
-            rounds - 2,
-            rounds - 1,
-        ];
-        requests.extend(scene.halves(random, party, &chosen));
-    }
+    let long = scene(random, 8, &longest_run());
+    requests.extend(long.halves(random, 0, &[0, 1, 382, 761, 764, 765]));
+    let largest_check = scene(random, 8, &filled(MUL));
+    requests.extend(largest_check.halves(random, 7, &[1, 128, 255]));
 
+    // The ends of the longest lists.
+    let prep: ListOf = |request| request.lists().prep;
+    let inputs: ListOf = |request| request.lists().inputs;
+    for (parties, kind, number, list) in [
+        (8, MUL, 9, prep),
+        (8, IN, 11, inputs),
+        (2, MUL, 17, coefficients),
+    ] {
+        let mut scene = scene(random, parties, &filled(kind));
+        scene.preps.fill(0);
+        let base = scene.joint(random);
+        requests.extend(last_element(number, &base, list).requests());
+    }
     let scene_of = |random: &mut Random, parties| {
         let mut scene = Scene::rich_of(random, parties, MAX_GATES);
         scene.preps.fill(0);
