@@ -1,8 +1,8 @@
 use std::process::ExitCode;
 
 use reference::example::Example;
-use reference::requests::{self, Set, Size};
-use reference::text;
+use reference::requests::{self, Answered, Set, Size};
+use reference::{docket, text, theorems};
 
 const USAGE: &str = "usage:
     reference docket
@@ -15,65 +15,56 @@ const USAGE: &str = "usage:
 fn main() -> ExitCode {
     let arguments: Vec<String> = std::env::args().skip(1).collect();
     let arguments: Vec<&str> = arguments.iter().map(String::as_str).collect();
-    match arguments[..] {
-        ["docket"] => match reference::docket::print() {
-            Ok(text) => print!("{text}"),
-            Err(refusal) => {
-                eprintln!("the docket is refused: {refusal:?}");
-                return ExitCode::FAILURE;
-            }
-        },
-        ["coverage", seed, count] => {
-            let (Ok(seed), Ok(count)) = (seed.parse(), count.parse()) else {
-                return usage();
-            };
-            let answered = requests::generate(seed, count, Size::SMALL);
-            for (label, times) in requests::coverage(&answered) {
-                println!("{times:6} {label}");
-            }
+    match output(&arguments) {
+        Some(text) => {
+            print!("{text}");
+            ExitCode::SUCCESS
         }
-        ["theorems", seed, count] => {
-            let (Ok(seed), Ok(count)) = (seed.parse(), count.parse()) else {
-                return usage();
-            };
-            let answered = requests::generate(seed, count, Size::SMALL);
-            print!("{}", reference::theorems::theorems(&answered));
+        None => {
+            eprintln!("{USAGE}");
+            ExitCode::from(2)
         }
-        ["vectors", name, seed, part] => {
-            let set = Set::ALL.into_iter().find(|set| set.name() == name);
-            let (Some(set), Ok(seed)) = (set, seed.parse()) else {
-                return usage();
-            };
-            match part {
-                "requests" => print!("{}", text::requests(set, seed)),
-                "answers" => print!("{}", text::answers(set, seed)),
-                _ => return usage(),
-            }
-        }
-        ["vectors", seed, "coverage"] => {
-            let Ok(seed) = seed.parse() else {
-                return usage();
-            };
-            let [small, large] = Set::ALL.map(|set| set.make(seed));
-            print!("{}", requests::table(&small, &large));
-        }
-        ["example", seed, part] => {
-            let Ok(seed) = seed.parse() else {
-                return usage();
-            };
-            let example = Example::make(seed);
-            match part {
-                "request" => print!("{}", example.request(seed)),
-                "answer" => print!("{}", example.answer()),
-                _ => return usage(),
-            }
-        }
-        _ => return usage(),
     }
-    ExitCode::SUCCESS
 }
 
-fn usage() -> ExitCode {
-    eprintln!("{USAGE}");
-    ExitCode::from(2)
+/// What the command prints. None if there is no such command.
+fn output(arguments: &[&str]) -> Option<String> {
+    Some(match *arguments {
+        ["docket"] => docket::print().expect("the docket is not refused"),
+        ["coverage", seed, count] => {
+            let counts = requests::coverage(&generate(seed, count)?);
+            let line = |(label, times)| format!("{times:6} {label}\n");
+            counts.into_iter().map(line).collect()
+        }
+        ["theorems", seed, count] => theorems::theorems(&generate(seed, count)?),
+        ["vectors", seed, "coverage"] => {
+            let seed = seed.parse().ok()?;
+            let [small, large] = Set::ALL.map(|set| set.make(seed));
+            requests::table(&small, &large)
+        }
+        ["vectors", name, seed, part] => {
+            let set = Set::ALL.into_iter().find(|set| set.name() == name)?;
+            let seed = seed.parse().ok()?;
+            match part {
+                "requests" => text::requests(set, seed),
+                "answers" => text::answers(set, seed),
+                _ => return None,
+            }
+        }
+        ["example", seed, part] => {
+            let seed = seed.parse().ok()?;
+            let example = Example::make(seed);
+            match part {
+                "request" => example.request(seed),
+                "answer" => example.answer(),
+                _ => return None,
+            }
+        }
+        _ => return None,
+    })
+}
+
+fn generate(seed: &str, count: &str) -> Option<Vec<Answered>> {
+    let (seed, count) = (seed.parse().ok()?, count.parse().ok()?);
+    Some(requests::generate(seed, count, Size::SMALL))
 }

@@ -10,7 +10,7 @@ use crate::requests::{Answer, Answered, Field, Request, Set};
 pub fn requests(set: Set, seed: u64) -> String {
     let all = set.make(seed);
     let mut text = format!(
-        "# {} requests, {}.\n# Made by: reference vectors {} {seed} requests\n",
+        "# {} requests from seed {seed}: {}.\n# Made by: reference vectors {} {seed} requests\n",
         all.len(),
         set.about(),
         set.name(),

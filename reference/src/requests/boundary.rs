@@ -18,6 +18,7 @@ pub(super) fn len_of(request: &Request, list: ListOf) -> usize {
     list(&mut request.clone()).len()
 }
 
+#[derive(Clone)]
 pub(super) struct Boundary {
     pub number: u32,
     pub inside: Request,
@@ -25,22 +26,43 @@ pub(super) struct Boundary {
 }
 
 impl Boundary {
-    /// The same boundary with further faults, of which later questions would refuse.
-    pub fn crowded(&self, random: &mut Random) -> Boundary {
-        let mut seen = random.clone();
-        let mut add = |request: &Request| {
-            seen = random.clone();
-            let mut request = request.clone();
-            add_later_faults(&mut seen, &mut request, self.number);
+    /// `put` puts what differs into a copy of the request.
+    pub fn new<T: Copy>(
+        number: u32,
+        base: &Request,
+        inside: T,
+        outside: &[T],
+        put: impl Fn(&mut Request, T),
+    ) -> Boundary {
+        let with = |differing: T| {
+            let mut request = base.clone();
+            put(&mut request, differing);
             request
         };
-        let crowded = Boundary {
-            number: self.number,
-            inside: add(&self.inside),
-            outside: self.outside.iter().map(&mut add).collect(),
-        };
-        *random = seen;
-        crowded
+        Boundary {
+            number,
+            inside: with(inside),
+            outside: outside.iter().map(|&differing| with(differing)).collect(),
+        }
+    }
+
+    /// The boundary of a list's last number.
+    pub fn last_element(number: u32, base: &Request, list: ListOf) -> Boundary {
+        let last = len_of(base, list) - 1;
+        Boundary::new(number, base, P - 1, &[P], |request, element| {
+            list(request)[last] = element;
+        })
+    }
+
+    /// The same boundary with further faults, of which later questions would refuse. They are the same
+    /// in all its requests.
+    pub fn crowded(mut self, random: &mut Random) -> Boundary {
+        let before = random.clone();
+        for request in std::iter::once(&mut self.inside).chain(&mut self.outside) {
+            random.clone_from(&before);
+            add_later_faults(random, request, self.number);
+        }
+        self
     }
 
     pub fn requests(self) -> impl Iterator<Item = Request> {
@@ -54,21 +76,6 @@ pub(super) struct Boundaries<'a> {
     pub entry: Entry,
     scene_of: &'a dyn Fn(&mut Random, u32) -> Scene,
     made: Vec<Boundary>,
-}
-
-/// The boundary of a list's last number, in a request of any length.
-pub(super) fn last_element(number: u32, base: &Request, list: ListOf) -> Boundary {
-    let last = len_of(base, list) - 1;
-    let with = |element| {
-        let mut request = base.clone();
-        list(&mut request)[last] = element;
-        request
-    };
-    Boundary {
-        number,
-        inside: with(P - 1),
-        outside: vec![with(P)],
-    }
 }
 
 /// Every boundary of the entry.
@@ -92,7 +99,6 @@ pub(super) fn boundaries(
 }
 
 impl Boundaries<'_> {
-    /// `put` puts what differs into a copy of the request.
     pub fn add<T: Copy>(
         &mut self,
         number: u32,
@@ -101,16 +107,8 @@ impl Boundaries<'_> {
         outside: &[T],
         put: impl Fn(&mut Request, T),
     ) {
-        let with = |differing: T| {
-            let mut request = base.clone();
-            put(&mut request, differing);
-            request
-        };
-        self.made.push(Boundary {
-            number,
-            inside: with(inside),
-            outside: outside.iter().map(|&differing| with(differing)).collect(),
-        });
+        let boundary = Boundary::new(number, base, inside, outside, put);
+        self.made.push(boundary);
     }
 
     /// A question for the exact length of a list: one less, one more, none.

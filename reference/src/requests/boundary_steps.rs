@@ -296,7 +296,7 @@ mod tests {
         for entry in Entry::ALL {
             for boundary in boundaries(&mut random, entry, &small) {
                 let refused = |request: &Request| request.answer().refusal().map(|no| no.number);
-                let crowded = boundary.crowded(&mut random);
+                let crowded = boundary.clone().crowded(&mut random);
                 for boundary in [boundary, crowded] {
                     let number = boundary.number;
                     assert_ne!(

@@ -1,5 +1,6 @@
 //! Measures what a list of requests covers, from the requests and their answers alone.
 
+use std::cmp::Ordering;
 use std::collections::{BTreeMap, BTreeSet};
 
 use super::{neighbours, single_runs, Answer, Answered, Entry, Field, Request, SingleRun};
@@ -109,6 +110,7 @@ fn features(one: &Answered) -> Vec<String> {
             if let Ok(shape) = circuit::shape(parties, circuit) {
                 found.extend(sizes(parties, circuit, &shape));
                 found.extend(excesses(one, parties, &shape));
+                found.extend(unasked(one, parties, &shape));
             }
             found.extend(numbers(one));
             found.extend(joint_endings(one));
@@ -222,6 +224,42 @@ fn excesses(one: &Answered, parties: u32, shape: &Shape) -> Vec<String> {
             .then(|| format!("accepted, `{name}` {what}"))
     };
     lists(&one.request).filter_map(longer).collect()
+}
+
+/// Where the scratch of an accepted request has numbers that are no elements.
+fn unasked(one: &Answered, parties: u32, shape: &Shape) -> Vec<String> {
+    let layout = shape.layout();
+    let (scratch, gate, len) = match &one.request {
+        Request::Open { lent } => (&lent.scratch, 0, layout.len()),
+        Request::Send { lent, position, .. } | Request::Receive { lent, position, .. } => {
+            (&lent.scratch, position.gate as usize, layout.len())
+        }
+        Request::Joint { scratch, .. } => (scratch, 0, parties as usize * layout.len()),
+    };
+    let place = |index: usize| {
+        if index >= len {
+            return "in its excess";
+        }
+        let index = index % layout.len();
+        if index >= layout.opened(0) {
+            return "among the opened entries";
+        }
+        match (index % shape.gates).cmp(&gate) {
+            Ordering::Less => "in the slots of an out gate",
+            Ordering::Equal => "in the slots of the gate itself",
+            Ordering::Greater => "in the slots of a later gate",
+        }
+    };
+    let mut places: Vec<&str> = (0..scratch.len())
+        .filter(|&index| scratch[index] >= P)
+        .map(place)
+        .collect();
+    places.sort();
+    places.dedup();
+    places
+        .into_iter()
+        .map(|place| format!("accepted, no elements in `scratch` {place}"))
+        .collect()
 }
 
 /// The numbers around p in accepted lists; p and above where nothing asks for elements.

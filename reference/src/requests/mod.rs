@@ -2,7 +2,8 @@
 //!
 //! `generate` goes through a fixed rotation of cases, filled in at random: a whole run of one party by
 //! single entries, every refusal number in every entry that asks it, and accepted requests at the
-//! edges of what is accepted.
+//! edges of what is accepted. A `Set` has these, both sides of every question's boundary, and whole
+//! runs; `measured`, `neighbours` and `single_runs` tell what a list of requests covers.
 
 mod accept;
 mod boundary;

@@ -1,6 +1,6 @@
 //! The named sets of requests that are kept as test vectors.
 
-use super::boundary::{boundaries, last_element, Boundary, ListOf};
+use super::boundary::{boundaries, Boundary, ListOf, NO_ELEMENTS};
 use super::boundary_steps::coefficients;
 use super::runs::{self, Wrong};
 use super::scene::Scene;
@@ -26,8 +26,8 @@ impl Set {
 
     pub fn about(self) -> &'static str {
         match self {
-            Set::Small => "short circuits: both sides of every question's boundary, whole runs, tampered words, bad preprocessing",
-            Set::Large => "circuits of up to 256 gates and 8 parties: the longest runs and lists, refusals at high indices",
+            Set::Small => "short circuits; both sides of every question's boundary, whole runs, tampered words, bad preprocessing",
+            Set::Large => "circuits of up to 256 gates and 8 parties; the longest runs and lists, refusals at high indices",
         }
     }
 
@@ -53,7 +53,7 @@ fn small(random: &mut Random) -> Vec<Request> {
     };
     for entry in Entry::ALL {
         for boundary in boundaries(random, entry, &scene_of) {
-            let crowded = random.once_in(3).then(|| boundary.crowded(random));
+            let crowded = random.once_in(3).then(|| boundary.clone().crowded(random));
             requests.extend(boundary.requests());
             requests.extend(crowded.into_iter().flat_map(Boundary::requests));
         }
@@ -126,7 +126,19 @@ fn large(random: &mut Random) -> Vec<Request> {
     // Lists to be written that hold any numbers and have an excess.
     let mut used = scene(random, 8, &filled(PLUS));
     used.zeros = false;
-    requests.push(used.joint(random));
+    let mut used = used.joint(random);
+    if let Request::Joint {
+        scratch,
+        transcript,
+        outputs,
+        ..
+    } = &mut used
+    {
+        for list in [scratch, transcript, outputs] {
+            list.extend(NO_ELEMENTS);
+        }
+    }
+    requests.push(used);
     // Aborts at the first check of the last product, late in a run, and in the largest check.
     for kinds in [longest_run(), filled(MUL)] {
         let mut scene = scene(random, 2, &kinds);
@@ -153,7 +165,7 @@ fn large(random: &mut Random) -> Vec<Request> {
         let mut scene = scene(random, parties, &filled(kind));
         scene.preps.fill(0);
         let base = scene.joint(random);
-        requests.extend(last_element(number, &base, list).requests());
+        requests.extend(Boundary::last_element(number, &base, list).requests());
     }
     let scene_of = |random: &mut Random, parties| {
         let mut scene = Scene::rich_of(random, parties, MAX_GATES);
