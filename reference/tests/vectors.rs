@@ -1,0 +1,594 @@
+//! The sets of test vectors: what they cover, measured from the requests and answers alone.
+
+mod common;
+
+use std::collections::{BTreeMap, BTreeSet};
+use std::sync::OnceLock;
+
+use common::answers::{assert_refusal_is_right, assert_written_as_due};
+use reference::circuit::KIND_NAMES;
+use reference::requests::{
+    measured, neighbours, single_runs, table, Answer, Answered, Entry, Field, Request, Set,
+    SingleRun,
+};
+use reference::{text, Ending, Received, Round, Stage};
+
+use Entry::{Joint, Open, Receive, Send};
+
+/// The seed of the vectors that are kept.
+const SEED: u64 = 1;
+
+fn small() -> &'static [Answered] {
+    static SMALL: OnceLock<Vec<Answered>> = OnceLock::new();
+    SMALL.get_or_init(|| Set::Small.make(SEED))
+}
+
+fn large() -> &'static [Answered] {
+    static LARGE: OnceLock<Vec<Answered>> = OnceLock::new();
+    LARGE.get_or_init(|| Set::Large.make(SEED))
+}
+
+const SINGLE: [Entry; 3] = [Open, Send, Receive];
+
+/// The entries that ask each question.
+fn asking(number: u32) -> Vec<Entry> {
+    match number {
+        2 => SINGLE.to_vec(),
+        13..=15 => vec![Send, Receive],
+        16..=18 => vec![Send, Joint],
+        19..=21 => vec![Receive],
+        _ => Entry::ALL.to_vec(),
+    }
+}
+
+fn half(entry: Entry, round: Round) -> Stage {
+    match entry {
+        Send => Stage::Send(round),
+        _ => Stage::Receive(round),
+    }
+}
+
+fn other_half(entry: Entry, round: Round) -> Stage {
+    match entry {
+        Send => Stage::Receive(round),
+        _ => Stage::Send(round),
+    }
+}
+
+/// Where a check share may be held.
+fn holds(stage: Stage) -> bool {
+    match stage {
+        Stage::Receive(round) => round.is_commit(),
+        Stage::Send(round) => round.is_reveal(),
+        _ => false,
+    }
+}
+
+/// Every feature that the small set must have, with the entry.
+fn wanted() -> BTreeSet<(Entry, String)> {
+    let mut wanted = BTreeSet::new();
+    let mut want = |entries: &[Entry], feature: String| {
+        wanted.extend(entries.iter().map(|&entry| (entry, feature.clone())));
+    };
+
+    for parties in 2..=8 {
+        want(&Entry::ALL, format!("accepted, {parties} parties"));
+    }
+    for kind in KIND_NAMES {
+        want(&Entry::ALL, format!("accepted, with a gate of kind {kind}"));
+    }
+    for gates in [2, 256] {
+        want(&Entry::ALL, format!("accepted, {gates} gates"));
+    }
+
+    for number in 1..=21 {
+        let entries = asking(number);
+        want(&entries, format!("refused {number:02}"));
+        want(
+            &entries,
+            format!("refused {number:02}, beside a neighbour that is not"),
+        );
+        if [9, 11, 15, 17, 20, 21].contains(&number) {
+            want(
+                &entries,
+                format!("refused {number:02}, several numbers offend"),
+            );
+        }
+        if [4, 5, 6, 9, 11, 15, 17, 20, 21].contains(&number) {
+            want(&entries, format!("refused {number:02}, index not 0"));
+        }
+    }
+    for early in 4..=6 {
+        for late in 4..=6 {
+            want(
+                &Entry::ALL,
+                format!("refused {early:02}, and a later gate by {late:02}"),
+            );
+        }
+    }
+
+    let written: [(&[Entry], &str); 4] = [
+        (&Entry::ALL, "scratch"),
+        (&[Send], "out"),
+        (&[Joint], "transcript"),
+        (&[Joint], "outputs"),
+    ];
+    for (entries, list) in written {
+        for what in ["with an excess", "just long enough"] {
+            want(entries, format!("accepted, `{list}` {what}"));
+        }
+        for number in ["p", "4294967295"] {
+            want(entries, format!("accepted, {number} in `{list}`"));
+        }
+        want(entries, format!("refused, `{list}` empty"));
+    }
+    let elements: [(&[Entry], &str); 6] = [
+        (&SINGLE, "prep"),
+        (&[Joint], "preps"),
+        (&Entry::ALL, "inputs"),
+        (&Entry::ALL, "scratch"),
+        (&[Send, Joint], "coefficients"),
+        (&[Receive], "heard"),
+    ];
+    for (entries, list) in elements {
+        want(entries, format!("accepted, p-1 in `{list}`"));
+        want(entries, format!("refused, `{list}` empty"));
+    }
+    let unasked: [(&[Entry], &str); 5] = [
+        (&Entry::ALL, "in its excess"),
+        (&Entry::ALL, "among the opened entries"),
+        (&Entry::ALL, "in the slots of the gate itself"),
+        (&Entry::ALL, "in the slots of a later gate"),
+        (&[Send, Receive], "in the slots of an out gate"),
+    ];
+    for (entries, place) in unasked {
+        want(
+            entries,
+            format!("accepted, no elements in `scratch` {place}"),
+        );
+    }
+    want(&Entry::ALL, String::from("refused, `circuit` empty"));
+    want(&SINGLE, String::from("accepted, `inputs` empty"));
+    want(&[Send], String::from("accepted, `coefficients` empty"));
+
+    for entry in [Send, Receive] {
+        let mut stages: Vec<Stage> = Round::ALL.map(|round| half(entry, round)).to_vec();
+        for &stage in &stages {
+            let held = if holds(stage) {
+                ", a check share held"
+            } else {
+                ""
+            };
+            let answers: &[&str] = match stage {
+                Stage::Receive(Round::RevealOutput) => &["output", "abort"],
+                Stage::Receive(Round::RevealOpened) => &["next", "abort"],
+                _ => &["next"],
+            };
+            for answer in answers {
+                want(
+                    &[entry],
+                    format!("at `{}`{held}: {answer}", text::stage(stage)),
+                );
+            }
+        }
+        for round in Round::ALL {
+            let stage = text::stage(other_half(entry, round));
+            want(&[entry], format!("at `{stage}`: refused 14"));
+        }
+        for end in [Stage::Finished, Stage::Aborted] {
+            let stage = text::stage(end);
+            want(&[entry], format!("at `{stage}`: refused 14"));
+            stages.push(end);
+        }
+        for stage in stages {
+            let name = text::stage(stage);
+            want(&[entry], format!("at `{name}`: refused 13"));
+            want(
+                &[entry],
+                format!("at `{name}`, a held number above p-1: refused 13"),
+            );
+            if !holds(stage) {
+                want(
+                    &[entry],
+                    format!("at `{name}`, a check share held: refused 13"),
+                );
+            }
+        }
+    }
+
+    for ending in [
+        "good preprocessing, key 0: finished",
+        "good preprocessing, another key: finished",
+        "bad MAC of a mask, another key: aborted at the first check",
+        "bad MAC of a mask, another key: aborted at the second check",
+        "bad MAC in a triple, key 0: aborted at the first check",
+        "bad MAC in a triple, another key: aborted at the first check",
+        "bad MAC in a triple, another key: aborted at the second check",
+        "bad product in a triple, key 0: finished",
+        "bad product in a triple, another key: finished",
+        "bad whole mask, key 0: finished",
+        "bad whole mask, another key: finished",
+        "aborted after an output",
+    ] {
+        want(&[Joint], String::from(ending));
+    }
+    wanted
+}
+
+/// Every boundary that the small set must have on both sides, with the entry and number.
+fn wanted_neighbours() -> BTreeSet<(&'static str, u32, String)> {
+    let mut wanted = BTreeSet::new();
+    let mut want = |entries: &[Entry], number: u32, changes: &[&str]| {
+        for entry in entries {
+            assert!(asking(number).contains(entry));
+            wanted.extend(
+                changes
+                    .iter()
+                    .map(|change| (entry.name(), number, String::from(*change))),
+            );
+        }
+    };
+    let all = &Entry::ALL;
+    want(
+        all,
+        1,
+        &[
+            "parties 2->1",
+            "parties 2->0",
+            "parties 8->9",
+            "parties 8->4294967295",
+        ],
+    );
+    want(
+        &SINGLE,
+        2,
+        &["party the number of parties", "party 4294967295"],
+    );
+    want(
+        all,
+        3,
+        &[
+            "circuit one shorter",
+            "circuit one longer",
+            "circuit of no number",
+            "circuit 8->4 long",
+            "circuit 1024->1028 long",
+        ],
+    );
+    want(all, 4, &["kind 1->0", "kind 7->8", "kind 7->4294967295"]);
+    want(
+        all,
+        5,
+        &[
+            "in first names the number of parties",
+            "in first names 4294967295",
+        ],
+    );
+    for (kind, fields) in [
+        ("add", &["first", "second"][..]),
+        ("sub", &["first", "second"]),
+        ("plus", &["first"]),
+        ("times", &["first"]),
+        ("mul", &["first", "second"]),
+        ("out", &["first"]),
+    ] {
+        for field in fields {
+            for named in ["itself", "the next gate", "4294967295"] {
+                want(all, 5, &[&format!("{kind} {field} names {named}")]);
+            }
+        }
+    }
+    for kind in ["add", "mul", "out"] {
+        want(all, 5, &[&format!("{kind} first names an out gate")]);
+    }
+    for (kind, fields) in [
+        ("in", &["second", "constant"][..]),
+        ("add", &["constant"]),
+        ("sub", &["constant"]),
+        ("plus", &["second"]),
+        ("times", &["second"]),
+        ("mul", &["constant"]),
+        ("out", &["second", "constant"]),
+    ] {
+        for field in fields {
+            want(all, 6, &[&format!("{kind} {field} 0->1")]);
+            want(all, 6, &[&format!("{kind} {field} 0->4294967295")]);
+        }
+    }
+    let around_p = |place: &str| ["p", "4294967295"].map(|number| format!("{place} p-1->{number}"));
+    for place in ["plus constant", "times constant"] {
+        for change in around_p(place) {
+            want(all, 6, &[&change]);
+        }
+    }
+    want(all, 7, &["kind 7->4", "kind 7->5"]);
+
+    let exact = |list: &str| {
+        ["one shorter", "one longer", "of no number"].map(|change| format!("{list} {change}"))
+    };
+    let at_least =
+        |list: &str| ["one shorter", "of no number"].map(|change| format!("{list} {change}"));
+    let prep = |entry: Entry| if entry == Joint { "preps" } else { "prep" };
+    for entry in Entry::ALL {
+        for change in exact(prep(entry)) {
+            want(&[entry], 8, &[&change]);
+        }
+        for change in around_p(prep(entry)) {
+            want(&[entry], 9, &[&change]);
+        }
+    }
+    for change in exact("inputs") {
+        want(all, 10, &[&change]);
+    }
+    for change in around_p("inputs") {
+        want(all, 11, &[&change]);
+    }
+    for change in at_least("scratch") {
+        want(all, 12, &[&change]);
+    }
+
+    for entry in [Send, Receive] {
+        let ends = [Stage::Finished, Stage::Aborted];
+        let halves = Round::ALL.map(|round| half(entry, round));
+        for stage in halves.into_iter().chain(ends) {
+            let name = text::stage(stage);
+            let changes = if holds(stage) {
+                vec!["p-1->p", "p-1->4294967295"]
+            } else {
+                vec!["0->1", "0->p-1", "0->4294967295"]
+            };
+            for change in changes {
+                want(&[entry], 13, &[&format!("held {change} at {name}")]);
+            }
+        }
+        want(&[entry], 13, &["gate"]);
+        for (from, to) in [
+            (Round::Input, Round::Multiply),
+            (Round::Input, Round::OpenOutput),
+            (Round::Multiply, Round::Input),
+            (Round::OpenOutput, Round::Input),
+            (Round::OpenOutput, Round::CommitOpened),
+            (Round::OpenOutput, Round::RevealOpened),
+            (Round::RevealOutput, Round::Multiply),
+        ] {
+            let stages = [from, to].map(|round| text::stage(half(entry, round)));
+            want(&[entry], 13, &[&format!("stage {}", stages.join("->"))]);
+        }
+        for round in Round::ALL {
+            let stages = [half(entry, round), other_half(entry, round)].map(text::stage);
+            want(&[entry], 14, &[&format!("stage {}", stages.join("->"))]);
+        }
+        for end in ends {
+            let stages = [half(entry, Round::RevealOutput), end].map(text::stage);
+            want(&[entry], 14, &[&format!("stage {}", stages.join("->"))]);
+        }
+        for change in around_p("scratch") {
+            want(&[entry], 15, &[&change]);
+        }
+    }
+    for entry in [Send, Joint] {
+        for change in exact("coefficients") {
+            want(&[entry], 16, &[&change]);
+        }
+        for change in around_p("coefficients") {
+            want(&[entry], 17, &[&change]);
+        }
+    }
+    for change in at_least("out") {
+        want(&[Send], 18, &[&change]);
+    }
+    for list in ["transcript", "outputs"] {
+        for change in at_least(list) {
+            want(&[Joint], 18, &[&change]);
+        }
+    }
+    for change in exact("heard") {
+        want(&[Receive], 19, &[&change]);
+    }
+    for change in around_p("heard") {
+        want(&[Receive], 20, &[&change]);
+    }
+    want(
+        &[Receive],
+        21,
+        &["heard 1->0", "heard 1->2", "heard 1->p-1"],
+    );
+    wanted
+}
+
+fn missing<T: Ord + Clone>(wanted: BTreeSet<T>, found: impl Fn(&T) -> bool) -> Vec<T> {
+    wanted.into_iter().filter(|one| !found(one)).collect()
+}
+
+#[test]
+fn small_covers_what_is_wanted() {
+    let small = small();
+    assert!(small.len() >= 2000);
+    let counts = measured(small);
+    let has = |(entry, feature): &(Entry, String)| {
+        let count = counts.get(feature).map(|counts| counts[*entry as usize]);
+        count.is_some_and(|count| count > 0)
+    };
+    assert_eq!(missing(wanted(), has), []);
+
+    let found = neighbours(small);
+    assert_eq!(
+        missing(wanted_neighbours(), |one| found.contains_key(one)),
+        []
+    );
+}
+
+/// No entry refuses with a number that it does not ask.
+#[test]
+fn refusals_are_those_that_the_entry_asks() {
+    for one in small().iter().chain(large()) {
+        if let Some(refusal) = one.answer.refusal() {
+            assert!(asking(refusal.number).contains(&one.request.entry()));
+            assert_refusal_is_right(one, refusal);
+        }
+        assert_written_as_due(one);
+    }
+}
+
+#[test]
+fn small_has_whole_runs_of_every_kind() {
+    let small = small();
+    let found = single_runs(small);
+    let ends = [None, Some(Round::RevealOpened), Some(Round::RevealOutput)];
+    let mut wanted: BTreeSet<SingleRun> = ends
+        .into_iter()
+        .map(|aborted| SingleRun {
+            all_parties: false,
+            aborted,
+            tampered: None,
+        })
+        .collect();
+    let mut all = |aborted, tampered| {
+        wanted.insert(SingleRun {
+            all_parties: true,
+            aborted,
+            tampered,
+        });
+    };
+    all(None, None);
+    for round in Round::ALL {
+        let aborted = match round {
+            Round::Multiply | Round::RevealOpened => Some(Round::RevealOpened),
+            Round::OpenOutput | Round::RevealOutput => Some(Round::RevealOutput),
+            Round::Input | Round::CommitOpened | Round::CommitOutput => None,
+        };
+        all(aborted, Some(round));
+    }
+    assert_eq!(missing(wanted, |run| found.contains_key(run)), []);
+
+    let mut finished = BTreeSet::new();
+    for one in small {
+        if let (Request::Joint { parties, .. }, Answer::Joint { result, .. }) =
+            (&one.request, &one.answer)
+        {
+            if result.is_ok_and(|result| result.ending == Ending::Finished) {
+                finished.insert(*parties);
+            }
+        }
+    }
+    assert_eq!(finished, (2..=8).collect());
+}
+
+/// The longest list of each name in accepted requests.
+fn longest_lists(answered: &[Answered]) -> BTreeMap<&str, usize> {
+    let mut lengths = BTreeMap::new();
+    let accepted = answered.iter().filter(|one| one.answer.refusal().is_none());
+    for (name, field) in accepted.flat_map(|one| one.request.fields()) {
+        if let Field::Numbers(numbers) = field {
+            let longest = lengths.entry(name).or_insert(0);
+            *longest = numbers.len().max(*longest);
+        }
+    }
+    lengths
+}
+
+/// The highest index of each refusal by entry.
+fn highest_indices(answered: &[Answered]) -> BTreeMap<(&str, u32), usize> {
+    let mut indices = BTreeMap::new();
+    for one in answered {
+        if let Some(refusal) = one.answer.refusal() {
+            let key = (one.request.entry().name(), refusal.number);
+            let highest = indices.entry(key).or_insert(0);
+            *highest = refusal.index.max(*highest);
+        }
+    }
+    indices
+}
+
+#[test]
+fn large_has_the_longest_runs_and_lists_and_high_indices() {
+    let large = large();
+    let (lengths, indices) = (longest_lists(large), highest_indices(large));
+    for (name, longest) in [
+        ("circuit", 4 * 256),
+        ("prep", 1 + 3 + 6 * 254),
+        ("preps", 8 * (1 + 3 + 6 * 254)),
+        ("inputs", 255),
+        ("coefficients", 2 * 254 + 1),
+        ("outputs", 255),
+        ("out", 2),
+        ("heard", 16),
+    ] {
+        assert_eq!(lengths[name], longest, "{name}");
+    }
+    // At least: these may have an excess.
+    assert!(lengths["scratch"] >= 8 * (2 * 256 + 2 * (2 * 254 + 1)));
+    assert!(lengths["transcript"] >= 8 * (1 + 2 * 127 + 3 * 128 + 2 * 127));
+    for entry in Entry::ALL {
+        for number in 4..=6 {
+            assert_eq!(indices[&(entry.name(), number)], 255);
+        }
+    }
+    for (key, index) in [
+        (("joint", 9), 8 * (1 + 3 + 6 * 254) - 1),
+        (("joint", 11), 254),
+        (("joint", 17), 2 * 254),
+    ] {
+        assert_eq!(indices[&key], index, "{key:?}");
+    }
+    for entry in ["send", "receive"] {
+        assert!(indices[&(entry, 15)] > 2 * 256);
+    }
+
+    let counts = measured(large);
+    for feature in [
+        "accepted, 256 gates and 8 parties",
+        "accepted, `scratch` with an excess",
+        "accepted, `transcript` with an excess",
+        "accepted, `outputs` with an excess",
+        "finished after 766 rounds",
+        "good preprocessing, another key: finished",
+        "bad MAC in a triple, another key: aborted at the first check",
+        "aborted after an output",
+    ] {
+        assert!(counts[feature][Joint as usize] > 0, "{feature}");
+    }
+    assert_eq!(
+        single_runs(large).into_iter().collect::<Vec<_>>(),
+        [(
+            SingleRun {
+                all_parties: false,
+                aborted: None,
+                tampered: None
+            },
+            1
+        )]
+    );
+    let released = large.iter().filter(|one| {
+        matches!(
+            one.answer,
+            Answer::Receive {
+                result: Ok(Received::Released { .. }),
+                ..
+            }
+        )
+    });
+    assert!(released.count() > 1);
+}
+
+#[test]
+fn the_text_keeps_within_the_limits_of_the_format() {
+    for one in small().iter().chain(large()) {
+        for line in text::request(&one.request).lines() {
+            assert!(line.len() <= 262_144);
+            assert!(line.split(' ').count() <= 1 + 16_384);
+        }
+    }
+}
+
+#[test]
+fn the_table_is_the_printed_one() {
+    let readme = include_str!("../../vectors/README.md");
+    assert!(readme.contains(&table(small(), large())));
+}
+
+#[test]
+fn the_same_seed_gives_the_same_requests() {
+    assert_eq!(small(), Set::Small.make(SEED));
+    assert_ne!(small(), Set::Small.make(SEED + 1));
+}
