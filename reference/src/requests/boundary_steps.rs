@@ -68,7 +68,7 @@ pub(super) fn coefficients(request: &mut Request) -> &mut Vec<u32> {
     }
 }
 
-fn heard(request: &mut Request) -> &mut Vec<u32> {
+pub(super) fn heard(request: &mut Request) -> &mut Vec<u32> {
     match request {
         Request::Receive { heard, .. } => heard,
         _ => unreachable!("the entry hears nothing"),

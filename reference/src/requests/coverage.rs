@@ -3,6 +3,7 @@
 use std::cmp::Ordering;
 use std::collections::{BTreeMap, BTreeSet};
 
+use super::boundary_steps::{coefficients, heard};
 use super::{neighbours, single_runs, Answer, Answered, Entry, Field, Request, SingleRun};
 use crate::circuit::{self, Shape};
 use crate::field::{self, P};
@@ -92,7 +93,7 @@ fn features(one: &Answered) -> Vec<String> {
         Some(refusal) => {
             let number = refusal.number;
             found.push(format!("refused {number:02}"));
-            if offending(one, number) > 1 {
+            if several_offend(&one.request, refusal) {
                 found.push(format!("refused {number:02}, several numbers offend"));
             }
             if let Some(later) = later_gate(&one.request, refusal) {
@@ -140,21 +141,20 @@ fn parties_and_circuit(request: &Request) -> (u32, &[u32]) {
     }
 }
 
-/// How many numbers of the list that the question is asked of are no elements, or no marks.
-fn offending(one: &Answered, number: u32) -> usize {
-    let name = match number {
-        9 => "prep",
-        11 => "inputs",
-        15 => "scratch",
-        17 => "coefficients",
-        20 | 21 => "heard",
-        _ => return 0,
+/// Whether the question refuses another number of its list when the first one is mended.
+fn several_offend(request: &Request, refusal: Refusal) -> bool {
+    let mut mended = request.clone();
+    let list = match refusal.number {
+        9 => mended.lists().prep,
+        11 => mended.lists().inputs,
+        15 => mended.lists().scratch,
+        17 => coefficients(&mut mended),
+        20 | 21 => heard(&mut mended),
+        _ => return false,
     };
-    let offends = |&&x: &&u32| if number == 21 { x != 1 } else { x >= P };
-    lists(&one.request)
-        .filter(|(list, _)| *list == name || (number == 9 && *list == "preps"))
-        .map(|(_, numbers)| numbers.iter().filter(offends).count())
-        .sum()
+    list[refusal.index] = 1;
+    let later = mended.answer().refusal();
+    later.is_some_and(|later| later.number == refusal.number)
 }
 
 /// The number by which a gate after the refused one would be refused.
