@@ -129,8 +129,8 @@ pub fn last_rounds(run: &Run, party: u32) -> Vec<Halves> {
         for i in 0..count {
             let mut words = vec![0; round.words()];
             let lent = run.party(i as u32);
-            positions[i] = reference::send(&lent, &scratches[i], positions[i], now, &mut words)
-                .expect("sent");
+            positions[i] =
+                reference::send(&lent, &scratches[i], positions[i], now, &mut words).expect("sent");
             halves.heard.extend(words);
         }
         halves.receive_at = positions[party as usize];

@@ -15,7 +15,7 @@ use reference::random::Random;
 use reference::{field, Round, P};
 
 use cases::{Halves, Lists, Run};
-use measure::{compare, Times};
+use measure::{compare, Pair};
 use report::{Facts, JointRow, Report, SingleRow};
 
 const PARTIES: [u32; 3] = [2, 5, 8];
@@ -58,29 +58,22 @@ fn rust_joint(run: &Run, lists: &mut Lists) -> answers::Answer {
     ))
 }
 
-fn joint(repetitions: usize, parties: u32, gates: usize) -> JointRow {
-    let run = Run::new(parties, gates);
+/// A joint run, on which both must agree.
+fn joint(run: &Run) -> Pair<'_> {
     let (mut left, mut right) = (run.lists(), run.lists());
-    let answer = proved_joint(&run, &mut left);
-    assert_eq!(answer, rust_joint(&run, &mut right), "joint run");
+    let answer = proved_joint(run, &mut left);
+    assert_eq!(answer, rust_joint(run, &mut right), "joint run");
     assert_eq!(answer[0], 1, "the joint run finishes");
     assert_eq!(left, right, "lists of the joint run");
     left.clear();
     right.clear();
-    let times = compare(
-        repetitions,
-        || {
-            black_box(proved_joint(black_box(&run), &mut left));
-        },
-        || {
-            black_box(rust_joint(black_box(&run), &mut right));
-        },
-    );
-    JointRow {
-        parties,
-        gates,
-        products: run.shape.products,
-        times,
+    Pair {
+        proved: Box::new(move || {
+            black_box(proved_joint(black_box(run), &mut left));
+        }),
+        rust: Box::new(move || {
+            black_box(rust_joint(black_box(run), &mut right));
+        }),
     }
 }
 
@@ -104,7 +97,7 @@ fn rust_receive(run: &Run, halves: &Halves, scratch: &mut [u32]) -> answers::Ans
     ))
 }
 
-fn send(repetitions: usize, run: &Run, halves: &Halves) -> Times {
+fn send<'a>(run: &'a Run, halves: &'a Halves) -> Pair<'a> {
     let lent = run.party(SINGLE_PARTY);
     let (mut left, mut right) = ([0; 2], [0; 2]);
     let answer = proved::send(
@@ -117,9 +110,8 @@ fn send(repetitions: usize, run: &Run, halves: &Halves) -> Times {
     assert_eq!(answer, rust_send(run, halves, &mut right), "sending");
     assert_eq!(answer[0], 1, "sending is not refused");
     assert_eq!(left, right, "words sent");
-    compare(
-        repetitions,
-        || {
+    Pair {
+        proved: Box::new(move || {
             black_box(proved::send(
                 black_box(&lent),
                 &halves.scratch,
@@ -127,55 +119,36 @@ fn send(repetitions: usize, run: &Run, halves: &Halves) -> Times {
                 &halves.coefficients,
                 &mut left,
             ));
-        },
-        || {
+        }),
+        rust: Box::new(move || {
             black_box(rust_send(black_box(run), halves, &mut right));
-        },
-    )
+        }),
+    }
 }
 
 /// A round received again from the scratch it left gives the same answer and the same scratch.
-fn receive(repetitions: usize, run: &Run, halves: &Halves) -> Times {
+fn receive<'a>(run: &'a Run, halves: &'a Halves) -> Pair<'a> {
     let lent = run.party(SINGLE_PARTY);
     let (mut left, mut right) = (halves.scratch.clone(), halves.scratch.clone());
     for _ in 0..2 {
         let answer = proved::receive(&lent, &mut left, halves.receive_at, &halves.heard);
         assert_eq!(answer, rust_receive(run, halves, &mut right), "receiving");
-        assert!(
-            answer[0] == 1 || answer[0] == 2,
-            "receiving is not refused"
-        );
+        assert!(answer[0] == 1 || answer[0] == 2, "receiving is not refused");
         assert_eq!(left, right, "scratch");
     }
-    compare(
-        repetitions,
-        || {
+    Pair {
+        proved: Box::new(move || {
             black_box(proved::receive(
                 black_box(&lent),
                 &mut left,
                 halves.receive_at,
                 &halves.heard,
             ));
-        },
-        || {
+        }),
+        rust: Box::new(move || {
             black_box(rust_receive(black_box(run), halves, &mut right));
-        },
-    )
-}
-
-fn single(repetitions: usize, gates: usize) -> Vec<SingleRow> {
-    let run = Run::new(SINGLE_PARTIES, gates);
-    let last = cases::last_rounds(&run, SINGLE_PARTY);
-    let row = |round: Round| {
-        let halves = last.iter().find(|halves| halves.round == round)?;
-        Some(SingleRow {
-            round,
-            gates,
-            send: send(repetitions, &run, halves),
-            receive: receive(repetitions, &run, halves),
-        })
-    };
-    SINGLE_ROUNDS.into_iter().filter_map(row).collect()
+        }),
+    }
 }
 
 /// Scaling as the Rust implementation would: all numbers are asked first.
@@ -190,7 +163,7 @@ fn rust_scale(values: &mut [u32], by: u32) -> bool {
     true
 }
 
-fn product(repetitions: usize) -> Times {
+fn product<'a>() -> Pair<'a> {
     let random = &mut Random::new(7);
     let (mut left, by) = (random.elements(PRODUCTS), random.element());
     let mut right = left.clone();
@@ -199,34 +172,56 @@ fn product(repetitions: usize) -> Times {
     left[1] = P;
     right[1] = P;
     assert!(!proved::scale(&mut left, by) && !rust_scale(&mut right, by));
-    assert_eq!(left, right, "nothing is written where a number is no element");
+    assert_eq!(left, right, "nothing is written where a number is none");
     left[1] = 1;
     right[1] = 1;
-    let times = compare(
-        repetitions,
-        || {
+    Pair {
+        proved: Box::new(move || {
             black_box(proved::scale(black_box(&mut left), black_box(by)));
-        },
-        || {
+        }),
+        rust: Box::new(move || {
             black_box(rust_scale(black_box(&mut right), black_box(by)));
-        },
-    );
-    times.per(PRODUCTS as f64)
+        }),
+    }
 }
 
 fn measured(repetitions: usize) -> Report {
-    let joint = PARTIES
+    let runs: Vec<Run> = PARTIES
         .into_iter()
-        .flat_map(|parties| GATES.map(|gates| joint(repetitions, parties, gates)))
+        .flat_map(|parties| GATES.map(|gates| Run::new(parties, gates)))
         .collect();
-    let single = SINGLE_GATES
+    let lent: Vec<(Run, Vec<Halves>)> = SINGLE_GATES
         .into_iter()
-        .flat_map(|gates| single(repetitions, gates))
+        .map(|gates| Run::new(SINGLE_PARTIES, gates))
+        .map(|run| {
+            let mut halves = cases::last_rounds(&run, SINGLE_PARTY);
+            halves.retain(|halves| SINGLE_ROUNDS.contains(&halves.round));
+            (run, halves)
+        })
         .collect();
+    let singles = || {
+        lent.iter()
+            .flat_map(|(run, rounds)| rounds.iter().map(move |halves| (run, halves)))
+    };
+    let mut pairs: Vec<Pair<'_>> = runs.iter().map(joint).collect();
+    for (run, halves) in singles() {
+        pairs.push(send(run, halves));
+        pairs.push(receive(run, halves));
+    }
+    pairs.push(product());
+    let mut times = compare(repetitions, &mut pairs).into_iter();
+    let mut next = || times.next().expect("one time for each pair");
     Report {
-        joint,
-        single,
-        product: product(repetitions),
+        joint: runs.iter().map(|run| JointRow::new(run, next())).collect(),
+        single: singles()
+            .map(|(run, halves)| SingleRow {
+                round: halves.round,
+                gates: run.shape.gates,
+                send: next(),
+                receive: next(),
+            })
+            .collect(),
+        product: next().per(PRODUCTS as f64),
     }
 }
 
@@ -254,7 +249,9 @@ fn main() {
                 .expect("the report is written");
         }
         _ => {
-            eprintln!("usage: bench --smoke | --measure | --write FOLDER DATE PROCESSOR RUST RATTLE");
+            eprintln!(
+                "usage: bench --smoke | --measure | --write FOLDER DATE PROCESSOR RUST RATTLE"
+            );
             std::process::exit(2);
         }
     }

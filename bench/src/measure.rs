@@ -23,7 +23,16 @@ impl Times {
     }
 }
 
-fn batch(calls: u32, mut call: impl FnMut()) -> Duration {
+/// One thing done in two ways, each a call that is repeated.
+pub struct Pair<'a> {
+    pub proved: Box<dyn FnMut() + 'a>,
+    pub rust: Box<dyn FnMut() + 'a>,
+}
+
+const BATCH: Duration = Duration::from_micros(500);
+
+/// The time of so many calls.
+fn batch(calls: u32, call: &mut dyn FnMut()) -> Duration {
     let start = Instant::now();
     for _ in 0..calls {
         call();
@@ -36,26 +45,38 @@ fn median(mut times: Vec<f64>) -> f64 {
     times[times.len() / 2]
 }
 
-/// Repeats batches of calls of both, first one and then the other in front.
-pub fn compare(repetitions: usize, mut proved: impl FnMut(), mut rust: impl FnMut()) -> Times {
-    const BATCH: Duration = Duration::from_micros(1000);
+/// How many calls make a batch.
+fn calls_of(call: &mut dyn FnMut()) -> u32 {
     let mut calls = 1;
-    while batch(calls, &mut proved) < BATCH {
+    while batch(calls, call) < BATCH {
         calls *= 2;
     }
-    let each = |time: Duration| time.as_nanos() as f64 / f64::from(calls);
-    let (mut proved_times, mut rust_times) = (Vec::new(), Vec::new());
+    calls
+}
+
+/// Repeats one batch of every call after another, so that all see the machine at the same times; the two of a pair stand side by side,
+/// first one and then the other in front.
+pub fn compare(repetitions: usize, pairs: &mut [Pair<'_>]) -> Vec<Times> {
+    let calls: Vec<u32> = pairs
+        .iter_mut()
+        .map(|pair| calls_of(&mut *pair.proved))
+        .collect();
+    let mut times = vec![(Vec::new(), Vec::new()); pairs.len()];
     for repetition in 0..repetitions {
-        if repetition % 2 == 0 {
-            proved_times.push(each(batch(calls, &mut proved)));
-            rust_times.push(each(batch(calls, &mut rust)));
-        } else {
-            rust_times.push(each(batch(calls, &mut rust)));
-            proved_times.push(each(batch(calls, &mut proved)));
+        for ((pair, &calls), (proved, rust)) in pairs.iter_mut().zip(&calls).zip(&mut times) {
+            let each = |time: Duration| time.as_nanos() as f64 / f64::from(calls);
+            if repetition % 2 == 0 {
+                proved.push(each(batch(calls, &mut *pair.proved)));
+                rust.push(each(batch(calls, &mut *pair.rust)));
+            } else {
+                rust.push(each(batch(calls, &mut *pair.rust)));
+                proved.push(each(batch(calls, &mut *pair.proved)));
+            }
         }
     }
-    Times {
-        proved: median(proved_times),
-        rust: median(rust_times),
-    }
+    let medians = |(proved, rust)| Times {
+        proved: median(proved),
+        rust: median(rust),
+    };
+    times.into_iter().map(medians).collect()
 }

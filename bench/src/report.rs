@@ -6,6 +6,7 @@ use std::path::Path;
 
 use reference::Round;
 
+use crate::cases::Run;
 use crate::measure::Times;
 use crate::plot;
 
@@ -17,6 +18,15 @@ pub struct JointRow {
 }
 
 impl JointRow {
+    pub fn new(run: &Run, times: Times) -> JointRow {
+        JointRow {
+            parties: run.parties,
+            gates: run.shape.gates,
+            products: run.shape.products,
+            times,
+        }
+    }
+
     /// Gates times parties, in which the cost is to be linear.
     pub fn size(&self) -> f64 {
         self.gates as f64 * f64::from(self.parties)
@@ -147,7 +157,7 @@ impl Report {
              Repeat: `bench/run`. Compare answers only, in seconds: `bench/run --smoke`.\n\n\
              ## What is measured\n\n\
              Both sides get the same requests and their own lists of equal length, cleared alike; before a case is timed, both must give equal answers and leave equal\n\
-             lists. Batches of at least a millisecond are timed in turns, {} for each side, and the median is told. Five of eight gates of each circuit multiply; the\n\
+             lists. Batches of at least half a millisecond are timed in turns, all cases one after another and {} times over, and the medians are told. Five of eight gates of each circuit multiply; the\n\
              others are linear, in and out gates, with an out gate every 32 gates. Single halves are those of the last round of each sort, at party 1 of 5.\n\
              A field product is one of {} that multiply a list in place, once all its numbers are asked.\n\n\
              ## Results\n\n{}\n![Joint run: time over gates times parties](benchmarks.svg)\n",
