@@ -20,7 +20,7 @@ use Rattle.party.proofs.asking.ask_elements.Reads as ask-elements-reads
 -- src/lib.rt:350:9
 returns : tie.Need-returns
 unfolding refusalNumber leave
-returns c = let e = factor-refused _ (now (c .before .before .args .values)) (c .if1 .taken) in (rw e, rw e)
+returns c = let e = factor-refused (c .before .before .args .by) (now (c .before .before .args .values)) (omega arith) in (rw e, rw e)
 
 -- src/lib.rt:352:11
 ask-elements-requires : tie.Need-ask-elements-requires
@@ -37,7 +37,7 @@ same-length c = search needs
 -- src/lib.rt:354:13
 returns-2 : tie.Need-returns-2
 unfolding refusalNumber leave verdictOf
-returns-2 c = let e = numbers-refused _ _ (c .before .before .before .before .before .if1 .left) (sym (c .before .before .before .ask-elements .ensures) ∙ ap verdictOf (c .before .number .given .1)) in (rw e, rw e)
+returns-2 c = let e = numbers-refused (c .before .before .before .before .before .before .before .args .by) _ (omega arith) (sym (c .before .before .before .ask-elements .ensures) ∙ ap verdictOf (c .before .number .given .1)) in (rw e, rw e)
 
 enum-told : tie.Need-enum-told
 enum-told c = search needs
@@ -45,7 +45,7 @@ enum-told c = search needs
 -- src/lib.rt:358:5
 scale-requires : tie.Need-scale-requires
 unfolding verdictOf
-scale-requires c κs = (c .before .before .before .before .before .if1 .left, elements-below 2 p _ (omega arith) (sym (c .before .before .before .ask-elements .ensures) ∙ ap verdictOf (c .before .enum-told .given .1)))
+scale-requires c κs = (omega arith, elements-below 2 p _ (omega arith) (sym (c .before .before .before .ask-elements .ensures) ∙ ap verdictOf (c .before .enum-told .given .1)))
 
 -- src/lib.rt:344:1
 same-length-2 : tie.Need-same-length-2
@@ -54,7 +54,7 @@ same-length-2 c = search needs
 -- src/lib.rt:344:1
 returns-3 : tie.Need-returns-3
 unfolding refusalNumber leave verdictOf
-returns-3 c = let e = numbers-accepted _ _ (c .before .before .before .before .before .before .before .before .if1 .left) (sym (c .before .before .before .before .before .before .ask-elements .ensures) ∙ ap verdictOf (c .before .before .before .before .enum-told .given .1)) in (rw e, rw e (c .before .before .scale .ensures))
+returns-3 c = let e = numbers-accepted (c .before .before .before .before .before .before .before .before .before .before .args .by) _ (omega arith) (sym (c .before .before .before .before .before .before .ask-elements .ensures) ∙ ap verdictOf (c .before .before .before .before .enum-told .given .1)) in (rw e, rw e (c .before .before .scale .ensures))
 
 pub spdz-scale-spec : {M : Type 1} → statement M
 spdz-scale-spec =
