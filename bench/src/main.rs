@@ -257,4 +257,4 @@ fn main() {
     }
 }
 
-const REPETITIONS: usize = 41;
+const REPETITIONS: usize = 201;
