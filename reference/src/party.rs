@@ -114,20 +114,19 @@ fn ask_scratch(
     scratch: &[u32],
 ) -> Result<(), Refusal> {
     let layout = shape.layout();
-    let values = || {
-        let lines = circuit.chunks_exact(4).take(index).enumerate();
-        lines
-            .filter(|(_, line)| circuit::has_value(line))
-            .map(|(wire, _)| wire)
-    };
-    let asked = values()
-        .map(|wire| layout.share(wire))
-        .chain(values().map(|wire| layout.mac(wire)))
-        .chain((0..unchecked).map(|entry| layout.opened(entry)))
-        .chain((0..unchecked).map(|entry| layout.opened_mac(entry)));
-    for index in asked {
-        if scratch[index] >= P {
-            return Err(Refusal { number: 15, index });
+    let no = |index| Err(Refusal { number: 15, index });
+    for first in [layout.share(0), layout.mac(0)] {
+        let lines = circuit.chunks_exact(4).zip(&scratch[first..][..index]);
+        for (wire, (line, &number)) in lines.enumerate() {
+            if number >= P && circuit::has_value(line) {
+                return no(first + wire);
+            }
+        }
+    }
+    for first in [layout.opened(0), layout.opened_mac(0)] {
+        let entries = &scratch[first..][..unchecked];
+        if let Some(entry) = entries.iter().position(|&number| number >= P) {
+            return no(first + entry);
         }
     }
     Ok(())

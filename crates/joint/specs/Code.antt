@@ -1,6 +1,6 @@
 -- What the code's types stand for, and what its functions ask.
 -- Assumes nothing.
-use Prim.Native.Nat.{ℕ, _+_, _*_, _<_, _≤_}
+use Prim.Native.Nat.{ℕ, _+_, _-_, _*_, _<_, _≤_}
 use mathlib.Core.Path.{_≡_}
 use mathlib.Core.Bool.{true, cond, _&&_}
 use mathlib.Core.List.{List, [], _∷_, _++_}
@@ -13,6 +13,7 @@ use Rattle.circuit.specs.Valid.{Valid}
 use Rattle.circuit.specs.Code.{roundOf, Tallied}
 use Rattle.circuit.specs.declared.Tally.{Tally}
 use Rattle.party.specs.Scratch.{layout, scratchSize, Value, read}
+use Rattle.party.specs.Party.{Party}
 use Rattle.party.specs.Position.{Stage, Send}
 use Rattle.party.specs.Send.{sent}
 use Rattle.party.specs.Receive.{passes, received}
@@ -48,6 +49,9 @@ jointOf n c preps inputs coefficients =
 -- what is counted for party i of the gates before the point
 abbrev pub tallyOf : List Tally → ℕ → Tally
 tallyOf ts i = getD ts i (record { prep = 0; openings = 0; unchecked = 0; inputs = 0 })
+
+abbrev pub siteAt : ℕ → Tally → Site
+siteAt gate t = record { gate = gate; prep = t .prep; unchecked = t .unchecked; input = t .inputs }
 
 unfoldable pub siteOf : Course → ℕ → Site
 siteOf s i =
@@ -86,6 +90,15 @@ pub record Lent (J : Joint) (f : Frame) : Type 0 where
   pub preps-low : Below (J .preps)
   pub inputs-long : length (J .inputs) ≡ inCount (J .circuit)
   pub inputs-low : Below (J .inputs)
+
+-- the part of a list from a up to b
+abbrev pub part : ℕ → ℕ → List ℕ → List ℕ
+part a b xs = take (b - a) (drop a xs)
+
+-- party i of n with the parts that the code cuts out for it: each party has prep numbers of the preprocessing, and this one's inputs stand from a to b
+abbrev pub lentFrom : ℕ → ℕ → List ℕ → ℕ → List ℕ → ℕ → ℕ → List ℕ → Party
+lentFrom n i c prep preps a b inputs =
+    record { parties = n; me = i; circuit = c; prep = part (i * prep) (i * prep + prep) preps; inputs = part a b inputs }
 
 -- what the words of party i in round r are, and what its scratch is once it has received the words of all
 abbrev pub saidBy : Joint → State → Round → ℕ → List ℕ

@@ -6,6 +6,7 @@ use crate::Frame;
 use crate::JointAnswer;
 use circuit::Round;
 use circuit::Tally;
+use party::Layout;
 use party::Point;
 use party::Site;
 use party::Slot;
@@ -17,43 +18,48 @@ ghost use Prim.Native.Nat.{ℕ, _+_, _*_, _<_, _≤_};
 ghost use lib.ListN.{length, getD, drop};
 ghost use Rattle.field.specs.Prime.{p, prime, Is};
 ghost use Rattle.circuit.specs.Gate.{gateSize, gate, gates};
-ghost use Rattle.circuit.specs.Round.{words};
+ghost use Rattle.circuit.specs.Round.{words, coefficientsIn};
 ghost use Rattle.circuit.specs.Accept.{mostGates};
 ghost use Rattle.circuit.specs.Code.{roundOf, Tallied};
 ghost use Rattle.party.specs.Ask.{mostParties};
+ghost use Rattle.party.specs.Send.{sent, holds};
 ghost use Rattle.party.specs.Receive.{next, received};
 ghost use Rattle.party.specs.Entry.{releases, overwrite};
-ghost use Rattle.party.specs.Code.{stageOf, pointOf, Below, Receives};
+ghost use Rattle.party.specs.Code.{stageOf, pointOf, Below, Sends, Receives};
 ghost use Rattle.joint.specs.Joint.{joined, band, party};
 ghost use Rattle.joint.specs.Run.{said, step};
 ghost use Rattle.joint.specs.Entry.{ended};
-ghost use Rattle.joint.specs.Code.{jointAnswerOf, IsDue, jointOf, tallyOf, siteOf, stateOf, Framed, Lent, saidBy, receivedBy, freed, writtenAt, Going, Turning, Turned, Started, Runnable, Ran};
+ghost use Rattle.joint.specs.Code.{jointAnswerOf, IsDue, jointOf, tallyOf, siteAt, siteOf, part, lentFrom, stateOf, Framed, Lent, receivedBy, freed, writtenAt, Going, Turning, Turned, Started, Runnable, Ran};
 
 // Words of a reveal.
 const CHECK_WORDS: usize = 1;
 
-// Where the numbers of the point's gate stand for party i.
-fn site_of(s: Course, i: usize) -> Site
-    requires { ⌜ i < mostParties ⌝ }
-    ensures { λ x. ⌜ x ≡ siteOf s i ⌝ }
+// Where the numbers of a gate stand for a party of whom that is counted before it.
+fn site_of(gate: usize, t: Tally) -> Site
+    ensures { λ x. ⌜ x ≡ siteAt gate t ⌝ }
 {
-    let point = s.point;
-    let tallies = s.tallies;
-    let t = tallies[i];
     Site {
-        gate: point.gate,
+        gate,
         prep: t.prep,
         unchecked: t.unchecked,
         input: t.inputs,
     }
 }
 
-// Party i sends: its words into out. The check share that it then holds.
+// Party i sends: its words into out. The check share that it then holds. Of the joined lists a party has that many numbers of the
+// preprocessing and of the scratch, its inputs stand from a to b, and the round's coefficients start at u.
 fn send_one(
-    f: Frame,
-    s: Course,
-    r: Round,
+    parties: usize,
     i: usize,
+    y: Layout,
+    prep: usize,
+    size: usize,
+    a: usize,
+    b: usize,
+    u: usize,
+    at: Site,
+    r: Round,
+    held: u32,
     c: &[u32],
     preps: &[u32],
     inputs: &[u32],
@@ -61,31 +67,25 @@ fn send_one(
     coefficients: &[u32],
     out: &mut [u32],
 ) -> u32
-    requires { ⌜ Going (jointOf (f .parties) (now c) (now preps) (now inputs) (now coefficients)) f s (roundOf r) (now scratch) × (i < f .parties) × (words (gate (now c) (s .point .gate)) (roundOf r) ≤ length (now out)) ⌝ }
-    ensures { λ h. ⌜ Is (step prime (jointOf (f .parties) (now (c .entry)) (now (preps .entry)) (now (inputs .entry)) (now (coefficients .entry))) (stateOf f s (now (scratch .entry))) (roundOf r) .held i) h × (now (out .exit) ≡ overwrite (saidBy (jointOf (f .parties) (now (c .entry)) (now (preps .entry)) (now (inputs .entry)) (now (coefficients .entry))) (stateOf f s (now (scratch .entry))) (roundOf r) i) (now (out .entry))) ⌝ }
+    requires { ⌜ (i * prep + prep ≤ length (now preps)) × (a ≤ b) × (b ≤ length (now inputs)) × (i * size + size ≤ length (now scratch)) × (u + coefficientsIn (at .unchecked) (roundOf r) ≤ length (now coefficients)) × Sends (lentFrom parties i (now c) prep (now preps) a b (now inputs)) (part (i * size) (i * size + size) (now scratch)) y at (roundOf r) held (part u (u + coefficientsIn (at .unchecked) (roundOf r)) (now coefficients)) (length (now out)) ⌝ }
+    ensures { λ h. ⌜ Is (holds prime (lentFrom parties i (now (c .entry)) prep (now (preps .entry)) a b (now (inputs .entry))) (part (i * size) (i * size + size) (now (scratch .entry))) (at .gate) (roundOf r) (part u (u + coefficientsIn (at .unchecked) (roundOf r)) (now (coefficients .entry)))) h × (now (out .exit) ≡ overwrite (sent prime (lentFrom parties i (now (c .entry)) prep (now (preps .entry)) a b (now (inputs .entry))) (part (i * size) (i * size + size) (now (scratch .entry))) (at .gate) held (roundOf r)) (now (out .entry))) ⌝ }
 {
-    let starts = f.starts;
-    let held = s.held;
-    let at = site_of(s, i);
-    let a = starts[i];
-    let b = starts[i + 1];
-    let m = i * f.prep;
-    let n = m + f.prep;
-    let k = i * f.scratch;
-    let l = k + f.scratch;
-    let u = s.used;
+    let m = i * prep;
+    let n = m + prep;
+    let k = i * size;
+    let l = k + size;
     let v = u + circuit::coefficients_in(at.unchecked, r);
     party::sending::send_step(
-        f.parties,
+        parties,
         i,
         c,
         &preps[m..n],
         &inputs[a..b],
         &scratch[k..l],
-        f.layout,
+        y,
         at,
         r,
-        held[i],
+        held,
         &coefficients[u..v],
         out,
     )
@@ -107,17 +107,32 @@ fn send_all(
     ensures { λ h. ⌜ ((i : ℕ) → i < f .parties → Is (step prime (jointOf (f .parties) (now (c .entry)) (now (preps .entry)) (now (inputs .entry)) (now (coefficients .entry))) (stateOf f s (now (scratch .entry))) (roundOf r) .held i) (getD h i 0)) × (now (out .exit) ≡ said prime (jointOf (f .parties) (now (c .entry)) (now (preps .entry)) (now (inputs .entry)) (now (coefficients .entry))) (stateOf f s (now (scratch .entry))) (roundOf r)) ⌝ }
 {
     let point = s.point;
-    let k = circuit::words_in(circuit::gate_at(c, point.gate), r);
+    let gate = point.gate;
+    let tallies = s.tallies;
+    let holds = s.held;
+    let starts = f.starts;
+    let k = circuit::words_in(circuit::gate_at(c, gate), r);
     let mut held = [0u32; 8];
     let mut a = 0;
     let mut i = 0;
     while i < f.parties {
         let b = a + k;
+        let t = tallies[i];
+        let at = site_of(gate, t);
+        let first = starts[i];
+        let last = starts[i + 1];
         let h = send_one(
-            f,
-            s,
-            r,
+            f.parties,
             i,
+            f.layout,
+            f.prep,
+            f.scratch,
+            first,
+            last,
+            s.used,
+            at,
+            r,
+            holds[i],
             c,
             preps,
             inputs,
@@ -132,35 +147,36 @@ fn send_all(
     held
 }
 
-// Party i receives the words of all; l is its band of the scratch.
+// Party i receives the words of all; l is its band of the scratch. Of the joined lists a party has that many numbers of the
+// preprocessing, and its inputs stand from a to b.
 fn receive_one(
-    f: Frame,
-    s: Course,
-    r: Round,
+    parties: usize,
     i: usize,
+    y: Layout,
+    prep: usize,
+    a: usize,
+    b: usize,
+    at: Site,
+    r: Round,
     c: &[u32],
     preps: &[u32],
     inputs: &[u32],
     l: &mut [u32],
     heard: &[u32],
 ) -> Point
-    requires { ⌜ Lent (jointOf (f .parties) (now c) (now preps) (now inputs) []) f × (i < f .parties) × Receives (party (jointOf (f .parties) (now c) (now preps) (now inputs) []) i) (now l) (f .layout) (siteOf s i) (roundOf r) (now heard) ⌝ }
-    ensures { λ x. ⌜ (pointOf x ≡ next prime (f .parties) (now (c .entry)) (s .point .gate) (roundOf r) (now (heard .entry))) × (now (l .exit) ≡ received prime (party (jointOf (f .parties) (now (c .entry)) (now (preps .entry)) (now (inputs .entry)) []) i) (now (l .entry)) (s .point .gate) (roundOf r) (now (heard .entry))) ⌝ }
+    requires { ⌜ (i * prep + prep ≤ length (now preps)) × (a ≤ b) × (b ≤ length (now inputs)) × Receives (lentFrom parties i (now c) prep (now preps) a b (now inputs)) (now l) y at (roundOf r) (now heard) ⌝ }
+    ensures { λ x. ⌜ (pointOf x ≡ next prime parties (now (c .entry)) (at .gate) (roundOf r) (now (heard .entry))) × (now (l .exit) ≡ received prime (lentFrom parties i (now (c .entry)) prep (now (preps .entry)) a b (now (inputs .entry))) (now (l .entry)) (at .gate) (roundOf r) (now (heard .entry))) ⌝ }
 {
-    let starts = f.starts;
-    let at = site_of(s, i);
-    let a = starts[i];
-    let b = starts[i + 1];
-    let m = i * f.prep;
-    let n = m + f.prep;
+    let m = i * prep;
+    let n = m + prep;
     party::receiving::receive_step(
-        f.parties,
+        parties,
         i,
         c,
         &preps[m..n],
         &inputs[a..b],
         l,
-        f.layout,
+        y,
         at,
         r,
         heard,
@@ -182,15 +198,26 @@ fn receive_all(
     ensures { λ x. ⌜ (pointOf x ≡ next prime (f .parties) (now (c .entry)) (s .point .gate) (roundOf r) (now (heard .entry))) × (now (scratch .exit) ≡ joined (f .parties) (receivedBy (jointOf (f .parties) (now (c .entry)) (now (preps .entry)) (now (inputs .entry)) []) (stateOf f s (now (scratch .entry))) (roundOf r) (now (heard .entry))) ++ drop (f .parties * f .scratch) (now (scratch .entry))) ⌝ }
 {
     let mut point = s.point;
+    let tallies = s.tallies;
+    let starts = f.starts;
     let mut start = 0;
     let mut i = 0;
     while i < f.parties {
         let end = start + f.scratch;
+        let here = s.point;
+        let t = tallies[i];
+        let at = site_of(here.gate, t);
+        let first = starts[i];
+        let last = starts[i + 1];
         point = receive_one(
-            f,
-            s,
-            r,
+            f.parties,
             i,
+            f.layout,
+            f.prep,
+            first,
+            last,
+            at,
+            r,
             c,
             preps,
             inputs,
@@ -273,7 +300,10 @@ fn one_round(
     requires { ⌜ Turning (jointOf (f .parties) (now c) (now preps) (now inputs) (now coefficients)) f s (roundOf r) (now scratch) (now transcript) (now outputs) ⌝ }
     ensures { λ x. ⌜ Turned (jointOf (f .parties) (now (c .entry)) (now (preps .entry)) (now (inputs .entry)) (now (coefficients .entry))) f s (roundOf r) (now (scratch .entry)) (now (transcript .entry)) (now (outputs .entry)) x (now (scratch .exit)) (now (transcript .exit)) (now (outputs .exit)) ⌝ }
 {
-    let at = site_of(s, 0);
+    let here = s.point;
+    let before = s.tallies;
+    let t = before[0];
+    let at = site_of(here.gate, t);
     let start = s.written;
     let end = start + f.parties * circuit::words_in(circuit::gate_at(c, at.gate), r);
     let held = send_all(
@@ -297,7 +327,6 @@ fn one_round(
         s.released,
     );
     let point = receive_all(f, s, r, c, preps, inputs, scratch, &transcript[start..end]);
-    let before = s.tallies;
     let tallies = advance(f.parties, c, at.gate, point.gate, before);
     let used = s.used + circuit::coefficients_in(at.unchecked, r);
     Course {

@@ -1,0 +1,150 @@
+//! What is timed: circuits with their lists, and single rounds of them.
+
+use reference::circuit::{self, Shape, ADD, IN, MUL, OUT, PLUS, SUB, TIMES};
+use reference::random::{from_kinds, Random};
+use reference::{prep, Party, Position, Received, Round, Stage};
+
+/// A joint run, with everything it is lent.
+pub struct Run {
+    pub parties: u32,
+    pub circuit: Vec<u32>,
+    pub shape: Shape,
+    pub preps: Vec<u32>,
+    pub inputs: Vec<u32>,
+    pub coefficients: Vec<u32>,
+}
+
+/// The kinds of a circuit: five of eight gates multiply, three are linear; now and then an in gate and
+/// an out gate; an out gate at the end.
+fn kinds(gates: usize) -> Vec<u32> {
+    const ROW: [u32; 8] = [MUL, ADD, MUL, TIMES, MUL, PLUS, MUL, MUL];
+    let kind = |gate: usize| match gate {
+        0..4 => IN,
+        _ if gate + 1 == gates => OUT,
+        _ if gate % 32 == 15 => IN,
+        _ if gate % 32 == 31 => OUT,
+        _ if gate % 32 == 9 => SUB,
+        _ => ROW[gate % 8],
+    };
+    (0..gates).map(kind).collect()
+}
+
+impl Run {
+    pub fn new(parties: u32, gates: usize) -> Run {
+        let random = &mut Random::new(u64::from(parties) * 1000 + gates as u64);
+        let circuit = from_kinds(random, parties, &kinds(gates));
+        let shape = circuit::shape(parties, &circuit).expect("the circuit is accepted");
+        let key = random.element();
+        let preps = prep::make(random, parties, &circuit, key);
+        let inputs = random.elements(shape.inputs);
+        let coefficients = random.elements(shape.coefficients());
+        Run {
+            parties,
+            circuit,
+            shape,
+            preps,
+            inputs,
+            coefficients,
+        }
+    }
+
+    pub fn lists(&self) -> Lists {
+        let count = self.parties as usize;
+        Lists {
+            scratch: vec![0; count * self.shape.scratch_len()],
+            transcript: vec![0; count * self.shape.words()],
+            outputs: vec![0; self.shape.outputs],
+        }
+    }
+
+    /// What one party is lent.
+    pub fn party(&self, party: u32) -> Party<'_> {
+        let index = party as usize;
+        let start: usize = self.shape.owned[..index].iter().sum();
+        let len = self.shape.prep_len();
+        Party {
+            parties: self.parties,
+            party,
+            circuit: &self.circuit,
+            prep: &self.preps[index * len..][..len],
+            inputs: &self.inputs[start..][..self.shape.owned[index]],
+        }
+    }
+}
+
+/// The lists that a joint run writes to.
+#[derive(Clone, PartialEq, Debug)]
+pub struct Lists {
+    pub scratch: Vec<u32>,
+    pub transcript: Vec<u32>,
+    pub outputs: Vec<u32>,
+}
+
+impl Lists {
+    pub fn clear(&mut self) {
+        self.scratch.fill(0);
+        self.transcript.fill(0);
+        self.outputs.fill(0);
+    }
+}
+
+/// Both halves of one round at one party: where it stands, and what it is lent besides.
+#[derive(Clone)]
+pub struct Halves {
+    pub round: Round,
+    pub scratch: Vec<u32>,
+    pub send_at: Position,
+    pub coefficients: Vec<u32>,
+    pub receive_at: Position,
+    pub heard: Vec<u32>,
+}
+
+/// The last round of each sort in a run that goes through the single entries, at one party.
+pub fn last_rounds(run: &Run, party: u32) -> Vec<Halves> {
+    let count = run.parties as usize;
+    let mut scratches = vec![vec![0; run.shape.scratch_len()]; count];
+    let mut positions: Vec<Position> = (0..run.parties)
+        .map(|i| reference::open(&run.party(i), &scratches[i as usize]).expect("opened"))
+        .collect();
+    let mut coefficients = &run.coefficients[..];
+    let mut last: Vec<Halves> = Vec::new();
+    while let Stage::Send(round) = positions[0].stage {
+        let gate = positions[0].gate as usize;
+        let pending = circuit::before(&run.circuit, 0, gate).pending;
+        let wanted = if round.is_commit() {
+            round.unchecked(pending)
+        } else {
+            0
+        };
+        let (now, later) = coefficients.split_at(wanted);
+        coefficients = later;
+        let mut halves = Halves {
+            round,
+            scratch: scratches[party as usize].clone(),
+            send_at: positions[party as usize],
+            coefficients: now.to_vec(),
+            receive_at: positions[party as usize],
+            heard: Vec::new(),
+        };
+        for i in 0..count {
+            let mut words = vec![0; round.words()];
+            let lent = run.party(i as u32);
+            positions[i] =
+                reference::send(&lent, &scratches[i], positions[i], now, &mut words).expect("sent");
+            halves.heard.extend(words);
+        }
+        halves.receive_at = positions[party as usize];
+        for i in 0..count {
+            let lent = run.party(i as u32);
+            let received =
+                reference::receive(&lent, &mut scratches[i], positions[i], &halves.heard);
+            positions[i] = match received.expect("received") {
+                Received::Moved(position) | Received::Released { position, .. } => position,
+                Received::Aborted(_) => unreachable!("good preprocessing passes every check"),
+            };
+        }
+        last.retain(|other| other.round != round);
+        last.push(halves);
+    }
+    last
+}

@@ -1,0 +1,260 @@
+//! Compares the proved entries with the Rust implementation: first that both give equal answers and
+//! leave equal lists on every case, then, unless asked for a smoke test, how long each takes.
+
+mod answers;
+mod cases;
+mod measure;
+mod plot;
+mod proved;
+mod report;
+
+use std::hint::black_box;
+use std::path::PathBuf;
+
+use reference::random::Random;
+use reference::{field, Round, P};
+
+use cases::{Halves, Lists, Run};
+use measure::{compare, Pair};
+use report::{Facts, JointRow, Report, SingleRow};
+
+const PARTIES: [u32; 3] = [2, 5, 8];
+const GATES: [usize; 4] = [64, 128, 192, 256];
+const SINGLE_PARTIES: u32 = 5;
+const SINGLE_PARTY: u32 = 1;
+const SINGLE_GATES: [usize; 2] = [64, 256];
+const SINGLE_ROUNDS: [Round; 5] = [
+    Round::Input,
+    Round::Multiply,
+    Round::CommitOpened,
+    Round::RevealOpened,
+    Round::OpenOutput,
+];
+const PRODUCTS: usize = 4096;
+
+fn proved_joint(run: &Run, lists: &mut Lists) -> answers::Answer {
+    proved::joint_run(
+        run.parties,
+        &run.circuit,
+        &run.preps,
+        &run.inputs,
+        &mut lists.scratch,
+        &run.coefficients,
+        &mut lists.transcript,
+        &mut lists.outputs,
+    )
+}
+
+fn rust_joint(run: &Run, lists: &mut Lists) -> answers::Answer {
+    answers::joint(reference::joint_run(
+        run.parties,
+        &run.circuit,
+        &run.preps,
+        &run.inputs,
+        &mut lists.scratch,
+        &run.coefficients,
+        &mut lists.transcript,
+        &mut lists.outputs,
+    ))
+}
+
+/// A joint run, on which both must agree.
+fn joint(run: &Run) -> Pair<'_> {
+    let (mut left, mut right) = (run.lists(), run.lists());
+    let answer = proved_joint(run, &mut left);
+    assert_eq!(answer, rust_joint(run, &mut right), "joint run");
+    assert_eq!(answer[0], 1, "the joint run finishes");
+    assert_eq!(left, right, "lists of the joint run");
+    left.clear();
+    right.clear();
+    Pair {
+        proved: Box::new(move || {
+            black_box(proved_joint(black_box(run), &mut left));
+        }),
+        rust: Box::new(move || {
+            black_box(rust_joint(black_box(run), &mut right));
+        }),
+    }
+}
+
+fn rust_send(run: &Run, halves: &Halves, out: &mut [u32]) -> answers::Answer {
+    answers::sent(reference::send(
+        &run.party(SINGLE_PARTY),
+        &halves.scratch,
+        halves.send_at,
+        &halves.coefficients,
+        out,
+    ))
+}
+
+fn rust_receive(run: &Run, halves: &Halves, scratch: &mut [u32]) -> answers::Answer {
+    let lent = run.party(SINGLE_PARTY);
+    answers::received(reference::receive(
+        &lent,
+        scratch,
+        halves.receive_at,
+        &halves.heard,
+    ))
+}
+
+fn send<'a>(run: &'a Run, halves: &'a Halves) -> Pair<'a> {
+    let lent = run.party(SINGLE_PARTY);
+    let (mut left, mut right) = ([0; 2], [0; 2]);
+    let answer = proved::send(
+        &lent,
+        &halves.scratch,
+        halves.send_at,
+        &halves.coefficients,
+        &mut left,
+    );
+    assert_eq!(answer, rust_send(run, halves, &mut right), "sending");
+    assert_eq!(answer[0], 1, "sending is not refused");
+    assert_eq!(left, right, "words sent");
+    Pair {
+        proved: Box::new(move || {
+            black_box(proved::send(
+                black_box(&lent),
+                &halves.scratch,
+                halves.send_at,
+                &halves.coefficients,
+                &mut left,
+            ));
+        }),
+        rust: Box::new(move || {
+            black_box(rust_send(black_box(run), halves, &mut right));
+        }),
+    }
+}
+
+/// A round received again from the scratch it left gives the same answer and the same scratch.
+fn receive<'a>(run: &'a Run, halves: &'a Halves) -> Pair<'a> {
+    let lent = run.party(SINGLE_PARTY);
+    let (mut left, mut right) = (halves.scratch.clone(), halves.scratch.clone());
+    for _ in 0..2 {
+        let answer = proved::receive(&lent, &mut left, halves.receive_at, &halves.heard);
+        assert_eq!(answer, rust_receive(run, halves, &mut right), "receiving");
+        assert!(answer[0] == 1 || answer[0] == 2, "receiving is not refused");
+        assert_eq!(left, right, "scratch");
+    }
+    Pair {
+        proved: Box::new(move || {
+            black_box(proved::receive(
+                black_box(&lent),
+                &mut left,
+                halves.receive_at,
+                &halves.heard,
+            ));
+        }),
+        rust: Box::new(move || {
+            black_box(rust_receive(black_box(run), halves, &mut right));
+        }),
+    }
+}
+
+/// Scaling as the Rust implementation would: all numbers are asked first.
+#[inline(never)]
+fn rust_scale(values: &mut [u32], by: u32) -> bool {
+    if by >= P || values.iter().any(|&value| value >= P) {
+        return false;
+    }
+    for value in values {
+        *value = field::mul(*value, by);
+    }
+    true
+}
+
+fn product<'a>() -> Pair<'a> {
+    let random = &mut Random::new(7);
+    let (mut left, by) = (random.elements(PRODUCTS), random.element());
+    let mut right = left.clone();
+    assert!(proved::scale(&mut left, by) && rust_scale(&mut right, by));
+    assert_eq!(left, right, "products");
+    left[1] = P;
+    right[1] = P;
+    assert!(!proved::scale(&mut left, by) && !rust_scale(&mut right, by));
+    assert_eq!(left, right, "nothing is written where a number is none");
+    left[1] = 1;
+    right[1] = 1;
+    Pair {
+        proved: Box::new(move || {
+            black_box(proved::scale(black_box(&mut left), black_box(by)));
+        }),
+        rust: Box::new(move || {
+            black_box(rust_scale(black_box(&mut right), black_box(by)));
+        }),
+    }
+}
+
+fn measured(repetitions: usize) -> Report {
+    let runs: Vec<Run> = PARTIES
+        .into_iter()
+        .flat_map(|parties| GATES.map(|gates| Run::new(parties, gates)))
+        .collect();
+    let lent: Vec<(Run, Vec<Halves>)> = SINGLE_GATES
+        .into_iter()
+        .map(|gates| Run::new(SINGLE_PARTIES, gates))
+        .map(|run| {
+            let mut halves = cases::last_rounds(&run, SINGLE_PARTY);
+            halves.retain(|halves| SINGLE_ROUNDS.contains(&halves.round));
+            (run, halves)
+        })
+        .collect();
+    let singles = || {
+        lent.iter()
+            .flat_map(|(run, rounds)| rounds.iter().map(move |halves| (run, halves)))
+    };
+    let mut pairs: Vec<Pair<'_>> = runs.iter().map(joint).collect();
+    for (run, halves) in singles() {
+        pairs.push(send(run, halves));
+        pairs.push(receive(run, halves));
+    }
+    pairs.push(product());
+    let mut times = compare(repetitions, &mut pairs).into_iter();
+    let mut next = || times.next().expect("one time for each pair");
+    Report {
+        joint: runs.iter().map(|run| JointRow::new(run, next())).collect(),
+        single: singles()
+            .map(|(run, halves)| SingleRow {
+                round: halves.round,
+                gates: run.shape.gates,
+                send: next(),
+                receive: next(),
+            })
+            .collect(),
+        product: next().per(PRODUCTS as f64),
+    }
+}
+
+fn main() {
+    let arguments: Vec<String> = std::env::args().skip(1).collect();
+    let arguments: Vec<&str> = arguments.iter().map(String::as_str).collect();
+    match arguments[..] {
+        ["--smoke"] => {
+            measured(1);
+            println!("bench: equal answers and lists on every case");
+        }
+        ["--measure"] => print!("{}", measured(REPETITIONS).table()),
+        ["--write", folder, date, processor, rust, rattle] => {
+            let report = measured(REPETITIONS);
+            print!("{}", report.table());
+            let facts = Facts {
+                date,
+                processor,
+                rust,
+                rattle,
+                repetitions: REPETITIONS,
+            };
+            report
+                .write(&PathBuf::from(folder), &facts)
+                .expect("the report is written");
+        }
+        _ => {
+            eprintln!(
+                "usage: bench --smoke | --measure | --write FOLDER DATE PROCESSOR RUST RATTLE"
+            );
+            std::process::exit(2);
+        }
+    }
+}
+
+const REPETITIONS: usize = 201;

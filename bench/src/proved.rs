@@ -1,0 +1,172 @@
+//! The proved entries, called as C calls them, with answers as their five numbers.
+
+use reference::{Party, Position};
+
+use crate::answers::{stage_number, Answer, PLACES};
+
+extern "C" {
+    fn spdz_send(
+        parties: usize,
+        me: usize,
+        circuit: *const u32,
+        circuit_len: usize,
+        prep: *const u32,
+        prep_len: usize,
+        inputs: *const u32,
+        inputs_len: usize,
+        scratch: *const u32,
+        scratch_len: usize,
+        gate: usize,
+        stage: u32,
+        held: u32,
+        coefficients: *const u32,
+        coefficients_len: usize,
+        out: *mut u32,
+        out_len: usize,
+        answer: *mut u64,
+        answer_len: usize,
+    ) -> u32;
+
+    fn spdz_receive(
+        parties: usize,
+        me: usize,
+        circuit: *const u32,
+        circuit_len: usize,
+        prep: *const u32,
+        prep_len: usize,
+        inputs: *const u32,
+        inputs_len: usize,
+        scratch: *mut u32,
+        scratch_len: usize,
+        gate: usize,
+        stage: u32,
+        held: u32,
+        heard: *const u32,
+        heard_len: usize,
+        answer: *mut u64,
+        answer_len: usize,
+    ) -> u32;
+
+    fn spdz_joint_run(
+        parties: usize,
+        circuit: *const u32,
+        circuit_len: usize,
+        preps: *const u32,
+        preps_len: usize,
+        inputs: *const u32,
+        inputs_len: usize,
+        scratch: *mut u32,
+        scratch_len: usize,
+        coefficients: *const u32,
+        coefficients_len: usize,
+        transcript: *mut u32,
+        transcript_len: usize,
+        outputs: *mut u32,
+        outputs_len: usize,
+        answer: *mut u64,
+        answer_len: usize,
+    ) -> u32;
+
+    fn spdz_scale(values: *mut u32, values_len: usize, by: u32) -> u32;
+}
+
+pub fn send(
+    lent: &Party<'_>,
+    scratch: &[u32],
+    at: Position,
+    coefficients: &[u32],
+    out: &mut [u32],
+) -> Answer {
+    let mut answer = [0; PLACES];
+    unsafe {
+        spdz_send(
+            lent.parties as usize,
+            lent.party as usize,
+            lent.circuit.as_ptr(),
+            lent.circuit.len(),
+            lent.prep.as_ptr(),
+            lent.prep.len(),
+            lent.inputs.as_ptr(),
+            lent.inputs.len(),
+            scratch.as_ptr(),
+            scratch.len(),
+            at.gate as usize,
+            stage_number(at.stage),
+            at.held,
+            coefficients.as_ptr(),
+            coefficients.len(),
+            out.as_mut_ptr(),
+            out.len(),
+            answer.as_mut_ptr(),
+            answer.len(),
+        )
+    };
+    answer
+}
+
+pub fn receive(lent: &Party<'_>, scratch: &mut [u32], at: Position, heard: &[u32]) -> Answer {
+    let mut answer = [0; PLACES];
+    unsafe {
+        spdz_receive(
+            lent.parties as usize,
+            lent.party as usize,
+            lent.circuit.as_ptr(),
+            lent.circuit.len(),
+            lent.prep.as_ptr(),
+            lent.prep.len(),
+            lent.inputs.as_ptr(),
+            lent.inputs.len(),
+            scratch.as_mut_ptr(),
+            scratch.len(),
+            at.gate as usize,
+            stage_number(at.stage),
+            at.held,
+            heard.as_ptr(),
+            heard.len(),
+            answer.as_mut_ptr(),
+            answer.len(),
+        )
+    };
+    answer
+}
+
+#[allow(clippy::too_many_arguments)]
+pub fn joint_run(
+    parties: u32,
+    circuit: &[u32],
+    preps: &[u32],
+    inputs: &[u32],
+    scratch: &mut [u32],
+    coefficients: &[u32],
+    transcript: &mut [u32],
+    outputs: &mut [u32],
+) -> Answer {
+    let mut answer = [0; PLACES];
+    unsafe {
+        spdz_joint_run(
+            parties as usize,
+            circuit.as_ptr(),
+            circuit.len(),
+            preps.as_ptr(),
+            preps.len(),
+            inputs.as_ptr(),
+            inputs.len(),
+            scratch.as_mut_ptr(),
+            scratch.len(),
+            coefficients.as_ptr(),
+            coefficients.len(),
+            transcript.as_mut_ptr(),
+            transcript.len(),
+            outputs.as_mut_ptr(),
+            outputs.len(),
+            answer.as_mut_ptr(),
+            answer.len(),
+        )
+    };
+    answer
+}
+
+/// Whether the numbers were scaled.
+pub fn scale(values: &mut [u32], by: u32) -> bool {
+    unsafe { spdz_scale(values.as_mut_ptr(), values.len(), by) == 0 }
+}

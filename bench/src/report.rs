@@ -1,0 +1,175 @@
+//! The tables and the plot.
+
+use std::fmt::Write;
+use std::fs;
+use std::path::Path;
+
+use reference::Round;
+
+use crate::cases::Run;
+use crate::measure::Times;
+use crate::plot;
+
+pub struct JointRow {
+    pub parties: u32,
+    pub gates: usize,
+    pub products: usize,
+    pub times: Times,
+}
+
+impl JointRow {
+    pub fn new(run: &Run, times: Times) -> JointRow {
+        JointRow {
+            parties: run.parties,
+            gates: run.shape.gates,
+            products: run.shape.products,
+            times,
+        }
+    }
+
+    /// Gates times parties, in which the cost is to be linear.
+    pub fn size(&self) -> f64 {
+        self.gates as f64 * f64::from(self.parties)
+    }
+
+    fn per_gate(&self) -> Times {
+        self.times.per(self.size())
+    }
+
+    fn per_product(&self) -> Times {
+        self.times
+            .per(self.products as f64 * f64::from(self.parties))
+    }
+}
+
+pub struct SingleRow {
+    pub round: Round,
+    pub gates: usize,
+    pub send: Times,
+    pub receive: Times,
+}
+
+pub struct Report {
+    pub joint: Vec<JointRow>,
+    pub single: Vec<SingleRow>,
+    pub product: Times,
+}
+
+/// What the report says of its making.
+pub struct Facts<'a> {
+    pub date: &'a str,
+    pub processor: &'a str,
+    pub rust: &'a str,
+    pub rattle: &'a str,
+    pub repetitions: usize,
+}
+
+fn cells(times: Times, unit: f64, digits: usize) -> String {
+    format!(
+        "{:.digits$} | {:.digits$} | {:.2}",
+        times.proved / unit,
+        times.rust / unit,
+        times.ratio()
+    )
+}
+
+/// The smallest and the largest of some numbers.
+fn span(numbers: impl Iterator<Item = f64>) -> (f64, f64) {
+    numbers.fold((f64::INFINITY, 0.0), |(low, high), x| {
+        (f64::min(low, x), f64::max(high, x))
+    })
+}
+
+impl Report {
+    pub fn table(&self) -> String {
+        const MICRO: f64 = 1000.0;
+        let mut text = String::new();
+        let out = &mut text;
+        let _ = writeln!(out, "### Joint run\n");
+        let _ = writeln!(out, "| parties | gates | mul gates | proved µs | Rust µs | ratio | proved ns a multiplication and party | Rust ns | proved ns a gate and party | Rust ns |");
+        let _ = writeln!(out, "|---|---|---|---|---|---|---|---|---|---|");
+        for row in &self.joint {
+            let (product, gate) = (row.per_product(), row.per_gate());
+            let _ = writeln!(
+                out,
+                "| {} | {} | {} | {} | {:.1} | {:.1} | {:.1} | {:.1} |",
+                row.parties,
+                row.gates,
+                row.products,
+                cells(row.times, MICRO, 2),
+                product.proved,
+                product.rust,
+                gate.proved,
+                gate.rust
+            );
+        }
+        let _ = writeln!(out, "\n{}\n", self.linear());
+        let _ = writeln!(out, "### One send, one receive, with all questions\n");
+        let _ = writeln!(out, "| round | gates | send proved µs | Rust µs | ratio | receive proved µs | Rust µs | ratio |");
+        let _ = writeln!(out, "|---|---|---|---|---|---|---|---|");
+        for row in &self.single {
+            let _ = writeln!(
+                out,
+                "| {} | {} | {} | {} |",
+                row.round.name(),
+                row.gates,
+                cells(row.send, MICRO, 3),
+                cells(row.receive, MICRO, 3)
+            );
+        }
+        let _ = writeln!(out, "\n### Field product\n");
+        let _ = writeln!(out, "| proved ns | Rust ns | ratio |\n|---|---|---|");
+        let _ = writeln!(out, "| {} |", cells(self.product, 1.0, 3));
+        text
+    }
+
+    /// Whether the cost is linear in gates times parties.
+    fn linear(&self) -> String {
+        let proved = span(self.joint.iter().map(|row| row.per_gate().proved));
+        let rust = span(self.joint.iter().map(|row| row.per_gate().rust));
+        let ratio = span(self.joint.iter().map(|row| row.times.ratio()));
+        format!(
+            "Over all sizes a gate and party costs {:.1} to {:.1} ns proved and {:.1} to {:.1} ns in Rust; the ratio lies between {:.2} and {:.2}. \
+             From the smallest size to the largest, gates times parties grow {:.0}-fold and the time {:.1}-fold (proved) and {:.1}-fold (Rust).",
+            proved.0,
+            proved.1,
+            rust.0,
+            rust.1,
+            ratio.0,
+            ratio.1,
+            self.growth(JointRow::size),
+            self.growth(|row| row.times.proved),
+            self.growth(|row| row.times.rust),
+        )
+    }
+
+    fn growth(&self, of: impl Fn(&JointRow) -> f64) -> f64 {
+        let (low, high) = span(self.joint.iter().map(of));
+        high / low
+    }
+
+    pub fn write(&self, folder: &Path, facts: &Facts<'_>) -> std::io::Result<()> {
+        let text = format!(
+            "# Benchmarks\n\n\
+             Written by `bench/run`; do not edit.\n\n\
+             The proved code, called through its C entry points (`crates/capi`), beside the Rust implementation (`reference/`), in one program.\n\n\
+             - Date: {}\n- Processor: {}\n- Rust: {}, opt-level 3, one codegen unit\n- Rattle: {}, whose compiler builds the archive with LLVM at -O3\n\n\
+             Repeat: `bench/run`. Compare answers only, in seconds: `bench/run --smoke`.\n\n\
+             ## What is measured\n\n\
+             Both sides get the same requests and their own lists of equal length, cleared alike; before a case is timed, both must give equal answers and leave equal\n\
+             lists. Batches of at least half a millisecond are timed in turns, all cases one after another and {} times over, and the medians are told. Five of eight gates of each circuit multiply; the\n\
+             others are linear, in and out gates, with an out gate every 32 gates. Single halves are those of the last round of each sort, at party 1 of 5.\n\
+             A field product is one of {} that multiply a list in place, once all its numbers are asked.\n\n\
+             ## Results\n\n{}\n![Joint run: time over gates times parties](benchmarks.svg)\n",
+            facts.date,
+            facts.processor,
+            facts.rust,
+            facts.rattle,
+            facts.repetitions,
+            crate::PRODUCTS,
+            self.table()
+        );
+        fs::write(folder.join("BENCHMARKS.md"), text)?;
+        fs::write(folder.join("benchmarks.svg"), plot::joint(&self.joint))
+    }
+}
