@@ -201,14 +201,24 @@ fn print_gate(parties: u32, g: Gate, waiting: bool, transcript: &[u32], place: P
     }
 }
 
-// The rounds made, in their order: the kind of each, and the words of all parties.
-pub fn print_rounds(parties: u32, c: &[u32], rounds: usize, transcript: &[u32]) {
+// How many outputs a gate has.
+fn outputs_of(g: Gate) -> usize
+    ensures { λ r. ⌜ r ≤ 1 ⌝ }
+{
+    if circuit::is_out(g) { 1 } else { 0 }
+}
+
+// Prints the rounds made, in their order: the kind of each, and the words of all parties. How many outputs the circuit has.
+pub fn print_rounds(parties: u32, c: &[u32], rounds: usize, transcript: &[u32]) -> usize
+    ensures { λ r. ⌜ r ≤ length (now (c .entry)) ⌝ }
+{
     let count = c.len() / circuit::GATE_SIZE;
     let mut waiting = false;
     let mut place = Place {
         at: 0,
         left: rounds,
     };
+    let mut outs = 0;
     let mut j = 0;
     while j < count {
         let g = circuit::gate_at(c, j);
@@ -219,6 +229,8 @@ pub fn print_rounds(parties: u32, c: &[u32], rounds: usize, transcript: &[u32]) 
         if circuit::is_out(g) {
             waiting = false;
         }
+        outs += outputs_of(g);
         j += 1;
     }
+    outs
 }
