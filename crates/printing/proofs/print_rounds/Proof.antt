@@ -1,18 +1,18 @@
--- `docket::print_rounds` meets its contract. The place stays within the transcript. The measure is the number of gates left.
+-- `printing::print_rounds` meets its contract: the place stays within the transcript.
 -- Assumes nothing.
 use Prim.Native.Nat.{_-_, _/_, _≤_}
 use mathlib.Core.Path.{_≡_}
 use lib.ListN.{length}
 use borrow.Author.Needs.{needs}
 use Rattle.circuit.specs.Gate.{gateSize}
-use Rattle.docket.proofs.print_rounds.Statement.{statement}
-use Rattle.docket.proofs.print_rounds.Tie as tie
+use Rattle.printing.proofs.print_rounds.Statement.{statement}
+use Rattle.printing.proofs.print_rounds.Tie as tie
 
 abbrev Inv-loop : tie.InvT-loop
-Inv-loop c transcript count waiting₀ at₀ j₀ waiting at j = (count ≡ length c / gateSize) × (at ≤ length transcript) × (j ≤ count)
+Inv-loop parties c rounds transcript count waiting₀ place₀ outs₀ j₀ waiting place outs j = (count ≡ length c / gateSize) × (place .at ≤ length transcript) × (outs ≤ j) × (j ≤ count)
 
 abbrev μ-loop : tie.MeasureT-loop
-μ-loop c transcript count waiting₀ at₀ j₀ waiting at j = count - j
+μ-loop parties c rounds transcript count waiting₀ place₀ outs₀ j₀ waiting place outs j = count - j
 
 loop-holds : tie.Need-loop-holds Inv-loop μ-loop
 loop-holds c = search needs
@@ -28,6 +28,12 @@ is-mul-requires c κs = search needs
 
 is-out-requires : tie.Need-is-out-requires Inv-loop μ-loop
 is-out-requires c κs = search needs
+
+outputs-of-requires : tie.Need-outputs-of-requires Inv-loop μ-loop
+outputs-of-requires c κs = search needs
+
+add-outs : tie.Need-add-outs Inv-loop μ-loop
+add-outs c = search needs
 
 add-j : tie.Need-add-j Inv-loop μ-loop
 add-j c = search needs
@@ -52,6 +58,8 @@ print-rounds-spec =
     print-gate-requires
     is-mul-requires
     is-out-requires
+    outputs-of-requires
+    add-outs
     add-j
     loop-less
     loop-again

@@ -1,2 +1,0 @@
--- What is proved of the docket's printing.
-pub mod Few

@@ -1,0 +1,2 @@
+-- What is proved of printing.
+pub mod Few

@@ -1,0 +1,27 @@
+-- `printing::with_room` meets its contract: where too little room is left, all that is there is printed.
+-- Assumes nothing.
+use mathlib.Core.Path.{sym}
+use native.Mathlib.Omega.{arith}
+use lib.Seq.{length-take-le}
+use borrow.Author.Needs.{needs}
+use Rattle.printing.proofs.with_room.Statement.{statement}
+use Rattle.printing.proofs.with_room.Tie as tie
+
+sub-if1 : tie.Need-sub-if1
+sub-if1 c = search needs
+
+slice-aggregate-print : tie.Need-slice-aggregate-print
+slice-aggregate-print c = sym (length-take-le _ _ (c .before .before .before .pre .0))
+
+print-requires : tie.Need-print-requires
+print-requires c κs = search needs
+
+returns : tie.Need-returns
+returns c = search needs
+
+returns-2 : tie.Need-returns-2
+returns-2 c = search needs
+
+pub with-room-spec : {M : Type 1} → statement M
+with-room-spec =
+    tie.close (tie.spec sub-if1 slice-aggregate-print print-requires returns returns-2)

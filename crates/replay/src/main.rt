@@ -1,0 +1,278 @@
+// Reads requests as text from standard input, and prints their answers, as docs/REPLAY.md says.
+mod answering;
+mod naming;
+mod reading;
+mod request;
+
+use libc::STDIN_FILENO;
+use naming::Entry;
+use naming::Field;
+use request::Request;
+ghost use Prim.Native.Nat.{_<_, _≤_};
+ghost use mathlib.Core.Path.{_≡_};
+ghost use lib.ListN.{length};
+
+const LINE_FEED: u8 = 10;
+
+// The largest count.
+const MOST: u64 = 18446744073709551615;
+
+// What is read of a request, and how much of a line: its number, how many of its bytes, and whether it has more than there is room for.
+pub struct Course {
+    pub request: Request,
+    pub number: u64,
+    pub length: usize,
+    pub long: bool,
+}
+
+// Room for a list, with its length.
+fn list() -> [u32; 16384]
+    ensures { λ r. ⌜ 16384 ≡ length r ⌝ }
+{
+    [0; 16384]
+}
+
+// Room for a line, with its length.
+fn line_room() -> [u8; 262144]
+    ensures { λ r. ⌜ 262144 ≡ length r ⌝ }
+{
+    [0; 262144]
+}
+
+// The next line, of which nothing is read.
+fn next_line(course: Course, request: Request) -> Course {
+    let number = course.number;
+    Course {
+        request,
+        number: if number < MOST { number + 1 } else { number },
+        length: 0,
+        long: false,
+    }
+}
+
+// A byte of a line, where there is room for it.
+fn put_byte(line: &mut [u8], b: u8, course: Course) -> Course {
+    let mut next = course;
+    let at = course.length;
+    if at < line.len() {
+        line[at] = b;
+        next.length = at + 1;
+    } else {
+        next.long = true;
+    }
+    next
+}
+
+// The lesser of two counts.
+fn shorter(n: usize, end: usize) -> usize
+    ensures { λ r. ⌜ r ≤ end ⌝ }
+{
+    if n < end { n } else { end }
+}
+
+// The end of a line.
+fn end_line(
+    line: &[u8],
+    course: Course,
+    circuit: &mut [u32],
+    prep: &mut [u32],
+    inputs: &mut [u32],
+    scratch: &mut [u32],
+    words: &mut [u32],
+    out: &mut [u32],
+    outputs: &mut [u32],
+) -> Course {
+    let number = course.number;
+    let request = course.request;
+    if course.long {
+        reading::complain(number, b"more than 262144 bytes");
+        return next_line(course, request::dropped(request));
+    }
+    let end = shorter(course.length, line.len());
+    let read = reading::take_line(
+        number,
+        &line[..end],
+        request,
+        circuit,
+        prep,
+        inputs,
+        scratch,
+        words,
+        out,
+        outputs,
+    );
+    next_line(course, read)
+}
+
+// A byte of the input.
+fn take_byte(
+    b: u8,
+    line: &mut [u8],
+    course: Course,
+    circuit: &mut [u32],
+    prep: &mut [u32],
+    inputs: &mut [u32],
+    scratch: &mut [u32],
+    words: &mut [u32],
+    out: &mut [u32],
+    outputs: &mut [u32],
+) -> Course {
+    if b == LINE_FEED {
+        return end_line(
+            line,
+            course,
+            circuit,
+            prep,
+            inputs,
+            scratch,
+            words,
+            out,
+            outputs,
+        );
+    }
+    put_byte(line, b, course)
+}
+
+// A piece of the input.
+fn feed(
+    piece: &[u8],
+    line: &mut [u8],
+    course: Course,
+    circuit: &mut [u32],
+    prep: &mut [u32],
+    inputs: &mut [u32],
+    scratch: &mut [u32],
+    words: &mut [u32],
+    out: &mut [u32],
+    outputs: &mut [u32],
+) -> Course {
+    let mut now = course;
+    let mut i = 0;
+    while i < piece.len() {
+        now = take_byte(
+            piece[i],
+            line,
+            now,
+            circuit,
+            prep,
+            inputs,
+            scratch,
+            words,
+            out,
+            outputs,
+        );
+        i += 1;
+    }
+    now
+}
+
+// The end of the input. A last line may lack its line feed.
+fn finish(
+    line: &[u8],
+    course: Course,
+    circuit: &mut [u32],
+    prep: &mut [u32],
+    inputs: &mut [u32],
+    scratch: &mut [u32],
+    words: &mut [u32],
+    out: &mut [u32],
+    outputs: &mut [u32],
+) {
+    if course.length == 0 {
+        let request = course.request;
+        reading::take_end(course.number, request);
+        return;
+    }
+    let last = end_line(
+        line,
+        course,
+        circuit,
+        prep,
+        inputs,
+        scratch,
+        words,
+        out,
+        outputs,
+    );
+    let request = last.request;
+    reading::take_end(last.number, request);
+}
+
+// How many reads may follow one that brought so many bytes: none after the end of the input.
+fn turns_left(left: u64, count: usize) -> u64
+    requires { ⌜ 0 < left ⌝ }
+    ensures { λ r. ⌜ r < left ⌝ }
+{
+    if count == 0 { 0 } else { left - 1 }
+}
+
+// All of the input, piece by piece.
+fn replay(
+    piece: &mut [u8],
+    line: &mut [u8],
+    circuit: &mut [u32],
+    prep: &mut [u32],
+    inputs: &mut [u32],
+    scratch: &mut [u32],
+    words: &mut [u32],
+    out: &mut [u32],
+    outputs: &mut [u32],
+) {
+    let mut course = Course {
+        request: request::started(Entry::None, Field::Start),
+        number: 1,
+        length: 0,
+        long: false,
+    };
+    let mut left = MOST;
+    while 0 < left {
+        let count = io::count(libc::read(STDIN_FILENO, piece), piece);
+        course = feed(
+            &piece[..count],
+            line,
+            course,
+            circuit,
+            prep,
+            inputs,
+            scratch,
+            words,
+            out,
+            outputs,
+        );
+        left = turns_left(left, count);
+    }
+    finish(
+        line,
+        course,
+        circuit,
+        prep,
+        inputs,
+        scratch,
+        words,
+        out,
+        outputs,
+    );
+}
+
+fn main() {
+    let mut piece = io::large_buffer();
+    let mut line = line_room();
+    let mut circuit = list();
+    let mut prep = list();
+    let mut inputs = list();
+    let mut scratch = list();
+    let mut words = list();
+    let mut out = list();
+    let mut outputs = list();
+    replay(
+        &mut piece,
+        &mut line,
+        &mut circuit,
+        &mut prep,
+        &mut inputs,
+        &mut scratch,
+        &mut words,
+        &mut out,
+        &mut outputs,
+    );
+}

@@ -1,0 +1,288 @@
+// Reading a line of a request.
+use crate::answering::answer;
+use crate::naming::Entry;
+use crate::naming::Field;
+use crate::naming::Named;
+use crate::naming::entry_named;
+use crate::naming::is_entry;
+use crate::naming::spell_field;
+use crate::naming::stage_named;
+use crate::request::Request;
+use crate::request::dropped;
+use crate::request::is_begun;
+use crate::request::is_complete;
+use crate::request::is_dropped;
+use crate::request::moved_on;
+use crate::request::started;
+use crate::request::with_length;
+use crate::request::with_number;
+use crate::request::with_position;
+use party::Position;
+use text::Numbers;
+
+const HASH: u8 = 35;
+
+// A number, or what is wrong; TooMany where there is not just one.
+pub enum One {
+    Number(u32),
+    Fault(Numbers),
+}
+
+// A position, or that there is none.
+pub enum Placed {
+    Position(Position),
+    Fault,
+}
+
+fn print_line(number: u64) {
+    printing::print(b"line");
+    printing::print_number(number);
+    printing::print(b": ");
+}
+
+pub fn complain(number: u64, message: &[u8]) {
+    print_line(number);
+    printing::print(message);
+    printing::print(b"\n");
+}
+
+fn complain_wanted(number: u64, wanted: Field) {
+    print_line(number);
+    spell_field(wanted, true, b"");
+    printing::print(b" is wanted\n");
+}
+
+// What is wrong with numbers, where anything is.
+fn complain_numbers(number: u64, read: Numbers) {
+    match read {
+        Numbers::Count(_) => {}
+        Numbers::Unlike => complain(number, b"not a number"),
+        Numbers::TooLarge => complain(number, b"a number above 4294967295"),
+        Numbers::TooMany => complain(number, b"more than 16384 numbers"),
+    }
+}
+
+// A request for which a list was wanted.
+fn take_list(number: u64, rest: &[u8], request: Request, list: &mut [u32]) -> Request {
+    let read = text::read_numbers(rest, list);
+    complain_numbers(number, read);
+    match read {
+        Numbers::Count(n) => with_length(request, n),
+        _ => dropped(request),
+    }
+}
+
+// The number that is all of a text.
+fn one_number(rest: &[u8]) -> One {
+    let mut list = [0u32; 1];
+    let read = text::read_numbers(rest, &mut list);
+    match read {
+        Numbers::Count(n) => {
+            if n == 1 {
+                return One::Number(list[0]);
+            }
+            One::Fault(Numbers::TooMany)
+        }
+        _ => One::Fault(read),
+    }
+}
+
+fn complain_one(number: u64, read: Numbers) {
+    match read {
+        Numbers::TooMany => complain(number, b"one number is wanted"),
+        _ => complain_numbers(number, read),
+    }
+}
+
+// A request for which a number was wanted: that of the parties, or of this party.
+fn take_number(number: u64, rest: &[u8], request: Request) -> Request {
+    match one_number(rest) {
+        One::Number(n) => with_number(request, n),
+        One::Fault(read) => {
+            complain_one(number, read);
+            dropped(request)
+        }
+    }
+}
+
+// The position that is all of a text.
+fn position_in(rest: &[u8]) -> Placed {
+    let first = text::word_from(rest, 0);
+    let first_start = first.start;
+    let first_end = first.end;
+    let second = text::word_from(rest, first_end);
+    let second_start = second.start;
+    let second_end = second.end;
+    let third = text::word_from(rest, second_end);
+    let third_start = third.start;
+    let third_end = third.end;
+    let last = text::word_from(rest, third_end);
+    if last.start < last.end {
+        return Placed::Fault;
+    }
+    let gate = one_number(&rest[first_start..first_end]);
+    let stage = stage_named(&rest[second_start..second_end]);
+    let held = one_number(&rest[third_start..third_end]);
+    position_of(gate, stage, held)
+}
+
+fn position_of(gate: One, stage: Named, held: One) -> Placed {
+    match gate {
+        One::Number(g) => match stage {
+            Named::Stage(s) => match held {
+                One::Number(h) => Placed::Position(Position {
+                    gate: g as usize,
+                    stage: s,
+                    held: h,
+                }),
+                One::Fault(_) => Placed::Fault,
+            },
+            Named::None => Placed::Fault,
+        },
+        One::Fault(_) => Placed::Fault,
+    }
+}
+
+fn take_position(number: u64, rest: &[u8], request: Request) -> Request {
+    match position_in(rest) {
+        Placed::Position(at) => with_position(request, at),
+        Placed::Fault => {
+            complain(number, b"a gate, a stage and a check share are wanted");
+            dropped(request)
+        }
+    }
+}
+
+// What is wanted, from the rest of its line.
+fn take_wanted(
+    number: u64,
+    rest: &[u8],
+    request: Request,
+    circuit: &mut [u32],
+    prep: &mut [u32],
+    inputs: &mut [u32],
+    scratch: &mut [u32],
+    words: &mut [u32],
+    out: &mut [u32],
+    outputs: &mut [u32],
+) -> Request {
+    let wanted = request.wanted;
+    match wanted {
+        Field::Parties | Field::Party => take_number(number, rest, request),
+        Field::Position => take_position(number, rest, request),
+        Field::Circuit => take_list(number, rest, request, circuit),
+        Field::Prep | Field::Preps => take_list(number, rest, request, prep),
+        Field::Inputs => take_list(number, rest, request, inputs),
+        Field::Scratch => take_list(number, rest, request, scratch),
+        Field::Coefficients | Field::Heard => take_list(number, rest, request, words),
+        Field::Out | Field::Transcript => take_list(number, rest, request, out),
+        Field::Outputs => take_list(number, rest, request, outputs),
+        Field::Start | Field::Dropped | Field::Complete => request,
+    }
+}
+
+// A line that begins with no entry's name. A request that is complete is answered.
+fn take_field(
+    number: u64,
+    name: &[u8],
+    rest: &[u8],
+    request: Request,
+    circuit: &mut [u32],
+    prep: &mut [u32],
+    inputs: &mut [u32],
+    scratch: &mut [u32],
+    words: &mut [u32],
+    out: &mut [u32],
+    outputs: &mut [u32],
+) -> Request {
+    let wanted = request.wanted;
+    if is_dropped(wanted) {
+        return request;
+    }
+    if !spell_field(wanted, false, name) {
+        complain_wanted(number, wanted);
+        return dropped(request);
+    }
+    let read = take_wanted(
+        number,
+        rest,
+        request,
+        circuit,
+        prep,
+        inputs,
+        scratch,
+        words,
+        out,
+        outputs,
+    );
+    let next = moved_on(read);
+    let field = next.wanted;
+    if is_complete(field) {
+        answer(next, circuit, prep, inputs, scratch, words, out, outputs);
+        return moved_on(next);
+    }
+    next
+}
+
+// A line that begins with an entry's name; bare says that nothing else is there.
+fn begin(number: u64, entry: Entry, bare: bool, request: Request) -> Request {
+    let wanted = request.wanted;
+    if is_begun(wanted) {
+        complain_wanted(number, wanted);
+    }
+    if !bare {
+        complain(number, b"nothing may follow the name of an entry");
+        return dropped(request);
+    }
+    started(entry, Field::Parties)
+}
+
+// A line of the input, and what is read then.
+pub fn take_line(
+    number: u64,
+    line: &[u8],
+    request: Request,
+    circuit: &mut [u32],
+    prep: &mut [u32],
+    inputs: &mut [u32],
+    scratch: &mut [u32],
+    words: &mut [u32],
+    out: &mut [u32],
+    outputs: &mut [u32],
+) -> Request {
+    let word = text::word_from(line, 0);
+    let start = word.start;
+    let end = word.end;
+    if start == end {
+        return request;
+    }
+    if line[0] == HASH {
+        return request;
+    }
+    let entry = entry_named(&line[start..end]);
+    if is_entry(entry) {
+        let after = text::word_from(line, end);
+        return begin(number, entry, after.start == after.end, request);
+    }
+    take_field(
+        number,
+        &line[start..end],
+        &line[end..],
+        request,
+        circuit,
+        prep,
+        inputs,
+        scratch,
+        words,
+        out,
+        outputs,
+    )
+}
+
+// The end of the input.
+pub fn take_end(number: u64, request: Request) {
+    let wanted = request.wanted;
+    if is_begun(wanted) {
+        complain_wanted(number, wanted);
+    }
+}

@@ -1,0 +1,214 @@
+// What is read of a request.
+use crate::naming::Entry;
+use crate::naming::Field;
+use circuit::Round;
+use party::Position;
+use party::Stage;
+ghost use Rattle.io.specs.Counts.{Counts};
+
+// The numbers that are read, and how many numbers each list has. Preprocessing is one party's or that of all; words are the coefficients
+// or the words received; out is a party's list or the transcript.
+pub struct Lent {
+    pub parties: u32,
+    pub me: u32,
+    pub circuit: usize,
+    pub prep: usize,
+    pub inputs: usize,
+    pub scratch: usize,
+    pub words: usize,
+    pub out: usize,
+    pub outputs: usize,
+}
+
+// The entry, what comes next, and what has been read.
+pub struct Request {
+    pub entry: Entry,
+    pub wanted: Field,
+    pub at: Position,
+    pub lent: Lent,
+}
+
+// A request of which only the entry is known.
+pub fn started(entry: Entry, wanted: Field) -> Request {
+    Request {
+        entry,
+        wanted,
+        at: Position {
+            gate: 0,
+            stage: Stage::Send(Round::Input),
+            held: 0,
+        },
+        lent: Lent {
+            parties: 0,
+            me: 0,
+            circuit: 0,
+            prep: 0,
+            inputs: 0,
+            scratch: 0,
+            words: 0,
+            out: 0,
+            outputs: 0,
+        },
+    }
+}
+
+// Whether an entry is called by one party.
+fn is_single(entry: Entry) -> bool {
+    match entry {
+        Entry::Open | Entry::Send | Entry::Receive => true,
+        _ => false,
+    }
+}
+
+// Which of two comes next: the one for an entry that one party calls, or the one for joint runs.
+fn either(entry: Entry, single: Field, joint: Field) -> Field {
+    if is_single(entry) { single } else { joint }
+}
+
+fn after_scratch(entry: Entry) -> Field {
+    match entry {
+        Entry::Open => Field::Complete,
+        Entry::Send | Entry::Receive => Field::Position,
+        _ => Field::Coefficients,
+    }
+}
+
+fn after_position(entry: Entry) -> Field {
+    match entry {
+        Entry::Receive => Field::Heard,
+        _ => Field::Coefficients,
+    }
+}
+
+// What comes next in a request of an entry.
+fn following(entry: Entry, field: Field) -> Field {
+    match field {
+        Field::Start => Field::Parties,
+        Field::Dropped => Field::Dropped,
+        Field::Parties => either(entry, Field::Party, Field::Circuit),
+        Field::Party => Field::Circuit,
+        Field::Circuit => either(entry, Field::Prep, Field::Preps),
+        Field::Prep | Field::Preps => Field::Inputs,
+        Field::Inputs => Field::Scratch,
+        Field::Scratch => after_scratch(entry),
+        Field::Position => after_position(entry),
+        Field::Coefficients => either(entry, Field::Out, Field::Transcript),
+        Field::Transcript => Field::Outputs,
+        Field::Heard | Field::Out | Field::Outputs => Field::Complete,
+        Field::Complete => Field::Start,
+    }
+}
+
+fn wanting(request: Request, wanted: Field) -> Request {
+    let entry = request.entry;
+    let at = request.at;
+    let lent = request.lent;
+    Request {
+        entry,
+        wanted,
+        at,
+        lent,
+    }
+}
+
+pub fn moved_on(request: Request) -> Request {
+    let entry = request.entry;
+    let wanted = request.wanted;
+    wanting(request, following(entry, wanted))
+}
+
+pub fn dropped(request: Request) -> Request {
+    wanting(request, Field::Dropped)
+}
+
+pub fn is_complete(field: Field) -> bool {
+    match field {
+        Field::Complete => true,
+        _ => false,
+    }
+}
+
+pub fn is_dropped(field: Field) -> bool {
+    match field {
+        Field::Dropped => true,
+        _ => false,
+    }
+}
+
+// Whether a request has begun and is not yet complete.
+pub fn is_begun(field: Field) -> bool {
+    match field {
+        Field::Start | Field::Dropped | Field::Complete => false,
+        _ => true,
+    }
+}
+
+// What is lent, with the length of the list that was wanted.
+fn lent_list(lent: Lent, wanted: Field, n: usize) -> Lent {
+    let mut next = lent;
+    match wanted {
+        Field::Circuit => next.circuit = n,
+        Field::Prep | Field::Preps => next.prep = n,
+        Field::Inputs => next.inputs = n,
+        Field::Scratch => next.scratch = n,
+        Field::Coefficients | Field::Heard => next.words = n,
+        Field::Out | Field::Transcript => next.out = n,
+        _ => next.outputs = n,
+    }
+    next
+}
+
+// What is lent, with the number that was wanted.
+fn lent_number(lent: Lent, wanted: Field, n: u32) -> Lent {
+    let mut next = lent;
+    match wanted {
+        Field::Parties => next.parties = n,
+        _ => next.me = n,
+    }
+    next
+}
+
+pub fn with_length(request: Request, n: usize) -> Request {
+    let entry = request.entry;
+    let wanted = request.wanted;
+    let at = request.at;
+    let lent = request.lent;
+    Request {
+        entry,
+        wanted,
+        at,
+        lent: lent_list(lent, wanted, n),
+    }
+}
+
+pub fn with_number(request: Request, n: u32) -> Request {
+    let entry = request.entry;
+    let wanted = request.wanted;
+    let at = request.at;
+    let lent = request.lent;
+    Request {
+        entry,
+        wanted,
+        at,
+        lent: lent_number(lent, wanted, n),
+    }
+}
+
+pub fn with_position(request: Request, at: Position) -> Request {
+    let entry = request.entry;
+    let wanted = request.wanted;
+    let lent = request.lent;
+    Request {
+        entry,
+        wanted,
+        at,
+        lent,
+    }
+}
+
+// A count, or the length of a list where the list is shorter.
+pub fn part(n: usize, list: &[u32]) -> usize
+    ensures { λ r. ⌜ Counts r (now (list .entry)) ⌝ }
+{
+    if n < list.len() { n } else { list.len() }
+}

@@ -1,0 +1,3 @@
+-- What is proved of reading text.
+pub mod Laws
+pub mod Steps

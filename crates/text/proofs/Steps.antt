@@ -1,0 +1,93 @@
+-- The loop of `read_numbers`: what it has read so far, and how each byte moves it on.
+-- Assumes nothing.
+use Prim.Native.Nat.{ℕ, suc, _+_, _*_, _-_, _<_, _≤_}
+use mathlib.Core.Path.{_≡_, refl, sym, ap, _∙_, subst}
+use mathlib.Core.Bool.{Bool, true, false, not, _||_, false≢true}
+use mathlib.Core.List.{List}
+use native.Mathlib.Omega.{arith}
+use lib.ListN.{length, getD, take, drop}
+use lib.Seq.{length-take-le, drop-drop}
+use lib.Dec.{ltb}
+use borrow.Author.Tests.{ltb-true}
+use Rattle.text.specs.Text.{isSpace, isDigit, digit, whole, more, reads, numbersIn, Begun, Reading, Numbers, Unlike, TooLarge, TooMany, numberEnd}
+use Rattle.text.proofs.Laws.{denied, granted, reads-ends, reads-space, reads-unlike, reads-many, reads-large, reads-digit}
+
+-- the numbers that are whole stand at the start of a list, and whether another is begun, with its value
+abbrev pub begun : List ℕ → ℕ → Bool → ℕ → Begun
+begun list count within value = record { numbers = take count list; within = within; value = value }
+
+-- the bytes before i are read; list₀ is the list as it was
+pub record SoFar (text list₀ list : List ℕ) (count : ℕ) (within : Bool) (value i : ℕ) : Type 0 where
+  pub upto : i ≤ length text
+  pub fits : count ≤ length list
+  pub room : within ≡ true → count < length list
+  pub low : value < numberEnd
+  pub long : length list ≡ length list₀
+  pub rest : drop count list ≡ drop count list₀
+  pub reading : reads (length list₀) (begun list count within value) (drop i text) ≡ numbersIn (length list₀) text
+
+pub starts : (text list : List ℕ) → SoFar text list list 0 false 0 0
+unfolding numbersIn
+starts text list = record { upto = omega arith; fits = omega arith; room = λ e. absurd (false≢true e); low = omega arith; long = refl; rest = refl; reading = refl }
+
+-- what is the same from a place on is the same from a later place on
+drop-later : (n m : ℕ) (xs ys : List ℕ) → n ≤ m → drop n xs ≡ drop n ys → drop m xs ≡ drop m ys
+drop-later n m xs ys h e =
+    let k : m ≡ n + (m - n) = omega arith in
+    rw (k, sym (drop-drop (m - n) n xs), sym (drop-drop (m - n) n ys), e)
+
+-- a digit may follow only where there is room
+fits-more : {count n : ℕ} (within : Bool) → (within ≡ true → count < n) → (within || ltb count n) ≡ true → count < n
+fits-more true r f = r refl
+fits-more false r f = ltb-true _ _ f
+
+module _ (text list₀ list : List ℕ) (count : ℕ) (within : Bool) (value i : ℕ) (s : SoFar text list₀ list count within value i) where
+  pub ends : (later : List ℕ) (n : ℕ) → length text ≤ i → take n later ≡ whole (begun list count within value) → Numbers (take n later) ≡ numbersIn (length list₀) text
+  ends later n h e = rw e (sym (reads-ends _ _ text i h) ∙ s .reading)
+
+  pub rest-after : (later : List ℕ) (n : ℕ) → count ≤ n → drop n later ≡ drop n list → drop n later ≡ drop n list₀
+  rest-after later n h e = e ∙ drop-later count n list list₀ h (s .rest)
+
+  module _ (h : i < length text) where
+    pub spaces : {q : Bool} (later : List ℕ) (n : ℕ) → q ≡ isSpace (getD text i 0) → q ≡ true
+        → take n later ≡ whole (begun list count within value)
+        → count ≤ n → n ≤ length later → length later ≡ length list → drop n later ≡ drop n list
+        → SoFar text list₀ later n false 0 (i + 1)
+    spaces later n e q t a b l r = record {
+      upto = omega arith;
+      fits = b;
+      room = λ x. absurd (false≢true x);
+      low = omega arith;
+      long = l ∙ s .long;
+      rest = rest-after later n a r;
+      reading = rw t (sym (reads-space _ _ text i h (sym e ∙ q)) ∙ s .reading);
+    }
+
+    module _ {q : Bool} (e : q ≡ isSpace (getD text i 0)) (e₀ : q ≡ false) {u : Bool} (d : u ≡ isDigit (getD text i 0)) where
+      pub unlike : not u ≡ true → Unlike ≡ numbersIn (length list₀) text
+      unlike d₀ = reads-unlike _ _ text i h (sym e ∙ e₀) (sym d ∙ denied u d₀) ∙ s .reading
+
+      module _ (d₁ : not u ≡ false) {t : Bool} (f : t ≡ (within || ltb count (length list))) where
+        -- the list is as long as it was, and so is the part that is filled
+        asked : (within || ltb (length (take count list)) (length list₀)) ≡ t
+        asked = rw (length-take-le count list (s .fits), sym (s .long)) (sym f)
+
+        pub many : not t ≡ true → TooMany ≡ numbersIn (length list₀) text
+        many f₀ = reads-many _ _ text i h (sym e ∙ e₀) (sym d ∙ granted u d₁) (asked ∙ denied t f₀) ∙ s .reading
+
+        module _ (f₁ : not t ≡ false) {larger : ℕ} (m : larger ≡ value * 10 + digit (getD text i 0)) where
+          pub large : numberEnd ≤ larger → TooLarge ≡ numbersIn (length list₀) text
+          unfolding more
+          large g = reads-large _ (begun list count within value) text i h (sym e ∙ e₀) (sym d ∙ granted u d₁) (asked ∙ granted t f₁) (rw (sym m) g) ∙ s .reading
+
+          pub digits : larger < numberEnd → SoFar text list₀ list count true larger (i + 1)
+          unfolding more
+          digits g = record {
+            upto = omega arith;
+            fits = s .fits;
+            room = λ x. fits-more within (s .room) (sym f ∙ granted t f₁);
+            low = g;
+            long = s .long;
+            rest = s .rest;
+            reading = rw m (sym (reads-digit _ (begun list count within value) text i h (sym e ∙ e₀) (sym d ∙ granted u d₁) (asked ∙ granted t f₁) (rw (sym m) g)) ∙ s .reading);
+          }

@@ -1,0 +1,17 @@
+-- `text::is_digit` meets its contract: its two tests are those of the definition.
+-- Assumes nothing.
+use Rattle.text.specs.Text.{isDigit}
+use Rattle.text.proofs.Laws.{tests}
+use Rattle.text.proofs.is_digit.Statement.{statement}
+use Rattle.text.proofs.is_digit.Tie as tie
+
+returns : tie.Need-returns
+unfolding isDigit
+returns c = search tests
+
+returns-2 : tie.Need-returns-2
+unfolding isDigit
+returns-2 c = search tests
+
+pub is-digit-spec : {M : Type 1} → statement M
+is-digit-spec = tie.close (tie.spec returns returns-2)

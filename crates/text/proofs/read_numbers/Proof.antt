@@ -1,0 +1,121 @@
+-- `text::read_numbers` meets its contract: what is read so far, and the bytes to come, come to what the whole text does.
+-- Assumes nothing.
+use Prim.Native.Nat.{_-_}
+use mathlib.Core.Path.{_≡_, sym, _∙_}
+use native.Mathlib.Omega.{arith}
+use lib.ListN.{length}
+use borrow.Author.Needs.{needs}
+use Rattle.text.specs.Code.{readingOf, Rest}
+use Rattle.text.proofs.Laws.{granted}
+use Rattle.text.proofs.Steps.{SoFar, starts, ends, rest-after, spaces, unlike, many, large, digits}
+use Rattle.text.proofs.read_numbers.Statement.{statement}
+use Rattle.text.proofs.read_numbers.Tie as tie
+
+abbrev Inv-loop : tie.InvT-loop
+Inv-loop text list₀ count₀ within₀ value₀ i₀ list count within value i = SoFar text list₀ list count within value i
+
+abbrev μ-loop : tie.MeasureT-loop
+μ-loop text list₀ count₀ within₀ value₀ i₀ list count within value i = length text - i
+
+loop-holds : tie.Need-loop-holds Inv-loop μ-loop
+loop-holds c = starts _ _
+
+shared-slice-read-b : tie.Need-shared-slice-read-b Inv-loop μ-loop
+shared-slice-read-b c = search needs
+
+is-space-requires : tie.Need-is-space-requires Inv-loop μ-loop
+is-space-requires c κs = search needs
+
+put-requires : tie.Need-put-requires Inv-loop μ-loop
+put-requires c κs = (c .before .before .before .before .before .loop .inv .fits, c .before .before .before .before .before .loop .inv .room)
+
+add-i : tie.Need-add-i Inv-loop μ-loop
+add-i c = search needs
+
+loop-less : tie.Need-loop-less Inv-loop μ-loop
+loop-less c = search needs
+
+loop-again : tie.Need-loop-again Inv-loop μ-loop
+loop-again c = spaces _ _ _ _ _ _ _ (c .before .before .before .before .before .before .before .before .loop .inv) (c .before .before .before .before .before .before .before .loop-test .taken) _ _ (c .before .before .before .before .before .is-space .ensures) (c .before .before .before .before .if1 .taken) (c .before .before .put .ensures .0) (c .before .before .put .ensures .1 .0) (c .before .before .put .ensures .1 .1) (search needs) (c .before .before .put .ensures .1 .2)
+
+is-digit-requires : tie.Need-is-digit-requires Inv-loop μ-loop
+is-digit-requires c κs = search needs
+
+same-length : tie.Need-same-length Inv-loop μ-loop
+same-length c = c .before .before .before .before .before .before .loop .inv .long
+
+returns : tie.Need-returns Inv-loop μ-loop
+unfolding readingOf Rest
+returns c = (unlike _ _ _ _ _ _ _ (c .before .before .before .before .before .before .loop .inv) (c .before .before .before .before .before .loop-test .taken) (c .before .before .before .is-space .ensures) (c .before .before .if1 .left) (c .before .is-digit .ensures) (c .if2 .taken), tt)
+
+has-room-requires : tie.Need-has-room-requires Inv-loop μ-loop
+has-room-requires c κs = search needs
+
+same-length-2 : tie.Need-same-length-2 Inv-loop μ-loop
+same-length-2 c = c .before .before .before .before .before .before .before .before .loop .inv .long
+
+returns-2 : tie.Need-returns-2 Inv-loop μ-loop
+unfolding readingOf Rest
+returns-2 c = (many _ _ _ _ _ _ _ (c .before .before .before .before .before .before .before .before .loop .inv) (c .before .before .before .before .before .before .before .loop-test .taken) (c .before .before .before .before .before .is-space .ensures) (c .before .before .before .before .if1 .left) (c .before .before .before .is-digit .ensures) (c .before .before .if2 .left) (c .before .has-room .ensures) (c .if3 .taken), tt)
+
+with-digit-requires : tie.Need-with-digit-requires Inv-loop μ-loop
+with-digit-requires c κs = sym (c .before .before .before .is-digit .ensures) ∙ granted _ (c .before .before .if2 .left)
+
+same-length-3 : tie.Need-same-length-3 Inv-loop μ-loop
+same-length-3 c = c .before .before .before .before .before .before .before .before .before .before .loop .inv .long
+
+returns-3 : tie.Need-returns-3 Inv-loop μ-loop
+unfolding readingOf Rest
+returns-3 c = (large _ _ _ _ _ _ _ (c .before .before .before .before .before .before .before .before .before .before .loop .inv) (c .before .before .before .before .before .before .before .before .before .loop-test .taken) (c .before .before .before .before .before .before .before .is-space .ensures) (c .before .before .before .before .before .before .if1 .left) (c .before .before .before .before .before .is-digit .ensures) (c .before .before .before .before .if2 .left) (c .before .before .before .has-room .ensures) (c .before .before .if3 .left) (c .before .with-digit .ensures) (c .if4 .taken), tt)
+
+cast-value : tie.Need-cast-value Inv-loop μ-loop
+cast-value c = search needs
+
+add-i-2 : tie.Need-add-i-2 Inv-loop μ-loop
+add-i-2 c = search needs
+
+loop-less-2 : tie.Need-loop-less-2 Inv-loop μ-loop
+loop-less-2 c = search needs
+
+loop-again-2 : tie.Need-loop-again-2 Inv-loop μ-loop
+loop-again-2 c = digits _ _ _ _ _ _ _ (c .before .before .before .before .before .before .before .before .before .before .loop .inv) (c .before .before .before .before .before .before .before .before .before .loop-test .taken) (c .before .before .before .before .before .before .before .is-space .ensures) (c .before .before .before .before .before .before .if1 .left) (c .before .before .before .before .before .is-digit .ensures) (c .before .before .before .before .if2 .left) (c .before .before .before .has-room .ensures) (c .before .before .if3 .left) (c .before .with-digit .ensures) (omega arith)
+
+put-requires-2 : tie.Need-put-requires-2 Inv-loop μ-loop
+put-requires-2 c κs = (c .before .before .loop .inv .fits, c .before .before .loop .inv .room)
+
+same-length-4 : tie.Need-same-length-4 Inv-loop μ-loop
+same-length-4 c = search needs
+
+returns-4 : tie.Need-returns-4 Inv-loop μ-loop
+unfolding readingOf Rest
+returns-4 c = (ends _ _ _ _ _ _ _ (c .before .before .before .before .before .loop .inv) (c .before .before .put2 .last .0) (c .before .before .put2 .result) (c .before .before .before .before .loop-test .left) (c .before .before .put2 .ensures .0), (c .before .before .put2 .ensures .1 .1, rest-after _ _ _ _ _ _ _ (c .before .before .before .before .before .loop .inv) _ _ (c .before .before .put2 .ensures .1 .0) (c .before .before .put2 .ensures .1 .2)))
+
+pub read-numbers-spec : {M : Type 1} → statement M
+read-numbers-spec =
+    tie.close
+    (tie.spec
+    Inv-loop
+    μ-loop
+    loop-holds
+    shared-slice-read-b
+    is-space-requires
+    put-requires
+    add-i
+    loop-less
+    loop-again
+    is-digit-requires
+    same-length
+    returns
+    has-room-requires
+    same-length-2
+    returns-2
+    with-digit-requires
+    same-length-3
+    returns-3
+    cast-value
+    add-i-2
+    loop-less-2
+    loop-again-2
+    put-requires-2
+    same-length-4
+    returns-4)

@@ -1,0 +1,3 @@
+-- What a reader of the text crate's contracts must believe.
+pub mod Text
+pub mod Code
