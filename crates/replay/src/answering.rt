@@ -1,11 +1,18 @@
 // Calling an entry and printing its answer.
 use crate::naming::Entry;
 use crate::naming::print_stage;
+use crate::request::CIRCUIT;
+use crate::request::INPUTS;
+use crate::request::PREP;
 use crate::request::Request;
+use crate::request::WORDS;
 use crate::request::part;
+use crate::request::within;
 use joint::JointAnswer;
 use party::Answer;
 use party::Position;
+ghost use Prim.Native.Nat.{_≤_};
+ghost use lib.ListN.{length};
 
 fn print_line(name: &[u8], n: usize) {
     printing::print(name);
@@ -173,58 +180,57 @@ fn print_shown(parties: u32, c: &[u32], answer: JointAnswer, transcript: &[u32],
     }
 }
 
-// The answer to a whole request. Each list is its part that was read.
+// The answer to a whole request. Each list is the part of its room that was read.
 pub fn answer(
     request: Request,
-    circuit: &[u32],
-    prep: &[u32],
-    inputs: &[u32],
+    given: &[u32],
     scratch: &mut [u32],
-    words: &[u32],
     out: &mut [u32],
     outputs: &mut [u32],
-) {
+)
+    requires { ⌜ 65536 ≤ length (now given) ⌝ }
+{
     let lent = request.lent;
-    let c = part(lent.circuit, circuit);
-    let p = part(lent.prep, prep);
-    let i = part(lent.inputs, inputs);
+    let c = CIRCUIT + within(lent.circuit);
+    let p = PREP + within(lent.prep);
+    let i = INPUTS + within(lent.inputs);
+    let w = WORDS + within(lent.words);
     let s = part(lent.scratch, scratch);
-    let w = part(lent.words, words);
     let o = part(lent.out, out);
     let q = part(lent.outputs, outputs);
     let entry = request.entry;
     match entry {
         Entry::Open => answer_open(
             request,
-            &circuit[..c],
-            &prep[..p],
-            &inputs[..i],
+            &given[CIRCUIT..c],
+            &given[PREP..p],
+            &given[INPUTS..i],
             &scratch[..s],
         ),
         Entry::Send => answer_send(
             request,
-            &circuit[..c],
-            &prep[..p],
-            &inputs[..i],
+            &given[CIRCUIT..c],
+            &given[PREP..p],
+            &given[INPUTS..i],
             &scratch[..s],
-            &words[..w],
+            &given[WORDS..w],
             &mut out[..o],
         ),
         Entry::Receive => answer_receive(
             request,
-            &circuit[..c],
-            &prep[..p],
-            &inputs[..i],
+            &given[CIRCUIT..c],
+            &given[PREP..p],
+            &given[INPUTS..i],
             &mut scratch[..s],
-            &words[..w],
+            &given[WORDS..w],
         ),
         Entry::Joint | Entry::Show => answer_joint(
             request,
-            &circuit[..c],
-            &prep[..p],
-            &inputs[..i],
+            &given[CIRCUIT..c],
+            &given[PREP..p],
+            &given[INPUTS..i],
             &mut scratch[..s],
-            &words[..w],
+            &given[WORDS..w],
             &mut out[..o],
             &mut outputs[..q],
         ),

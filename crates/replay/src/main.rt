@@ -3,10 +3,12 @@ mod answering;
 mod naming;
 mod reading;
 mod request;
+mod storing;
 
 use libc::STDIN_FILENO;
 use naming::Entry;
 use naming::Field;
+use reading::Step;
 use request::Request;
 ghost use Prim.Native.Nat.{_<_, _≤_};
 ghost use mathlib.Core.Path.{_≡_};
@@ -25,11 +27,18 @@ pub struct Course {
     pub long: bool,
 }
 
-// Room for a list, with its length.
-fn list() -> [u32; 16384]
+// Room for a list that is written to, with its length.
+fn list_room() -> [u32; 16384]
     ensures { λ r. ⌜ 16384 ≡ length r ⌝ }
 {
     [0; 16384]
+}
+
+// Room for the four lists that are only read.
+fn given_room() -> [u32; 65536]
+    ensures { λ r. ⌜ 65536 ≡ length r ⌝ }
+{
+    [0; 65536]
 }
 
 // Room for a line, with its length.
@@ -74,14 +83,13 @@ fn shorter(n: usize, end: usize) -> usize
 fn end_line(
     line: &[u8],
     course: Course,
-    circuit: &mut [u32],
-    prep: &mut [u32],
-    inputs: &mut [u32],
+    given: &mut [u32],
     scratch: &mut [u32],
-    words: &mut [u32],
     out: &mut [u32],
     outputs: &mut [u32],
-) -> Course {
+) -> Course
+    requires { ⌜ 65536 ≤ length (now given) ⌝ }
+{
     let number = course.number;
     let request = course.request;
     if course.long {
@@ -89,19 +97,22 @@ fn end_line(
         return next_line(course, request::dropped(request));
     }
     let end = shorter(course.length, line.len());
-    let read = reading::take_line(
-        number,
-        &line[..end],
-        request,
-        circuit,
-        prep,
-        inputs,
-        scratch,
-        words,
-        out,
-        outputs,
-    );
-    next_line(course, read)
+    match reading::take_line(number, &line[0..end], request) {
+        Step::Goes(next) => next_line(course, next),
+        Step::List(next, from) => {
+            let start = shorter(from, end);
+            let stored = storing::store(
+                number,
+                &line[start..end],
+                next,
+                given,
+                scratch,
+                out,
+                outputs,
+            );
+            next_line(course, stored)
+        }
+    }
 }
 
 // A byte of the input.
@@ -109,26 +120,15 @@ fn take_byte(
     b: u8,
     line: &mut [u8],
     course: Course,
-    circuit: &mut [u32],
-    prep: &mut [u32],
-    inputs: &mut [u32],
+    given: &mut [u32],
     scratch: &mut [u32],
-    words: &mut [u32],
     out: &mut [u32],
     outputs: &mut [u32],
-) -> Course {
+) -> Course
+    requires { ⌜ 65536 ≤ length (now given) ⌝ }
+{
     if b == LINE_FEED {
-        return end_line(
-            line,
-            course,
-            circuit,
-            prep,
-            inputs,
-            scratch,
-            words,
-            out,
-            outputs,
-        );
+        return end_line(line, course, given, scratch, out, outputs);
     }
     put_byte(line, b, course)
 }
@@ -138,29 +138,17 @@ fn feed(
     piece: &[u8],
     line: &mut [u8],
     course: Course,
-    circuit: &mut [u32],
-    prep: &mut [u32],
-    inputs: &mut [u32],
+    given: &mut [u32],
     scratch: &mut [u32],
-    words: &mut [u32],
     out: &mut [u32],
     outputs: &mut [u32],
-) -> Course {
+) -> Course
+    requires { ⌜ 65536 ≤ length (now given) ⌝ }
+{
     let mut now = course;
     let mut i = 0;
     while i < piece.len() {
-        now = take_byte(
-            piece[i],
-            line,
-            now,
-            circuit,
-            prep,
-            inputs,
-            scratch,
-            words,
-            out,
-            outputs,
-        );
+        now = take_byte(piece[i], line, now, given, scratch, out, outputs);
         i += 1;
     }
     now
@@ -170,30 +158,19 @@ fn feed(
 fn finish(
     line: &[u8],
     course: Course,
-    circuit: &mut [u32],
-    prep: &mut [u32],
-    inputs: &mut [u32],
+    given: &mut [u32],
     scratch: &mut [u32],
-    words: &mut [u32],
     out: &mut [u32],
     outputs: &mut [u32],
-) {
+)
+    requires { ⌜ 65536 ≤ length (now given) ⌝ }
+{
     if course.length == 0 {
         let request = course.request;
         reading::take_end(course.number, request);
         return;
     }
-    let last = end_line(
-        line,
-        course,
-        circuit,
-        prep,
-        inputs,
-        scratch,
-        words,
-        out,
-        outputs,
-    );
+    let last = end_line(line, course, given, scratch, out, outputs);
     let request = last.request;
     reading::take_end(last.number, request);
 }
@@ -210,14 +187,13 @@ fn turns_left(left: u64, count: usize) -> u64
 fn replay(
     piece: &mut [u8],
     line: &mut [u8],
-    circuit: &mut [u32],
-    prep: &mut [u32],
-    inputs: &mut [u32],
+    given: &mut [u32],
     scratch: &mut [u32],
-    words: &mut [u32],
     out: &mut [u32],
     outputs: &mut [u32],
-) {
+)
+    requires { ⌜ 65536 ≤ length (now given) ⌝ }
+{
     let mut course = Course {
         request: request::started(Entry::None, Field::Start),
         number: 1,
@@ -227,51 +203,24 @@ fn replay(
     let mut left = MOST;
     while 0 < left {
         let count = io::count(libc::read(STDIN_FILENO, piece), piece);
-        course = feed(
-            &piece[..count],
-            line,
-            course,
-            circuit,
-            prep,
-            inputs,
-            scratch,
-            words,
-            out,
-            outputs,
-        );
+        course = feed(&piece[..count], line, course, given, scratch, out, outputs);
         left = turns_left(left, count);
     }
-    finish(
-        line,
-        course,
-        circuit,
-        prep,
-        inputs,
-        scratch,
-        words,
-        out,
-        outputs,
-    );
+    finish(line, course, given, scratch, out, outputs);
 }
 
 fn main() {
     let mut piece = io::large_buffer();
     let mut line = line_room();
-    let mut circuit = list();
-    let mut prep = list();
-    let mut inputs = list();
-    let mut scratch = list();
-    let mut words = list();
-    let mut out = list();
-    let mut outputs = list();
+    let mut given = given_room();
+    let mut scratch = list_room();
+    let mut out = list_room();
+    let mut outputs = list_room();
     replay(
         &mut piece,
         &mut line,
-        &mut circuit,
-        &mut prep,
-        &mut inputs,
+        &mut given,
         &mut scratch,
-        &mut words,
         &mut out,
         &mut outputs,
     );

@@ -1,5 +1,4 @@
 // Reading a line of a request.
-use crate::answering::answer;
 use crate::naming::Entry;
 use crate::naming::Field;
 use crate::naming::Named;
@@ -10,11 +9,9 @@ use crate::naming::stage_named;
 use crate::request::Request;
 use crate::request::dropped;
 use crate::request::is_begun;
-use crate::request::is_complete;
 use crate::request::is_dropped;
 use crate::request::moved_on;
 use crate::request::started;
-use crate::request::with_length;
 use crate::request::with_number;
 use crate::request::with_position;
 use party::Position;
@@ -26,6 +23,12 @@ const HASH: u8 = 35;
 pub enum One {
     Number(u32),
     Fault(Numbers),
+}
+
+// What a line leads to: the request goes on; or the list that it wants begins at a place of the line.
+pub enum Step {
+    Goes(Request),
+    List(Request, usize),
 }
 
 // A position, or that there is none.
@@ -53,22 +56,12 @@ fn complain_wanted(number: u64, wanted: Field) {
 }
 
 // What is wrong with numbers, where anything is.
-fn complain_numbers(number: u64, read: Numbers) {
+pub fn complain_numbers(number: u64, read: Numbers) {
     match read {
         Numbers::Count(_) => {}
         Numbers::Unlike => complain(number, b"not a number"),
         Numbers::TooLarge => complain(number, b"a number above 4294967295"),
         Numbers::TooMany => complain(number, b"more than 16384 numbers"),
-    }
-}
-
-// A request for which a list was wanted.
-fn take_list(number: u64, rest: &[u8], request: Request, list: &mut [u32]) -> Request {
-    let read = text::read_numbers(rest, list);
-    complain_numbers(number, read);
-    match read {
-        Numbers::Count(n) => with_length(request, n),
-        _ => dropped(request),
     }
 }
 
@@ -153,75 +146,27 @@ fn take_position(number: u64, rest: &[u8], request: Request) -> Request {
     }
 }
 
-// What is wanted, from the rest of its line.
-fn take_wanted(
-    number: u64,
-    rest: &[u8],
-    request: Request,
-    circuit: &mut [u32],
-    prep: &mut [u32],
-    inputs: &mut [u32],
-    scratch: &mut [u32],
-    words: &mut [u32],
-    out: &mut [u32],
-    outputs: &mut [u32],
-) -> Request {
+// The line of what is wanted; its list begins at a place.
+fn take_wanted(number: u64, rest: &[u8], start: usize, request: Request) -> Step {
     let wanted = request.wanted;
     match wanted {
-        Field::Parties | Field::Party => take_number(number, rest, request),
-        Field::Position => take_position(number, rest, request),
-        Field::Circuit => take_list(number, rest, request, circuit),
-        Field::Prep | Field::Preps => take_list(number, rest, request, prep),
-        Field::Inputs => take_list(number, rest, request, inputs),
-        Field::Scratch => take_list(number, rest, request, scratch),
-        Field::Coefficients | Field::Heard => take_list(number, rest, request, words),
-        Field::Out | Field::Transcript => take_list(number, rest, request, out),
-        Field::Outputs => take_list(number, rest, request, outputs),
-        Field::Start | Field::Dropped | Field::Complete => request,
+        Field::Parties | Field::Party => Step::Goes(moved_on(take_number(number, rest, request))),
+        Field::Position => Step::Goes(moved_on(take_position(number, rest, request))),
+        _ => Step::List(request, start),
     }
 }
 
-// A line that begins with no entry's name. A request that is complete is answered.
-fn take_field(
-    number: u64,
-    name: &[u8],
-    rest: &[u8],
-    request: Request,
-    circuit: &mut [u32],
-    prep: &mut [u32],
-    inputs: &mut [u32],
-    scratch: &mut [u32],
-    words: &mut [u32],
-    out: &mut [u32],
-    outputs: &mut [u32],
-) -> Request {
+// A line that begins with no entry's name.
+fn take_field(number: u64, name: &[u8], rest: &[u8], start: usize, request: Request) -> Step {
     let wanted = request.wanted;
     if is_dropped(wanted) {
-        return request;
+        return Step::Goes(request);
     }
     if !spell_field(wanted, false, name) {
         complain_wanted(number, wanted);
-        return dropped(request);
+        return Step::Goes(dropped(request));
     }
-    let read = take_wanted(
-        number,
-        rest,
-        request,
-        circuit,
-        prep,
-        inputs,
-        scratch,
-        words,
-        out,
-        outputs,
-    );
-    let next = moved_on(read);
-    let field = next.wanted;
-    if is_complete(field) {
-        answer(next, circuit, prep, inputs, scratch, words, out, outputs);
-        return moved_on(next);
-    }
-    next
+    take_wanted(number, rest, start, request)
 }
 
 // A line that begins with an entry's name; bare says that nothing else is there.
@@ -237,46 +182,23 @@ fn begin(number: u64, entry: Entry, bare: bool, request: Request) -> Request {
     started(entry, Field::Parties)
 }
 
-// A line of the input, and what is read then.
-pub fn take_line(
-    number: u64,
-    line: &[u8],
-    request: Request,
-    circuit: &mut [u32],
-    prep: &mut [u32],
-    inputs: &mut [u32],
-    scratch: &mut [u32],
-    words: &mut [u32],
-    out: &mut [u32],
-    outputs: &mut [u32],
-) -> Request {
+// A line of the input.
+pub fn take_line(number: u64, line: &[u8], request: Request) -> Step {
     let word = text::word_from(line, 0);
     let start = word.start;
     let end = word.end;
     if start == end {
-        return request;
+        return Step::Goes(request);
     }
     if line[0] == HASH {
-        return request;
+        return Step::Goes(request);
     }
     let entry = entry_named(&line[start..end]);
     if is_entry(entry) {
         let after = text::word_from(line, end);
-        return begin(number, entry, after.start == after.end, request);
+        return Step::Goes(begin(number, entry, after.start == after.end, request));
     }
-    take_field(
-        number,
-        &line[start..end],
-        &line[end..],
-        request,
-        circuit,
-        prep,
-        inputs,
-        scratch,
-        words,
-        out,
-        outputs,
-    )
+    take_field(number, &line[start..end], &line[end..], end, request)
 }
 
 // The end of the input.

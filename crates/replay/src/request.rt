@@ -4,7 +4,20 @@ use crate::naming::Field;
 use circuit::Round;
 use party::Position;
 use party::Stage;
+ghost use Prim.Native.Nat.{_≤_};
 ghost use Rattle.io.specs.Counts.{Counts};
+
+// The most numbers of a list.
+const ROOM: usize = 16384;
+
+// The lists that are only read share one room, in which each has its place.
+pub const CIRCUIT: usize = 0;
+
+pub const PREP: usize = 16384;
+
+pub const INPUTS: usize = 32768;
+
+pub const WORDS: usize = 49152;
 
 // The numbers that are read, and how many numbers each list has. Preprocessing is one party's or that of all; words are the coefficients
 // or the words received; out is a party's list or the transcript.
@@ -204,6 +217,13 @@ pub fn with_position(request: Request, at: Position) -> Request {
         at,
         lent,
     }
+}
+
+// A count of a list that is only read, or the most that there is room for.
+pub fn within(n: usize) -> usize
+    ensures { λ r. ⌜ r ≤ 16384 ⌝ }
+{
+    if n < ROOM { n } else { ROOM }
 }
 
 // A count, or the length of a list where the list is shorter.

@@ -9,16 +9,16 @@ use Rattle.replay.proofs.replay.Statement.{statement}
 use Rattle.replay.proofs.replay.Tie as tie
 
 abbrev Inv-loop : tie.InvT-loop
-Inv-loop piece₀ line₀ circuit₀ prep₀ inputs₀ scratch₀ words₀ out₀ outputs₀ course₀ left₀ piece line circuit prep inputs scratch words out outputs course left = Kept line₀ circuit₀ prep₀ inputs₀ scratch₀ words₀ out₀ outputs₀ line circuit prep inputs scratch words out outputs × (length piece ≡ length piece₀)
+Inv-loop piece₀ line₀ given₀ scratch₀ out₀ outputs₀ course₀ left₀ piece line given scratch out outputs course left = Kept line₀ given₀ scratch₀ out₀ outputs₀ line given scratch out outputs × (length piece ≡ length piece₀)
 
 abbrev μ-loop : tie.MeasureT-loop
-μ-loop piece₀ line₀ circuit₀ prep₀ inputs₀ scratch₀ words₀ out₀ outputs₀ course₀ left₀ piece line circuit prep inputs scratch words out outputs course left = left
+μ-loop piece₀ line₀ given₀ scratch₀ out₀ outputs₀ course₀ left₀ piece line given scratch out outputs course left = left
 
 started-requires : tie.Need-started-requires Inv-loop μ-loop
 started-requires c κs = search needs
 
 loop-holds : tie.Need-loop-holds Inv-loop μ-loop
-loop-holds c = (record { line = refl; circuit = refl; prep = refl; inputs = refl; scratch = refl; words = refl; out = refl; outputs = refl }, refl)
+loop-holds c = (record { line = refl; given = refl; scratch = refl; out = refl; outputs = refl }, refl)
 
 read-requires : tie.Need-read-requires Inv-loop μ-loop
 read-requires c κs = search needs
@@ -33,46 +33,37 @@ slice-aggregate-feed : tie.Need-slice-aggregate-feed Inv-loop μ-loop
 slice-aggregate-feed c = search needs
 
 feed-requires : tie.Need-feed-requires Inv-loop μ-loop
-feed-requires c κs = search needs
+feed-requires c κs = rw (c .before .before .before .before .before .before .before .before .before .before .before .before .before .loop .inv .0 .given) (c .before .before .before .before .before .before .before .before .before .before .before .before .before .before .before .before .before .before .before .before .before .pre)
 
 turns-left-requires : tie.Need-turns-left-requires Inv-loop μ-loop
-turns-left-requires c κs = c .before .before .before .before .before .before .before .before .before .before .before .before .before .before .before .before .before .before .before .before .before .before .before .before .before .before .before .before .before .before .before .before .loop-test .taken
+turns-left-requires c κs = c .before .before .before .before .before .before .before .before .before .before .before .before .before .before .before .before .before .before .before .before .before .before .before .loop-test .taken
 
 loop-less : tie.Need-loop-less Inv-loop μ-loop
 loop-less c = search needs
 
 loop-again : tie.Need-loop-again Inv-loop μ-loop
-loop-again c = (record { line = c .before .before .before .before .before .before .before .before .before .before .before .before .before .before .before .before .line .given ∙ c .before .before .before .before .before .before .before .before .before .before .before .before .before .before .before .before .before .before .before .before .before .before .before .before .before .before .before .before .before .before .before .before .before .before .loop .inv .0 .line; circuit = c .before .before .before .before .before .before .before .before .before .before .before .before .before .before .circuit .given ∙ c .before .before .before .before .before .before .before .before .before .before .before .before .before .before .before .before .before .before .before .before .before .before .before .before .before .before .before .before .before .before .before .before .before .before .loop .inv .0 .circuit; prep = c .before .before .before .before .before .before .before .before .before .before .before .before .prep .given ∙ c .before .before .before .before .before .before .before .before .before .before .before .before .before .before .before .before .before .before .before .before .before .before .before .before .before .before .before .before .before .before .before .before .before .before .loop .inv .0 .prep; inputs = c .before .before .before .before .before .before .before .before .before .before .inputs .given ∙ c .before .before .before .before .before .before .before .before .before .before .before .before .before .before .before .before .before .before .before .before .before .before .before .before .before .before .before .before .before .before .before .before .before .before .loop .inv .0 .inputs; scratch = c .before .before .before .before .before .before .before .before .scratch .given ∙ c .before .before .before .before .before .before .before .before .before .before .before .before .before .before .before .before .before .before .before .before .before .before .before .before .before .before .before .before .before .before .before .before .before .before .loop .inv .0 .scratch; words = c .before .before .before .before .before .before .words .given ∙ c .before .before .before .before .before .before .before .before .before .before .before .before .before .before .before .before .before .before .before .before .before .before .before .before .before .before .before .before .before .before .before .before .before .before .loop .inv .0 .words; out = c .before .before .before .before .out .given ∙ c .before .before .before .before .before .before .before .before .before .before .before .before .before .before .before .before .before .before .before .before .before .before .before .before .before .before .before .before .before .before .before .before .before .before .loop .inv .0 .out; outputs = c .before .before .outputs .given ∙ c .before .before .before .before .before .before .before .before .before .before .before .before .before .before .before .before .before .before .before .before .before .before .before .before .before .before .before .before .before .before .before .before .before .before .loop .inv .0 .outputs }, c .before .before .before .before .before .before .before .before .before .before .before .before .before .before .before .before .before .before .before .before .before .before .before .before .before .before .before .before .before .before .piece .given ∙ c .before .before .before .before .before .before .before .before .before .before .before .before .before .before .before .before .before .before .before .before .before .before .before .before .before .before .before .before .before .before .before .before .before .before .loop .inv .1)
+loop-again c = (record { line = c .before .before .before .before .before .before .before .before .before .before .line .given ∙ c .before .before .before .before .before .before .before .before .before .before .before .before .before .before .before .before .before .before .before .before .before .before .before .before .before .loop .inv .0 .line; given = c .before .before .before .before .before .before .before .before .given .given ∙ c .before .before .before .before .before .before .before .before .before .before .before .before .before .before .before .before .before .before .before .before .before .before .before .before .before .loop .inv .0 .given; scratch = c .before .before .before .before .before .before .scratch .given ∙ c .before .before .before .before .before .before .before .before .before .before .before .before .before .before .before .before .before .before .before .before .before .before .before .before .before .loop .inv .0 .scratch; out = c .before .before .before .before .out .given ∙ c .before .before .before .before .before .before .before .before .before .before .before .before .before .before .before .before .before .before .before .before .before .before .before .before .before .loop .inv .0 .out; outputs = c .before .before .outputs .given ∙ c .before .before .before .before .before .before .before .before .before .before .before .before .before .before .before .before .before .before .before .before .before .before .before .before .before .loop .inv .0 .outputs }, c .before .before .before .before .before .before .before .before .before .before .before .before .before .before .before .before .before .before .before .before .before .piece .given ∙ c .before .before .before .before .before .before .before .before .before .before .before .before .before .before .before .before .before .before .before .before .before .before .before .before .before .loop .inv .1)
 
 finish-requires : tie.Need-finish-requires Inv-loop μ-loop
-finish-requires c κs = search needs
+finish-requires c κs = rw (c .before .before .before .before .before .before .loop .inv .0 .given) (c .before .before .before .before .before .before .before .before .before .before .before .before .before .before .pre)
 
 same-length : tie.Need-same-length Inv-loop μ-loop
-same-length c = c .before .before .before .before .before .before .before .before .before .before .before .before .before .before .before .before .before .before .before .before .before .before .before .before .loop .inv .1
+same-length c = c .before .before .before .before .before .before .before .before .before .before .before .before .before .before .before .loop .inv .1
 
 same-length-2 : tie.Need-same-length-2 Inv-loop μ-loop
-same-length-2 c = c .before .before .before .before .before .before .before .before .before .before .before .before .before .before .before .before .before .before .before .before .before .before .before .before .loop .inv .0 .line
+same-length-2 c = c .before .before .before .before .before .before .before .before .before .before .before .before .before .before .before .loop .inv .0 .line
 
 same-length-3 : tie.Need-same-length-3 Inv-loop μ-loop
-same-length-3 c = c .before .before .before .before .before .before .before .before .before .before .before .before .before .circuit2 .given ∙ c .before .before .before .before .before .before .before .before .before .before .before .before .before .before .before .before .before .before .before .before .before .before .before .before .loop .inv .0 .circuit
+same-length-3 c = c .before .before .before .before .before .before .before .given2 .given ∙ c .before .before .before .before .before .before .before .before .before .before .before .before .before .before .before .loop .inv .0 .given
 
 same-length-4 : tie.Need-same-length-4 Inv-loop μ-loop
-same-length-4 c = c .before .before .before .before .before .before .before .before .before .before .before .prep2 .given ∙ c .before .before .before .before .before .before .before .before .before .before .before .before .before .before .before .before .before .before .before .before .before .before .before .before .loop .inv .0 .prep
+same-length-4 c = c .before .before .before .before .before .scratch2 .given ∙ c .before .before .before .before .before .before .before .before .before .before .before .before .before .before .before .loop .inv .0 .scratch
 
 same-length-5 : tie.Need-same-length-5 Inv-loop μ-loop
-same-length-5 c = c .before .before .before .before .before .before .before .before .before .inputs2 .given ∙ c .before .before .before .before .before .before .before .before .before .before .before .before .before .before .before .before .before .before .before .before .before .before .before .before .loop .inv .0 .inputs
+same-length-5 c = c .before .before .before .out2 .given ∙ c .before .before .before .before .before .before .before .before .before .before .before .before .before .before .before .loop .inv .0 .out
 
 same-length-6 : tie.Need-same-length-6 Inv-loop μ-loop
-same-length-6 c = c .before .before .before .before .before .before .before .scratch2 .given ∙ c .before .before .before .before .before .before .before .before .before .before .before .before .before .before .before .before .before .before .before .before .before .before .before .before .loop .inv .0 .scratch
-
-same-length-7 : tie.Need-same-length-7 Inv-loop μ-loop
-same-length-7 c = c .before .before .before .before .before .words2 .given ∙ c .before .before .before .before .before .before .before .before .before .before .before .before .before .before .before .before .before .before .before .before .before .before .before .before .loop .inv .0 .words
-
-same-length-8 : tie.Need-same-length-8 Inv-loop μ-loop
-same-length-8 c = c .before .before .before .out2 .given ∙ c .before .before .before .before .before .before .before .before .before .before .before .before .before .before .before .before .before .before .before .before .before .before .before .before .loop .inv .0 .out
-
-same-length-9 : tie.Need-same-length-9 Inv-loop μ-loop
-same-length-9 c = c .before .outputs2 .given ∙ c .before .before .before .before .before .before .before .before .before .before .before .before .before .before .before .before .before .before .before .before .before .before .before .before .loop .inv .0 .outputs
+same-length-6 c = c .before .outputs2 .given ∙ c .before .before .before .before .before .before .before .before .before .before .before .before .before .before .before .loop .inv .0 .outputs
 
 returns : tie.Need-returns Inv-loop μ-loop
 returns c = search needs
@@ -100,7 +91,4 @@ replay-spec =
     same-length-4
     same-length-5
     same-length-6
-    same-length-7
-    same-length-8
-    same-length-9
     returns)
