@@ -4,6 +4,7 @@ use std::fmt::Write;
 
 use crate::measure::Times;
 use crate::report::JointRow;
+use crate::PARTIES;
 
 const WIDTH: f64 = 760.0;
 const HEIGHT: f64 = 480.0;
@@ -142,26 +143,28 @@ pub fn joint(rows: &[JointRow]) -> String {
         "<text x=\"22\" y=\"{middle}\" text-anchor=\"middle\" transform=\"rotate(-90 22 {middle})\">time of a run, µs</text>"
     );
     for series in &SERIES {
-        let mut points: Vec<(f64, f64, u32)> = rows
-            .iter()
-            .map(|row| {
-                let time = (series.of)(row.times) / MICRO;
-                (x.at(row.size()), y.at(time), row.parties)
-            })
-            .collect();
-        points.sort_by(|one, other| one.0.total_cmp(&other.0));
-        let line: Vec<String> = points
-            .iter()
-            .map(|(x, y, _)| format!("{x:.1},{y:.1}"))
-            .collect();
-        let _ = writeln!(
-            out,
-            "<polyline points=\"{}\" fill=\"none\" stroke=\"{}\" stroke-width=\"1.2\"/>",
-            line.join(" "),
-            series.color
-        );
-        for (x, y, parties) in points {
-            let _ = writeln!(out, "{}", mark(parties, x, y, series.color));
+        for parties in PARTIES {
+            let points: Vec<(f64, f64)> = rows
+                .iter()
+                .filter(|row| row.parties == parties)
+                .map(|row| {
+                    let time = (series.of)(row.times) / MICRO;
+                    (x.at(row.size()), y.at(time))
+                })
+                .collect();
+            let line: Vec<String> = points
+                .iter()
+                .map(|(x, y)| format!("{x:.1},{y:.1}"))
+                .collect();
+            let _ = writeln!(
+                out,
+                "<polyline points=\"{}\" fill=\"none\" stroke=\"{}\" stroke-width=\"1.2\"/>",
+                line.join(" "),
+                series.color
+            );
+            for (x, y) in points {
+                let _ = writeln!(out, "{}", mark(parties, x, y, series.color));
+            }
         }
     }
     legend(out);
@@ -184,7 +187,7 @@ fn legend(out: &mut String) {
         );
         y += 20.0;
     }
-    for parties in [2, 5, 8] {
+    for parties in PARTIES {
         let _ = writeln!(
             out,
             "{}<text x=\"{}\" y=\"{}\">{parties} parties</text>",
