@@ -1,24 +1,29 @@
 -- Arrays with a number or a count for each party, filled one after another.
 -- Assumes nothing.
 use Prim.Native.Nat.{ℕ, zero, suc, _+_, _<_, _≤_}
-use mathlib.Core.Path.{_≡_, refl, ap, _∙_}
+use mathlib.Core.Path.{_≡_, refl, sym, ap, _∙_}
+use mathlib.Core.Bool.{true, false, cond}
 use mathlib.Core.List.{List}
 use native.Mathlib.Decide.{ℕ-discrete}
 use native.Mathlib.Numerals.{add-one}
 use native.Mathlib.Omega.{arith}
 use lib.ListN.{length, getD, set, replicate, length-set}
 use lib.Seq.{getD-set-same, getD-set-other}
+use lib.Dec.{eqb}
+use borrow.Author.Tests.{eq-eqb, ne-eqb}
 use Rattle.field.specs.Prime.{p}
-use Rattle.circuit.specs.Gate.{gates}
-use Rattle.circuit.specs.Count.{inputAt, inputCount}
+use Rattle.circuit.specs.Gate.{Gate, In, Add, Sub, Plus, Times, Mul, Out, kind, first, gate, gates}
+use Rattle.circuit.specs.Kind.{isIn, ownedBy}
+use Rattle.circuit.specs.Count.{total, count, inputAt, inputCount}
 use Rattle.circuit.specs.Accept.{mostGates}
-use Rattle.circuit.specs.Valid.{Valid}
+use Rattle.circuit.specs.Valid.{Names, Valid}
 use Rattle.circuit.specs.Code.{Tallied}
 use Rattle.circuit.specs.declared.Tally.{Tally}
-use Rattle.circuit.proofs.Counts.{in-count-le}
+use Rattle.circuit.proofs.Tests.{false-no}
+use Rattle.circuit.proofs.Counts.{input-more, input-le, in-count-le}
 use Rattle.party.specs.Ask.{mostParties}
 use Rattle.joint.specs.Joint.{inputsAt}
-use Rattle.joint.specs.Code.{tallyOf}
+use Rattle.joint.specs.Code.{Counted}
 use Rattle.joint.proofs.Inputs.{inputs-all, starts-suc, starts-mono}
 
 module _ {A : Type 0} (d : A) (P : ℕ → A → Type 0) (xs : List A) (i : ℕ) (x : A) where
@@ -29,10 +34,6 @@ module _ {A : Type 0} (d : A) (P : ℕ → A → Type 0) (xs : List A) (i : ℕ)
       go : Dec (k ≡ i) → P k (getD (set xs i x) k d)
       go (yes e) = rw (e, getD-set-same xs i x d h) here
       go (no e) = rw (getD-set-other xs i k x d e) (before k (omega arith))
-
-  -- The entries after i are as they were.
-  pub rest-set : {n : ℕ} → ((k : ℕ) → i ≤ k → k < n → P k (getD xs k d)) → (k : ℕ) → i + 1 ≤ k → k < n → P k (getD (set xs i x) k d)
-  rest-set after k l h = rw (getD-set-other xs i k x d (λ e. omega arith)) (after k (omega arith) h)
 
 -- all of a party's inputs are counted
 pub counted : {c : List ℕ} {i count : ℕ} {t : Tally} → Tallied c i count t → count ≡ gates c → t .inputs ≡ inputCount c i
@@ -68,33 +69,59 @@ module _ (n : ℕ) (c : List ℕ) where
           are = each-set 0 (λ k x. x ≡ inputsAt c k) starts (i + 1) (at + inputs) (omega (arith, inv .nine)) (inv .are) next-start;
         }
 
--- what is counted for parties goes on from one gate to another
-module _ (n : ℕ) (c : List ℕ) (from to : ℕ) where
-  pub record Advancing (ts : List Tally) (i : ℕ) : Type 0 where
-    pub upto : i ≤ n
-    pub eight : length ts ≡ mostParties
-    pub done : (k : ℕ) → k < i → Tallied c k to (tallyOf ts k)
-    pub due : (k : ℕ) → i ≤ k → k < n → Tallied c k from (tallyOf ts k)
+-- how many inputs parties had: what gate j adds
+module _ {n : ℕ} {c : List ℕ} {counts : List ℕ} {j : ℕ} (k : Counted n c j counts) where
+  pub counted-upto : {to : ℕ} → j ≤ to → to ≤ j → Counted n c to counts
+  counted-upto {to} h g = let e : j ≡ to = omega arith in rw e at k
 
-  pub advancing : {ts : List Tally} → length ts ≡ mostParties → ((k : ℕ) → k < n → Tallied c k from (tallyOf ts k)) → Advancing ts 0
-  advancing h g = record { upto = omega arith; eight = h; done = λ k l. absurd (omega arith); due = λ k l m. g k m }
+  pub counted-other : isIn (gate c j) ≡ false → Counted n c (j + 1) counts
+  unfolding ownedBy
+  counted-other e =
+      record { eight = k .eight; each = λ i h. let z : inputAt c i (j + 1) ≡ inputAt c i j + 0 = rw e at (input-more c i j) in omega (arith, z, k .each i h) }
 
-  pub advancing-again : {ts : List Tally} {i : ℕ} → Advancing ts i → i < n → n ≤ mostParties → {t : Tally} → Tallied c i to t → Advancing (set ts i t) (i + 1)
-  advancing-again {ts} {i} inv h few {t} k =
-      record {
-        upto = omega arith;
-        eight = length-set ts i t ∙ inv .eight;
-        done = each-set _ (λ m x. Tallied c m to x) ts i t (omega (arith, inv .eight)) (inv .done) k;
-        due = rest-set _ (λ m x. Tallied c m from x) ts i t (inv .due);
-      }
+  module _ (v : Valid n p c) (few : n ≤ mostParties) (h : j < gates c) (e : isIn (gate c j) ≡ true) {s : ℕ} (es : s ≡ first (gate c j)) where
+    pub owner-low : s < n
+    unfolding isIn kind first
+    owner-low = rw es (go (gate c j) e (v .each j h .names))
+      where
+        go : (g : Gate) → isIn g ≡ true → Names n p c j g → first g < n
+        go (In s) e m = m
+        go (Add x y) e m = false-no e
+        go (Sub x y) e m = false-no e
+        go (Plus x k) e m = false-no e
+        go (Times x k) e m = false-no e
+        go (Mul x y) e m = false-no e
+        go (Out x) e m = false-no e
 
--- an array of one value
-pub same-each : {A : Type 0} (P : A → Type 0) (d a : A) → P a → (n i : ℕ) → i < n → P (getD (replicate n a) i d)
-same-each P d a h zero i l = absurd (omega arith)
-same-each P d a h (suc n) zero l = h
-same-each P d a h (suc n) (suc i) l = same-each P d a h n i (omega arith)
+    pub owner-few : getD counts s 0 ≤ mostGates
+    owner-few = omega (arith, k .each s owner-low, input-le c s j, v .few)
 
+    pub counted-in : Counted n c (j + 1) (set counts s (getD counts s 0 + 1))
+    unfolding ownedBy
+    counted-in =
+        record {
+          eight = length-set counts s (getD counts s 0 + 1) ∙ k .eight;
+          each = λ i l. go i l (ℕ-discrete i s);
+        }
+      where
+        adds : (i : ℕ) → inputAt c i (j + 1) ≡ inputAt c i j + cond (eqb s i) 1 0
+        adds i = rw es (rw e at (input-more c i j))
+
+        go : (i : ℕ) → i < n → Dec (i ≡ s) → getD (set counts s (getD counts s 0 + 1)) i 0 ≡ inputAt c i (j + 1)
+        go i l (yes d) =
+            let z : inputAt c i (j + 1) ≡ inputAt c i j + 1 = rw (eq-eqb s i (sym d)) at (adds i) in
+            rw d (getD-set-same counts s (getD counts s 0 + 1) 0 (omega (arith, k .eight, owner-low)) ∙ omega (arith, k .each s owner-low, rw d at z))
+        go i l (no d) =
+            let z : inputAt c i (j + 1) ≡ inputAt c i j + 0 = rw (ne-eqb s i (λ q. d (sym q))) at (adds i) in
+            getD-set-other counts s i (getD counts s 0 + 1) 0 d ∙ omega (arith, k .each i l, z)
+
+-- an array of zeros
 pub zeros : (n i : ℕ) → _≡_ {A = ℕ} (getD (replicate n 0) i 0) 0
 zeros zero i = refl
 zeros (suc n) zero = refl
 zeros (suc n) (suc i) = zeros n i
+
+-- no party had an input before the first gate
+pub counted-none : (n : ℕ) (c : List ℕ) → Counted n c 0 (replicate mostParties 0)
+unfolding inputAt count total
+counted-none n c = record { eight = refl; each = λ i h. zeros mostParties i }

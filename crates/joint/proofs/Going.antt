@@ -65,9 +65,9 @@ module _ (J : Joint) (f : Frame) (s : Course) (r : Round) (l : List ℕ) (g : Go
     sited i h =
         record {
           within = omega (arith, gate-is, next-there .within);
-          prep = d .tallied i h .prep;
-          unchecked = d .tallied i h .unchecked;
-          input = d .tallied i h .inputs;
+          prep = d .tallied .prep;
+          unchecked = d .tallied .unchecked;
+          input = d .counted .each i h;
         }
 
     received-is : (i : ℕ) → i < J .parties → band (f .scratch) l′ i ≡ received prime (party J i) (band (f .scratch) l i) (s .point .gate) r heardIn
@@ -89,8 +89,8 @@ module _ (J : Joint) (f : Frame) (s : Course) (r : Round) (l : List ℕ) (g : Go
         record {
           lent = g .lent;
           room = omega (arith, g .room, d .long);
-          eight = d .eight;
           tallied = d .tallied;
+          counted = d .counted;
           held-low = d .held-low;
           ready = ready-then r′ e;
           draws = draws;

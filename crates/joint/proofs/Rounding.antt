@@ -9,11 +9,12 @@ use native.Mathlib.Omega.{arith}
 use lib.ListN.{length, getD, take, drop, length-append, length-drop}
 use lib.Seq.{length-take-le, take-at, drop-at, drop-drop}
 use borrow.Rule.Slice.PartMut.{putMid}
-use Rattle.field.specs.Prime.{prime, Is}
-use Rattle.circuit.specs.Gate.{gateSize, gate}
+use Rattle.field.specs.Prime.{p, prime, Is}
+use Rattle.circuit.specs.Gate.{gateSize, gate, gates}
 use Rattle.circuit.specs.Count.{unchecked}
 use Rattle.circuit.specs.Round.{Round, Input, Multiply, CommitOpened, RevealOpened, OpenOutput, CommitOutput, RevealOutput, words, coefficientsIn}
 use Rattle.circuit.specs.Accept.{mostGates}
+use Rattle.circuit.specs.Valid.{Valid}
 use Rattle.circuit.specs.Code.{Tallied}
 use Rattle.circuit.specs.declared.Tally.{Tally}
 use Rattle.circuit.proofs.Tests.{false-no}
@@ -22,14 +23,13 @@ use Rattle.party.specs.Position as P
 use Rattle.party.specs.Party.{Party}
 use Rattle.party.specs.Receive.{next, received}
 use Rattle.party.specs.Entry.{releases}
-use Rattle.party.specs.declared.Site.{Site}
 use Rattle.party.specs.declared.Point.{Point}
 use Rattle.party.specs.Code.{pointOf, Below, Ready, Receives}
 use Rattle.joint.specs.Joint.{Joint, joined, band, party}
 use Rattle.joint.specs.Run.{takes, said, step, released}
 use Rattle.joint.specs.declared.Frame.{Frame}
 use Rattle.joint.specs.declared.Course.{Course}
-use Rattle.joint.specs.Code.{tallyOf, siteOf, stateOf, Framed, Lent, saidBy, receivedBy, freed, writtenAt, Turning, Turned}
+use Rattle.joint.specs.Code.{Counted, siteOf, stateOf, Framed, Lent, saidBy, receivedBy, freed, writtenAt, Turning, Turned}
 use Rattle.joint.proofs.Words.{length-joined}
 use Rattle.joint.proofs.Bands.{band-end, band-front, band-joined}
 use Rattle.joint.proofs.Said.{length-said, below-joined, sent-low}
@@ -59,22 +59,15 @@ released-words c j OpenOutput e = false-no e
 released-words c j CommitOutput e = refl
 released-words c j RevealOutput e = refl
 
-module _ {J : Joint} {f : Frame} {s : Course} {r : Round} {l t o : List ℕ} (u : Turning J f s r l t o) {at : Site} (e : at ≡ siteOf s 0) where
+module _ {J : Joint} {f : Frame} {s : Course} {r : Round} {l t o : List ℕ} (u : Turning J f s r l t o) where
   -- the words of all in this round
   abbrev saidHere : List ℕ
   saidHere = said prime J (stateOf f s l) r
 
-  at-gate : at .gate ≡ s .point .gate
-  unfolding siteOf
-  at-gate = ap (λ (x : Site). x .gate) e
+  pub round-gate : gateSize * (s .point .gate) + gateSize ≤ length (J .circuit)
+  round-gate = gate-fits J f s r l (u .going)
 
-  pub round-gate : gateSize * (at .gate) + gateSize ≤ length (J .circuit)
-  round-gate = rw at-gate (gate-fits J f s r l (u .going))
-
-  module _ {k : ℕ} (w : k ≡ words (gate (J .circuit) (at .gate)) r) where
-    k-is : k ≡ words (gate (J .circuit) (s .point .gate)) r
-    k-is = w ∙ ap (λ (j : ℕ). words (gate (J .circuit) j) r) at-gate
-
+  module _ {k : ℕ} (k-is : k ≡ words (gate (J .circuit) (s .point .gate)) r) where
     pub round-end : s .written + J .parties * k ≤ length t
     round-end = rw k-is (u .words-fit)
 
@@ -153,26 +146,23 @@ module _ {J : Joint} {f : Frame} {s : Course} {r : Round} {l t o : List ℕ} (u 
         gate-is = ap (λ (z : P.Point). z .gate) point-is
 
         -- what counting on asks
-        pub round-advances : (J .parties ≤ mostParties)
-            × (at .gate ≤ x .gate)
-            × (gateSize * (x .gate) ≤ length (J .circuit))
-            × (x .gate ≤ mostGates)
-            × (length (s .tallies) ≡ mostParties)
-            × ((i : ℕ) → i < J .parties → Tallied (J .circuit) i (at .gate) (tallyOf (s .tallies) i))
-        round-advances =
-            let b = next-there J f s r l (u .going) .within in (
-              u .going .lent .few,
-              omega (arith, at-gate, gate-is, next-later (J .circuit) (J .parties) (s .point .gate) r saidHere (within J f s r l (u .going))),
-              omega (arith, gate-is, b, u .going .lent .valid .whole),
-              omega (arith, gate-is, b, u .going .lent .valid .few),
-              u .going .eight,
-              λ i h. rw at-gate (u .going .tallied i h),
-            )
+        later : s .point .gate ≤ x .gate
+        later = omega (arith, gate-is, next-later (J .circuit) (J .parties) (s .point .gate) r saidHere (within J f s r l (u .going)))
+
+        there : x .gate < gates (J .circuit)
+        there = omega (arith, gate-is, next-there J f s r l (u .going) .within)
+
+        pub round-tallies : (s .point .gate ≤ x .gate) × (gateSize * (x .gate) ≤ length (J .circuit)) × (x .gate ≤ mostGates) × Tallied (J .circuit) 0 (s .point .gate) (s .tally)
+        round-tallies = (later, omega (arith, there, u .going .lent .valid .whole), omega (arith, there, u .going .lent .valid .few), u .going .tallied)
+
+        pub round-counts : Valid (J .parties) p (J .circuit) × (J .parties ≤ mostParties) × (s .point .gate ≤ x .gate) × (x .gate ≤ gates (J .circuit)) × Counted (J .parties) (J .circuit) (s .point .gate) (s .inputs)
+        round-counts = (u .going .lent .valid, u .going .lent .few, later, omega (arith, there), u .going .counted)
 
         module _ (held : List ℕ) (eh : (i : ℕ) → i < J .parties → Is (step prime J (stateOf f s l) r .held i) (getD held i 0))
             {l′ : List ℕ} (el : l′ ≡ joined (J .parties) (receivedBy (undrawn J) (stateOf f s l) r heardOf) ++ drop (J .parties * f .scratch) l)
-            (ts : List Tally) (et : (length ts ≡ mostParties) × ((i : ℕ) → i < J .parties → Tallied (J .circuit) i (x .gate) (tallyOf ts i)))
-            {kd : ℕ} (ed : kd ≡ coefficientsIn (at .unchecked) r)
+            (tally : Tally) (et : Tallied (J .circuit) 0 (x .gate) tally)
+            (counts : List ℕ) (ec : Counted (J .parties) (J .circuit) (x .gate) counts)
+            {kd : ℕ} (ed : kd ≡ coefficientsIn (s .tally .unchecked) r)
             {ko : ℕ} {o′ : List ℕ}
             (eo : (ko ≡ s .released + length (freed (J .parties) (J .circuit) r (band (f .scratch) l 0) heardOf))
             × (o′ ≡ writtenAt (s .released) (freed (J .parties) (J .circuit) r (band (f .scratch) l 0) heardOf) o)) where
@@ -193,12 +183,12 @@ module _ {J : Joint} {f : Frame} {s : Course} {r : Round} {l t o : List ℕ} (u 
           freed-is = rw heard-is
 
           drawn-is : kd ≡ takes prime J (stateOf f s l) r
-          unfolding takes stateOf siteOf pointOf
-          drawn-is = ed ∙ ap (λ (z : Site). coefficientsIn (z .unchecked) r) e ∙ ap (λ (v : ℕ). coefficientsIn v r) (u .going .tallied 0 first .unchecked)
+          unfolding takes stateOf pointOf
+          drawn-is = ed ∙ ap (λ (v : ℕ). coefficientsIn v r) (u .going .tallied .unchecked)
 
           -- what the round leaves
           pub round-turned : Turned J f s r l t o
-              (record { point = x; tallies = ts; held = held; used = s .used + kd; written = s .written + J .parties * k; released = ko; rounds = s .rounds + 1 })
+              (record { point = x; tally = tally; inputs = counts; held = held; used = s .used + kd; written = s .written + J .parties * k; released = ko; rounds = s .rounds + 1 })
               l′ sentTo o′
           unfolding stateOf
           round-turned =
@@ -210,8 +200,8 @@ module _ {J : Joint} {f : Frame} {s : Course} {r : Round} {l t o : List ℕ} (u 
                       scratch = bands;
                       used = unfold step in ap (λ (v : ℕ). s .used + v) drawn-is;
                     };
-                eight = et .0;
-                tallied = et .1;
+                tallied = et;
+                counted = ec;
                 held-low = λ i h. eh i h .below;
                 long = ap length el ∙ rw (length-append, front, length-drop) (omega (arith, u .going .room));
                 excess = ap (drop (J .parties * f .scratch)) el ∙ drop-at (joined (J .parties) (receivedBy (undrawn J) (stateOf f s l) r heardOf)) (drop (J .parties * f .scratch) l) (J .parties * f .scratch) front;

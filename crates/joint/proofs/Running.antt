@@ -380,7 +380,7 @@ module _ (J : Joint) (f : Frame) (l t o : List ℕ) (able : Runnable J f l t o) 
   ready-first : (i : ℕ) → i < J .parties → Ready (party J i) (band (f .scratch) l i) (f .layout) (siteOf s i) Input
   unfolding siteOf party
   ready-first i h =
-      let k = b .tallied (J .circuit) i (omega (arith, able .lent .few)) in
+      let k = b .tallied (J .circuit) in
       rw gate-zero
       (record {
         valid = able .lent .valid;
@@ -390,7 +390,7 @@ module _ (J : Joint) (f : Frame) (l t o : List ℕ) (able : Runnable J f l t o) 
         inputs-low = party-inputs-low (able .lent) i h;
         lay = able .lent .framed .lay;
         room = omega (arith, able .lent .framed .scratch, length-band (f .scratch) (J .parties) l (able .room) i h);
-        sited = record { within = goes .fits .0; prep = k .prep; unchecked = k .unchecked; input = k .inputs };
+        sited = record { within = goes .fits .0; prep = k .prep; unchecked = k .unchecked; input = b .counted (J .parties) (J .circuit) .each i h };
         occurs = goes .fits .1;
         worked = λ x z. absurd (omega arith);
         opened = λ x z. absurd (omega (arith, none-opened));
@@ -428,8 +428,8 @@ module _ (J : Joint) (f : Frame) (l t o : List ℕ) (able : Runnable J f l t o) 
                   record {
                     lent = able .lent;
                     room = able .room;
-                    eight = b .eight;
-                    tallied = λ i h. rw gate-zero (b .tallied (J .circuit) i (omega (arith, able .lent .few)));
+                    tallied = rw gate-zero (b .tallied (J .circuit));
+                    counted = rw gate-zero (b .counted (J .parties) (J .circuit));
                     held-low = λ i h. rw (b .held i) (omega arith);
                     ready = ready-first;
                     draws = omega (arith, nothing-drawn, b .used);

@@ -28,6 +28,10 @@ use Rattle.joint.proofs.Said.{below-part}
 use Rattle.joint.proofs.Parties.{lentTo, party-is}
 use Rattle.joint.proofs.States.{keep-holds}
 
+-- the coefficients of the round are there
+pub draws-there : {J : Joint} {f : Frame} {s : Course} {r : Round} {l : List ℕ} → Going J f s r l → {k : ℕ} → k ≡ coefficientsIn (s .tally .unchecked) r → s .used + k ≤ length (J .coefficients)
+draws-there {r = r} g d = omega (arith, d ∙ ap (λ (u : ℕ). coefficientsIn u r) (g .tallied .unchecked), g .draws)
+
 module _ {J : Joint} {f : Frame} {s : Course} {r : Round} {l : List ℕ} (g : Going J f s r l) (i : ℕ) (h : i < J .parties) where
   -- party i's band lies in the scratch
   pub band-le : i * f .scratch + f .scratch ≤ length l
@@ -45,7 +49,7 @@ module _ {J : Joint} {f : Frame} {s : Course} {r : Round} {l : List ℕ} (g : Go
   module _ {at : Site} (e : at ≡ siteOf s i) {k : ℕ} (d : k ≡ coefficientsIn (at .unchecked) r) where
     draws-are : k ≡ coefficientsIn (unchecked (J .circuit) (s .point .gate)) r
     unfolding siteOf
-    draws-are = d ∙ ap (λ (z : Site). coefficientsIn (z .unchecked) r) e ∙ ap (λ (u : ℕ). coefficientsIn u r) (g .tallied i h .unchecked)
+    draws-are = d ∙ ap (λ (z : Site). coefficientsIn (z .unchecked) r) e ∙ ap (λ (u : ℕ). coefficientsIn u r) (g .tallied .unchecked)
 
     pub draws-le : s .used + k ≤ length (J .coefficients)
     draws-le = omega (arith, draws-are, g .draws)

@@ -7,7 +7,7 @@ use mathlib.Core.List.{List, [], _∷_, _++_}
 use lib.ListN.{length, getD, take, drop}
 use Rattle.field.specs.Prime.{p, prime}
 use Rattle.circuit.specs.Gate.{gate, gates}
-use Rattle.circuit.specs.Count.{prepSize, inCount, outCount, unchecked}
+use Rattle.circuit.specs.Count.{prepSize, inputAt, inCount, outCount, unchecked}
 use Rattle.circuit.specs.Round.{Round, Input, words, coefficientsIn, wordCount, coefficientCount}
 use Rattle.circuit.specs.Valid.{Valid}
 use Rattle.circuit.specs.Code.{roundOf, Tallied}
@@ -46,21 +46,16 @@ abbrev pub jointOf : ℕ → List ℕ → List ℕ → List ℕ → List ℕ →
 jointOf n c preps inputs coefficients =
     record { parties = n; circuit = c; preps = preps; inputs = inputs; coefficients = coefficients }
 
--- what is counted for party i of the gates before the point
-abbrev pub tallyOf : List Tally → ℕ → Tally
-tallyOf ts i = getD ts i (record { prep = 0; openings = 0; unchecked = 0; inputs = 0 })
+-- how many inputs each of n parties had before gate j
+pub record Counted (n : ℕ) (c : List ℕ) (j : ℕ) (counts : List ℕ) : Type 0 where
+  pub eight : length counts ≡ mostParties
+  pub each : (i : ℕ) → i < n → getD counts i 0 ≡ inputAt c i j
 
-abbrev pub siteAt : ℕ → Tally → Site
-siteAt gate t = record { gate = gate; prep = t .prep; unchecked = t .unchecked; input = t .inputs }
+abbrev pub siteAt : ℕ → Tally → ℕ → Site
+siteAt gate t input = record { gate = gate; prep = t .prep; unchecked = t .unchecked; input = input }
 
 unfoldable pub siteOf : Course → ℕ → Site
-siteOf s i =
-    record {
-      gate = s .point .gate;
-      prep = tallyOf (s .tallies) i .prep;
-      unchecked = tallyOf (s .tallies) i .unchecked;
-      input = tallyOf (s .tallies) i .inputs;
-    }
+siteOf s i = siteAt (s .point .gate) (s .tally) (getD (s .inputs) i 0)
 
 -- all parties between two rounds, where l is the scratch of all
 unfoldable pub stateOf : Frame → Course → List ℕ → State
@@ -119,8 +114,8 @@ writtenAt k ws xs = take k xs ++ (ws ++ drop (k + length ws) xs)
 pub record Going (J : Joint) (f : Frame) (s : Course) (r : Round) (l : List ℕ) : Type 0 where
   pub lent : Lent J f
   pub room : J .parties * f .scratch ≤ length l
-  pub eight : length (s .tallies) ≡ mostParties
-  pub tallied : (i : ℕ) → i < J .parties → Tallied (J .circuit) i (s .point .gate) (tallyOf (s .tallies) i)
+  pub tallied : Tallied (J .circuit) 0 (s .point .gate) (s .tally)
+  pub counted : Counted (J .parties) (J .circuit) (s .point .gate) (s .inputs)
   pub held-low : (i : ℕ) → i < J .parties → getD (s .held) i 0 < p
   pub ready : (i : ℕ) → i < J .parties → Ready (party J i) (band (f .scratch) l i) (f .layout) (siteOf s i) r
   pub draws : s .used + coefficientsIn (unchecked (J .circuit) (s .point .gate)) r ≤ length (J .coefficients)
@@ -144,8 +139,8 @@ pub record Alike (n : ℕ) (s s′ : State) : Type 0 where
 -- what a round leaves
 pub record Turned (J : Joint) (f : Frame) (s : Course) (r : Round) (l t o : List ℕ) (s′ : Course) (l′ t′ o′ : List ℕ) : Type 0 where
   pub alike : Alike (J .parties) (stateOf f s′ l′) (step prime J (stateOf f s l) r)
-  pub eight : length (s′ .tallies) ≡ mostParties
-  pub tallied : (i : ℕ) → i < J .parties → Tallied (J .circuit) i (s′ .point .gate) (tallyOf (s′ .tallies) i)
+  pub tallied : Tallied (J .circuit) 0 (s′ .point .gate) (s′ .tally)
+  pub counted : Counted (J .parties) (J .circuit) (s′ .point .gate) (s′ .inputs)
   pub held-low : (i : ℕ) → i < J .parties → getD (s′ .held) i 0 < p
   pub long : length l′ ≡ length l
   pub excess : drop (J .parties * f .scratch) l′ ≡ drop (J .parties * f .scratch) l
@@ -158,8 +153,8 @@ pub record Turned (J : Joint) (f : Frame) (s : Course) (r : Round) (l t o : List
 -- before the first round, which is an in gate's
 pub record Started (s : Course) : Type 0 where
   pub point : pointOf (s .point) ≡ record { gate = 0; stage = Send Input }
-  pub eight : length (s .tallies) ≡ mostParties
-  pub tallied : (c : List ℕ) (i : ℕ) → i < mostParties → Tallied c i 0 (tallyOf (s .tallies) i)
+  pub tallied : (c : List ℕ) → Tallied c 0 0 (s .tally)
+  pub counted : (n : ℕ) (c : List ℕ) → Counted n c 0 (s .inputs)
   pub held : (i : ℕ) → getD (s .held) i 0 ≡ 0
   pub used : s .used ≡ 0
   pub written : s .written ≡ 0

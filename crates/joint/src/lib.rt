@@ -30,11 +30,13 @@ pub struct Frame {
     pub starts: [usize; 9],
 }
 
-// What goes on from round to round: the point, what is counted for each party of the gates before it, the check share that each party
-// holds, and how many coefficients are used, words written, outputs released and rounds made.
+// What goes on from round to round: the point; what is counted of the gates before it, where the inputs alone differ by party, so that
+// the tally is party 0's and the inputs are counted for each; the check share that each party holds; and how many coefficients are
+// used, words written, outputs released and rounds made.
 pub struct Course {
     pub point: Point,
-    pub tallies: [Tally; 8],
+    pub tally: Tally,
+    pub inputs: [usize; 8],
     pub held: [u32; 8],
     pub used: usize,
     pub written: usize,

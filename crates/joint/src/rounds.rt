@@ -17,10 +17,10 @@ ghost use mathlib.Core.List.{[], _++_};
 ghost use Prim.Native.Nat.{ℕ, _+_, _*_, _<_, _≤_};
 ghost use lib.ListN.{length, getD, drop};
 ghost use Rattle.field.specs.Prime.{p, prime, Is};
-ghost use Rattle.circuit.specs.Gate.{gateSize, gate, gates};
+ghost use Rattle.circuit.specs.Gate.{gate, gates};
 ghost use Rattle.circuit.specs.Round.{words, coefficientsIn};
-ghost use Rattle.circuit.specs.Accept.{mostGates};
-ghost use Rattle.circuit.specs.Code.{roundOf, Tallied};
+ghost use Rattle.circuit.specs.Valid.{Valid};
+ghost use Rattle.circuit.specs.Code.{roundOf};
 ghost use Rattle.party.specs.Ask.{mostParties};
 ghost use Rattle.party.specs.Send.{sent, holds};
 ghost use Rattle.party.specs.Receive.{next, received};
@@ -29,20 +29,20 @@ ghost use Rattle.party.specs.Code.{stageOf, pointOf, Below, Sends, Receives};
 ghost use Rattle.joint.specs.Joint.{joined, band, party};
 ghost use Rattle.joint.specs.Run.{said, step};
 ghost use Rattle.joint.specs.Entry.{ended};
-ghost use Rattle.joint.specs.Code.{jointAnswerOf, IsDue, jointOf, tallyOf, siteAt, siteOf, part, lentFrom, stateOf, Framed, Lent, receivedBy, freed, writtenAt, Going, Turning, Turned, Started, Runnable, Ran};
+ghost use Rattle.joint.specs.Code.{jointAnswerOf, IsDue, jointOf, Counted, siteAt, siteOf, part, lentFrom, stateOf, Framed, Lent, receivedBy, freed, writtenAt, Going, Turning, Turned, Started, Runnable, Ran};
 
 // Words of a reveal.
 const CHECK_WORDS: usize = 1;
 
-// Where the numbers of a gate stand for a party of whom that is counted before it.
-fn site_of(gate: usize, t: Tally) -> Site
-    ensures { λ x. ⌜ x ≡ siteAt gate t ⌝ }
+// Where the numbers of a gate stand for a party that had so many inputs before it.
+fn site_of(gate: usize, t: Tally, input: usize) -> Site
+    ensures { λ x. ⌜ x ≡ siteAt gate t input ⌝ }
 {
     Site {
         gate,
         prep: t.prep,
         unchecked: t.unchecked,
-        input: t.inputs,
+        input,
     }
 }
 
@@ -108,7 +108,8 @@ fn send_all(
 {
     let point = s.point;
     let gate = point.gate;
-    let tallies = s.tallies;
+    let t = s.tally;
+    let counts = s.inputs;
     let holds = s.held;
     let starts = f.starts;
     let k = circuit::words_in(circuit::gate_at(c, gate), r);
@@ -117,8 +118,7 @@ fn send_all(
     let mut i = 0;
     while i < f.parties {
         let b = a + k;
-        let t = tallies[i];
-        let at = site_of(gate, t);
+        let at = site_of(gate, t, counts[i]);
         let first = starts[i];
         let last = starts[i + 1];
         let h = send_one(
@@ -198,15 +198,15 @@ fn receive_all(
     ensures { λ x. ⌜ (pointOf x ≡ next prime (f .parties) (now (c .entry)) (s .point .gate) (roundOf r) (now (heard .entry))) × (now (scratch .exit) ≡ joined (f .parties) (receivedBy (jointOf (f .parties) (now (c .entry)) (now (preps .entry)) (now (inputs .entry)) []) (stateOf f s (now (scratch .entry))) (roundOf r) (now (heard .entry))) ++ drop (f .parties * f .scratch) (now (scratch .entry))) ⌝ }
 {
     let mut point = s.point;
-    let tallies = s.tallies;
+    let t = s.tally;
+    let counts = s.inputs;
     let starts = f.starts;
     let mut start = 0;
     let mut i = 0;
     while i < f.parties {
         let end = start + f.scratch;
         let here = s.point;
-        let t = tallies[i];
-        let at = site_of(here.gate, t);
+        let at = site_of(here.gate, t, counts[i]);
         let first = starts[i];
         let last = starts[i + 1];
         point = receive_one(
@@ -269,19 +269,22 @@ fn release(
     at + 1
 }
 
-// What is counted for each party goes on from one gate to another.
-fn advance(parties: usize, c: &[u32], from: usize, to: usize, before: [Tally; 8]) -> [Tally; 8]
-    requires { ⌜ (parties ≤ mostParties) × (from ≤ to) × (gateSize * to ≤ length (now c)) × (to ≤ mostGates) × (length before ≡ mostParties) × ((i : ℕ) → i < parties → Tallied (now c) i from (tallyOf before i)) ⌝ }
-    ensures { λ ts. ⌜ (length ts ≡ mostParties) × ((i : ℕ) → i < parties → Tallied (now (c .entry)) i to (tallyOf ts i)) ⌝ }
+// How many inputs each party had goes on from one gate to another.
+fn count_inputs(parties: usize, c: &[u32], from: usize, to: usize, before: [usize; 8]) -> [usize; 8]
+    requires { ⌜ Valid parties p (now c) × (parties ≤ mostParties) × (from ≤ to) × (to ≤ gates (now c)) × Counted parties (now c) from before ⌝ }
+    ensures { λ counts. ⌜ Counted parties (now (c .entry)) to counts ⌝ }
 {
-    let mut tallies = before;
-    let mut i = 0;
-    while i < parties {
-        let t = tallies[i];
-        tallies[i] = circuit::tally_between(c, i, from, to, t);
-        i += 1;
+    let mut counts = before;
+    let mut j = from;
+    while j < to {
+        let g = circuit::gate_at(c, j);
+        if circuit::is_in(g) {
+            let owner = circuit::first_of(g);
+            counts[owner] = counts[owner] + 1;
+        }
+        j += 1;
     }
-    tallies
+    counts
 }
 
 // Round r. The words that are received are those that stand in the transcript.
@@ -301,11 +304,10 @@ fn one_round(
     ensures { λ x. ⌜ Turned (jointOf (f .parties) (now (c .entry)) (now (preps .entry)) (now (inputs .entry)) (now (coefficients .entry))) f s (roundOf r) (now (scratch .entry)) (now (transcript .entry)) (now (outputs .entry)) x (now (scratch .exit)) (now (transcript .exit)) (now (outputs .exit)) ⌝ }
 {
     let here = s.point;
-    let before = s.tallies;
-    let t = before[0];
-    let at = site_of(here.gate, t);
+    let t = s.tally;
+    let before = s.inputs;
     let start = s.written;
-    let end = start + f.parties * circuit::words_in(circuit::gate_at(c, at.gate), r);
+    let end = start + f.parties * circuit::words_in(circuit::gate_at(c, here.gate), r);
     let held = send_all(
         f,
         s,
@@ -327,11 +329,13 @@ fn one_round(
         s.released,
     );
     let point = receive_all(f, s, r, c, preps, inputs, scratch, &transcript[start..end]);
-    let tallies = advance(f.parties, c, at.gate, point.gate, before);
-    let used = s.used + circuit::coefficients_in(at.unchecked, r);
+    let tally = circuit::tally_between(c, 0, here.gate, point.gate, t);
+    let counts = count_inputs(f.parties, c, here.gate, point.gate, before);
+    let used = s.used + circuit::coefficients_in(t.unchecked, r);
     Course {
         point,
-        tallies,
+        tally,
+        inputs: counts,
         held,
         used,
         written: end,
@@ -344,13 +348,13 @@ fn one_round(
 fn origin() -> Course
     ensures { λ s. ⌜ Started s ⌝ }
 {
-    let t = circuit::no_tally();
     Course {
         point: Point {
             gate: 0,
             stage: Stage::Send(Round::Input),
         },
-        tallies: [t; 8],
+        tally: circuit::no_tally(),
+        inputs: [0; 8],
         held: [0; 8],
         used: 0,
         written: 0,

@@ -6,36 +6,25 @@ use borrow.Author.Needs.{needs}
 use Rattle.circuit.specs.Round.{words}
 use Rattle.circuit.specs.Code.{roundOf}
 use Rattle.circuit.specs.Gate.{Gate}
-use Rattle.joint.specs.Code.{siteOf}
-use Rattle.joint.proofs.Rounding.{round-gate, round-end, round-room, round-long, round-releases, round-receives, round-advances, round-turned}
-use Rattle.joint.proofs.Turns.{draws-le}
+use Rattle.joint.proofs.Rounding.{round-gate, round-end, round-room, round-long, round-releases, round-receives, round-tallies, round-counts, round-turned}
+use Rattle.joint.proofs.Turns.{draws-there}
 use Rattle.joint.proofs.rounds.one_round.Statement.{statement}
 use Rattle.joint.proofs.rounds.one_round.Tie as tie
 
-array-copy-out-t : tie.Need-array-copy-out-t
-array-copy-out-t c = search needs
-
-site-of-requires : tie.Need-site-of-requires
-site-of-requires c κs = search needs
-
 gate-at-requires : tie.Need-gate-at-requires
-unfolding siteOf
-gate-at-requires c κs = round-gate (c .before .before .before .before .before .before .before .before .before .before .before .pre) (c .site-of .ensures)
+gate-at-requires c κs = round-gate (c .before .before .before .before .before .before .before .before .before .before .pre)
 
 words-in-requires : tie.Need-words-in-requires
 words-in-requires c κs = search needs
 
 mul-end : tie.Need-mul-end
-unfolding siteOf
-mul-end c = omega (arith, c .before .before .before .before .before .before .before .before .before .before .before .before .before .before .good, round-end (c .before .before .before .before .before .before .before .before .before .before .before .before .before .before .pre) (c .before .before .before .site-of .ensures) (c .before .words-in .ensures ∙ ap (λ (g : Gate). words g (roundOf (c .before .before .before .before .before .before .before .before .before .before .before .before .before .before .args .r))) (c .before .before .gate-at .ensures)))
+mul-end c = omega (arith, c .before .before .before .before .before .before .before .before .before .before .before .before .before .good, round-end (c .before .before .before .before .before .before .before .before .before .before .before .before .before .pre) (c .before .words-in .ensures ∙ ap (λ (g : Gate). words g (roundOf (c .before .before .before .before .before .before .before .before .before .before .before .before .before .args .r))) (c .before .before .gate-at .ensures)))
 
 add-end : tie.Need-add-end
-unfolding siteOf
-add-end c = omega (arith, c .before .before .before .before .before .before .before .before .before .before .before .before .before .before .good, round-end (c .before .before .before .before .before .before .before .before .before .before .before .before .before .before .pre) (c .before .before .before .site-of .ensures) (c .before .words-in .ensures ∙ ap (λ (g : Gate). words g (roundOf (c .before .before .before .before .before .before .before .before .before .before .before .before .before .before .args .r))) (c .before .before .gate-at .ensures)))
+add-end c = omega (arith, c .before .before .before .before .before .before .before .before .before .before .before .before .before .good, round-end (c .before .before .before .before .before .before .before .before .before .before .before .before .before .pre) (c .before .words-in .ensures ∙ ap (λ (g : Gate). words g (roundOf (c .before .before .before .before .before .before .before .before .before .before .before .before .before .args .r))) (c .before .before .gate-at .ensures)))
 
 mul-send-all : tie.Need-mul-send-all
-unfolding siteOf
-mul-send-all c = omega (arith, c .before .before .before .before .before .before .before .before .before .before .before .before .before .before .before .good, round-end (c .before .before .before .before .before .before .before .before .before .before .before .before .before .before .before .pre) (c .before .before .before .before .site-of .ensures) (c .before .before .words-in .ensures ∙ ap (λ (g : Gate). words g (roundOf (c .before .before .before .before .before .before .before .before .before .before .before .before .before .before .before .args .r))) (c .before .before .before .gate-at .ensures)))
+mul-send-all c = omega (arith, c .before .before .before .before .before .before .before .before .before .before .before .before .before .before .good, round-end (c .before .before .before .before .before .before .before .before .before .before .before .before .before .before .pre) (c .before .before .words-in .ensures ∙ ap (λ (g : Gate). words g (roundOf (c .before .before .before .before .before .before .before .before .before .before .before .before .before .before .args .r))) (c .before .before .before .gate-at .ensures)))
 
 sub-send-all : tie.Need-sub-send-all
 sub-send-all c = search needs
@@ -44,16 +33,13 @@ part-send-all-start : tie.Need-part-send-all-start
 part-send-all-start c = search needs
 
 part-send-all-end : tie.Need-part-send-all-end
-unfolding siteOf
-part-send-all-end c = round-end (c .before .before .before .before .before .before .before .before .before .before .before .before .before .before .before .pre) (c .before .before .before .before .site-of .ensures) (c .before .before .words-in .ensures ∙ ap (λ (g : Gate). words g (roundOf (c .before .before .before .before .before .before .before .before .before .before .before .before .before .before .before .args .r))) (c .before .before .before .gate-at .ensures))
+part-send-all-end c = round-end (c .before .before .before .before .before .before .before .before .before .before .before .before .before .before .pre) (c .before .before .words-in .ensures ∙ ap (λ (g : Gate). words g (roundOf (c .before .before .before .before .before .before .before .before .before .before .before .before .before .before .args .r))) (c .before .before .before .gate-at .ensures))
 
 send-all-requires : tie.Need-send-all-requires
-unfolding siteOf
-send-all-requires c κs = (c .before .before .before .before .before .before .before .before .before .before .before .before .before .before .before .before .pre .going, round-room (c .before .before .before .before .before .before .before .before .before .before .before .before .before .before .before .before .pre) (c .before .before .before .before .before .site-of .ensures) (c .before .before .before .words-in .ensures ∙ ap (λ (g : Gate). words g (roundOf (c .before .before .before .before .before .before .before .before .before .before .before .before .before .before .before .before .args .r))) (c .before .before .before .before .gate-at .ensures)))
+send-all-requires c κs = (c .before .before .before .before .before .before .before .before .before .before .before .before .before .before .before .pre .going, round-room (c .before .before .before .before .before .before .before .before .before .before .before .before .before .before .before .pre) (c .before .before .before .words-in .ensures ∙ ap (λ (g : Gate). words g (roundOf (c .before .before .before .before .before .before .before .before .before .before .before .before .before .before .before .args .r))) (c .before .before .before .before .gate-at .ensures)))
 
 mul-release : tie.Need-mul-release
-unfolding siteOf
-mul-release c = omega (arith, c .before .before .before .before .before .before .before .before .before .before .before .before .before .before .before .before .before .before .before .before .good, round-end (c .before .before .before .before .before .before .before .before .before .before .before .before .before .before .before .before .before .before .before .before .pre) (c .before .before .before .before .before .before .before .before .before .site-of .ensures) (c .before .before .before .before .before .before .before .words-in .ensures ∙ ap (λ (g : Gate). words g (roundOf (c .before .before .before .before .before .before .before .before .before .before .before .before .before .before .before .before .before .before .before .before .args .r))) (c .before .before .before .before .before .before .before .before .gate-at .ensures)))
+mul-release c = omega (arith, c .before .before .before .before .before .before .before .before .before .before .before .before .before .before .before .before .before .before .before .good, round-end (c .before .before .before .before .before .before .before .before .before .before .before .before .before .before .before .before .before .before .before .pre) (c .before .before .before .before .before .before .before .words-in .ensures ∙ ap (λ (g : Gate). words g (roundOf (c .before .before .before .before .before .before .before .before .before .before .before .before .before .before .before .before .before .before .before .args .r))) (c .before .before .before .before .before .before .before .before .gate-at .ensures)))
 
 sub-release : tie.Need-sub-release
 sub-release c = search needs
@@ -62,16 +48,13 @@ part-release-start : tie.Need-part-release-start
 part-release-start c = search needs
 
 part-release-end : tie.Need-part-release-end
-unfolding siteOf
-part-release-end c = omega (arith, round-end (c .before .before .before .before .before .before .before .before .before .before .before .before .before .before .before .before .before .before .before .before .before .pre) (c .before .before .before .before .before .before .before .before .before .before .site-of .ensures) (c .before .before .before .before .before .before .before .before .words-in .ensures ∙ ap (λ (g : Gate). words g (roundOf (c .before .before .before .before .before .before .before .before .before .before .before .before .before .before .before .before .before .before .before .before .before .args .r))) (c .before .before .before .before .before .before .before .before .before .gate-at .ensures)), round-long (c .before .before .before .before .before .before .before .before .before .before .before .before .before .before .before .before .before .before .before .before .before .pre) (c .before .before .before .before .before .before .before .before .before .before .site-of .ensures) (c .before .before .before .before .before .before .before .before .words-in .ensures ∙ ap (λ (g : Gate). words g (roundOf (c .before .before .before .before .before .before .before .before .before .before .before .before .before .before .before .before .before .before .before .before .before .args .r))) (c .before .before .before .before .before .before .before .before .before .gate-at .ensures)) (c .before .before .before .before .send-all .ensures .1))
+part-release-end c = omega (arith, round-end (c .before .before .before .before .before .before .before .before .before .before .before .before .before .before .before .before .before .before .before .before .pre) (c .before .before .before .before .before .before .before .before .words-in .ensures ∙ ap (λ (g : Gate). words g (roundOf (c .before .before .before .before .before .before .before .before .before .before .before .before .before .before .before .before .before .before .before .before .args .r))) (c .before .before .before .before .before .before .before .before .before .gate-at .ensures)), round-long (c .before .before .before .before .before .before .before .before .before .before .before .before .before .before .before .before .before .before .before .before .pre) (c .before .before .before .before .before .before .before .before .words-in .ensures ∙ ap (λ (g : Gate). words g (roundOf (c .before .before .before .before .before .before .before .before .before .before .before .before .before .before .before .before .before .before .before .before .args .r))) (c .before .before .before .before .before .before .before .before .before .gate-at .ensures)) (c .before .before .before .before .send-all .ensures .1))
 
 release-requires : tie.Need-release-requires
-unfolding siteOf
-release-requires c κs = round-releases (c .before .before .before .before .before .before .before .before .before .before .before .before .before .before .before .before .before .before .before .before .before .before .before .pre) (c .before .before .before .before .before .before .before .before .before .before .before .before .site-of .ensures) (c .before .before .before .before .before .before .before .before .before .before .words-in .ensures ∙ ap (λ (g : Gate). words g (roundOf (c .before .before .before .before .before .before .before .before .before .before .before .before .before .before .before .before .before .before .before .before .before .before .before .args .r))) (c .before .before .before .before .before .before .before .before .before .before .before .gate-at .ensures)) (c .before .before .before .before .before .before .send-all .ensures .1)
+release-requires c κs = round-releases (c .before .before .before .before .before .before .before .before .before .before .before .before .before .before .before .before .before .before .before .before .before .before .pre) (c .before .before .before .before .before .before .before .before .before .before .words-in .ensures ∙ ap (λ (g : Gate). words g (roundOf (c .before .before .before .before .before .before .before .before .before .before .before .before .before .before .before .before .before .before .before .before .before .before .args .r))) (c .before .before .before .before .before .before .before .before .before .before .before .gate-at .ensures)) (c .before .before .before .before .before .before .send-all .ensures .1)
 
 mul-receive-all : tie.Need-mul-receive-all
-unfolding siteOf
-mul-receive-all c = omega (arith, c .before .before .before .before .before .before .before .before .before .before .before .before .before .before .before .before .before .before .before .before .before .before .before .before .before .before .before .good, round-end (c .before .before .before .before .before .before .before .before .before .before .before .before .before .before .before .before .before .before .before .before .before .before .before .before .before .before .before .pre) (c .before .before .before .before .before .before .before .before .before .before .before .before .before .before .before .before .site-of .ensures) (c .before .before .before .before .before .before .before .before .before .before .before .before .before .before .words-in .ensures ∙ ap (λ (g : Gate). words g (roundOf (c .before .before .before .before .before .before .before .before .before .before .before .before .before .before .before .before .before .before .before .before .before .before .before .before .before .before .before .args .r))) (c .before .before .before .before .before .before .before .before .before .before .before .before .before .before .before .gate-at .ensures)))
+mul-receive-all c = omega (arith, c .before .before .before .before .before .before .before .before .before .before .before .before .before .before .before .before .before .before .before .before .before .before .before .before .before .before .good, round-end (c .before .before .before .before .before .before .before .before .before .before .before .before .before .before .before .before .before .before .before .before .before .before .before .before .before .before .pre) (c .before .before .before .before .before .before .before .before .before .before .before .before .before .before .words-in .ensures ∙ ap (λ (g : Gate). words g (roundOf (c .before .before .before .before .before .before .before .before .before .before .before .before .before .before .before .before .before .before .before .before .before .before .before .before .before .before .args .r))) (c .before .before .before .before .before .before .before .before .before .before .before .before .before .before .before .gate-at .ensures)))
 
 sub-receive-all : tie.Need-sub-receive-all
 sub-receive-all c = search needs
@@ -80,47 +63,42 @@ part-receive-all-start : tie.Need-part-receive-all-start
 part-receive-all-start c = search needs
 
 part-receive-all-end : tie.Need-part-receive-all-end
-unfolding siteOf
-part-receive-all-end c = omega (arith, round-end (c .before .before .before .before .before .before .before .before .before .before .before .before .before .before .before .before .before .before .before .before .before .before .before .before .before .before .before .before .pre) (c .before .before .before .before .before .before .before .before .before .before .before .before .before .before .before .before .before .site-of .ensures) (c .before .before .before .before .before .before .before .before .before .before .before .before .before .before .before .words-in .ensures ∙ ap (λ (g : Gate). words g (roundOf (c .before .before .before .before .before .before .before .before .before .before .before .before .before .before .before .before .before .before .before .before .before .before .before .before .before .before .before .before .args .r))) (c .before .before .before .before .before .before .before .before .before .before .before .before .before .before .before .before .gate-at .ensures)), round-long (c .before .before .before .before .before .before .before .before .before .before .before .before .before .before .before .before .before .before .before .before .before .before .before .before .before .before .before .before .pre) (c .before .before .before .before .before .before .before .before .before .before .before .before .before .before .before .before .before .site-of .ensures) (c .before .before .before .before .before .before .before .before .before .before .before .before .before .before .before .words-in .ensures ∙ ap (λ (g : Gate). words g (roundOf (c .before .before .before .before .before .before .before .before .before .before .before .before .before .before .before .before .before .before .before .before .before .before .before .before .before .before .before .before .args .r))) (c .before .before .before .before .before .before .before .before .before .before .before .before .before .before .before .before .gate-at .ensures)) (c .before .before .before .before .before .before .before .before .before .before .before .send-all .ensures .1))
+part-receive-all-end c = omega (arith, round-end (c .before .before .before .before .before .before .before .before .before .before .before .before .before .before .before .before .before .before .before .before .before .before .before .before .before .before .before .pre) (c .before .before .before .before .before .before .before .before .before .before .before .before .before .before .before .words-in .ensures ∙ ap (λ (g : Gate). words g (roundOf (c .before .before .before .before .before .before .before .before .before .before .before .before .before .before .before .before .before .before .before .before .before .before .before .before .before .before .before .args .r))) (c .before .before .before .before .before .before .before .before .before .before .before .before .before .before .before .before .gate-at .ensures)), round-long (c .before .before .before .before .before .before .before .before .before .before .before .before .before .before .before .before .before .before .before .before .before .before .before .before .before .before .before .pre) (c .before .before .before .before .before .before .before .before .before .before .before .before .before .before .before .words-in .ensures ∙ ap (λ (g : Gate). words g (roundOf (c .before .before .before .before .before .before .before .before .before .before .before .before .before .before .before .before .before .before .before .before .before .before .before .before .before .before .before .args .r))) (c .before .before .before .before .before .before .before .before .before .before .before .before .before .before .before .before .gate-at .ensures)) (c .before .before .before .before .before .before .before .before .before .before .before .send-all .ensures .1))
 
 receive-all-requires : tie.Need-receive-all-requires
-unfolding siteOf
-receive-all-requires c κs = round-receives (c .before .before .before .before .before .before .before .before .before .before .before .before .before .before .before .before .before .before .before .before .before .before .before .before .before .before .before .before .before .pre) (c .before .before .before .before .before .before .before .before .before .before .before .before .before .before .before .before .before .before .site-of .ensures) (c .before .before .before .before .before .before .before .before .before .before .before .before .before .before .before .before .words-in .ensures ∙ ap (λ (g : Gate). words g (roundOf (c .before .before .before .before .before .before .before .before .before .before .before .before .before .before .before .before .before .before .before .before .before .before .before .before .before .before .before .before .before .args .r))) (c .before .before .before .before .before .before .before .before .before .before .before .before .before .before .before .before .before .gate-at .ensures)) (c .before .before .before .before .before .before .before .before .before .before .before .before .send-all .ensures .1)
+receive-all-requires c κs = round-receives (c .before .before .before .before .before .before .before .before .before .before .before .before .before .before .before .before .before .before .before .before .before .before .before .before .before .before .before .before .pre) (c .before .before .before .before .before .before .before .before .before .before .before .before .before .before .before .before .words-in .ensures ∙ ap (λ (g : Gate). words g (roundOf (c .before .before .before .before .before .before .before .before .before .before .before .before .before .before .before .before .before .before .before .before .before .before .before .before .before .before .before .before .args .r))) (c .before .before .before .before .before .before .before .before .before .before .before .before .before .before .before .before .before .gate-at .ensures)) (c .before .before .before .before .before .before .before .before .before .before .before .before .send-all .ensures .1)
 
-advance-requires : tie.Need-advance-requires
-unfolding siteOf
-advance-requires c κs = round-advances (c .before .before .before .before .before .before .before .before .before .before .before .before .before .before .before .before .before .before .before .before .before .before .before .before .before .before .before .before .before .before .before .before .pre) (c .before .before .before .before .before .before .before .before .before .before .before .before .before .before .before .before .before .before .before .before .before .site-of .ensures) (c .before .before .before .before .before .before .before .before .before .before .before .before .before .before .before .before .before .before .before .words-in .ensures ∙ ap (λ (g : Gate). words g (roundOf (c .before .before .before .before .before .before .before .before .before .before .before .before .before .before .before .before .before .before .before .before .before .before .before .before .before .before .before .before .before .before .before .before .args .r))) (c .before .before .before .before .before .before .before .before .before .before .before .before .before .before .before .before .before .before .before .before .gate-at .ensures)) (c .before .before .before .before .before .before .before .before .before .before .before .before .before .before .before .send-all .ensures .1) (c .before .before .receive-all .result) (c .before .before .receive-all .ensures .0)
+tally-between-requires : tie.Need-tally-between-requires
+tally-between-requires c κs = round-tallies (c .before .before .before .before .before .before .before .before .before .before .before .before .before .before .before .before .before .before .before .before .before .before .before .before .before .before .before .before .before .before .before .pre) (c .before .before .before .before .before .before .before .before .before .before .before .before .before .before .before .before .before .before .before .words-in .ensures ∙ ap (λ (g : Gate). words g (roundOf (c .before .before .before .before .before .before .before .before .before .before .before .before .before .before .before .before .before .before .before .before .before .before .before .before .before .before .before .before .before .before .before .args .r))) (c .before .before .before .before .before .before .before .before .before .before .before .before .before .before .before .before .before .before .before .before .gate-at .ensures)) (c .before .before .before .before .before .before .before .before .before .before .before .before .before .before .before .send-all .ensures .1) (c .before .before .receive-all .result) (c .before .before .receive-all .ensures .0)
+
+count-inputs-requires : tie.Need-count-inputs-requires
+count-inputs-requires c κs = round-counts (c .before .before .before .before .before .before .before .before .before .before .before .before .before .before .before .before .before .before .before .before .before .before .before .before .before .before .before .before .before .before .before .before .pre) (c .before .before .before .before .before .before .before .before .before .before .before .before .before .before .before .before .before .before .before .before .words-in .ensures ∙ ap (λ (g : Gate). words g (roundOf (c .before .before .before .before .before .before .before .before .before .before .before .before .before .before .before .before .before .before .before .before .before .before .before .before .before .before .before .before .before .before .before .before .args .r))) (c .before .before .before .before .before .before .before .before .before .before .before .before .before .before .before .before .before .before .before .before .before .gate-at .ensures)) (c .before .before .before .before .before .before .before .before .before .before .before .before .before .before .before .before .send-all .ensures .1) (c .before .before .before .receive-all .result) (c .before .before .before .receive-all .ensures .0)
 
 coefficients-in-requires : tie.Need-coefficients-in-requires
 coefficients-in-requires c κs = search needs
 
 add-used : tie.Need-add-used
-unfolding siteOf
-add-used c = omega (arith, c .before .before .before .before .before .before .before .before .before .before .before .before .before .before .before .before .before .before .before .before .before .before .before .before .before .before .before .before .before .before .before .before .before .before .before .good, draws-le (c .before .before .before .before .before .before .before .before .before .before .before .before .before .before .before .before .before .before .before .before .before .before .before .before .before .before .before .before .before .before .before .before .before .before .before .pre .going) 0 (omega (arith, c .before .before .before .before .before .before .before .before .before .before .before .before .before .before .before .before .before .before .before .before .before .before .before .before .before .before .before .before .before .before .before .before .before .before .before .pre .going .lent .some)) (c .before .before .before .before .before .before .before .before .before .before .before .before .before .before .before .before .before .before .before .before .before .before .before .before .site-of .ensures) (c .before .coefficients-in .ensures))
+add-used c = omega (arith, c .before .before .before .before .before .before .before .before .before .before .before .before .before .before .before .before .before .before .before .before .before .before .before .before .before .before .before .before .before .before .before .before .before .before .before .good, draws-there (c .before .before .before .before .before .before .before .before .before .before .before .before .before .before .before .before .before .before .before .before .before .before .before .before .before .before .before .before .before .before .before .before .before .before .before .pre .going) (c .before .coefficients-in .ensures))
 
-add-t27 : tie.Need-add-t27
-add-t27 c = omega (arith, c .before .before .before .before .before .before .before .before .before .before .before .before .before .before .before .before .before .before .before .before .before .before .before .before .before .before .before .before .before .before .before .before .before .before .before .before .pre .rounds-few, c .before .before .before .before .before .before .before .before .before .before .before .before .before .before .before .before .before .before .before .before .before .before .before .before .before .before .before .before .before .before .before .before .before .before .before .before .pre .going .lent .valid .few)
+add-t24 : tie.Need-add-t24
+add-t24 c = omega (arith, c .before .before .before .before .before .before .before .before .before .before .before .before .before .before .before .before .before .before .before .before .before .before .before .before .before .before .before .before .before .before .before .before .before .before .before .before .pre .rounds-few, c .before .before .before .before .before .before .before .before .before .before .before .before .before .before .before .before .before .before .before .before .before .before .before .before .before .before .before .before .before .before .before .before .before .before .before .before .pre .going .lent .valid .few)
 
 same-length : tie.Need-same-length
 same-length c = search needs
 
 same-length-2 : tie.Need-same-length-2
-unfolding siteOf
-same-length-2 c = round-long (c .before .before .before .before .before .before .before .before .before .before .before .before .before .before .before .before .before .before .before .before .before .before .before .before .before .before .before .before .before .before .before .before .before .before .before .before .pre) (c .before .before .before .before .before .before .before .before .before .before .before .before .before .before .before .before .before .before .before .before .before .before .before .before .before .site-of .ensures) (c .before .before .before .before .before .before .before .before .before .before .before .before .before .before .before .before .before .before .before .before .before .before .before .words-in .ensures ∙ ap (λ (g : Gate). words g (roundOf (c .before .before .before .before .before .before .before .before .before .before .before .before .before .before .before .before .before .before .before .before .before .before .before .before .before .before .before .before .before .before .before .before .before .before .before .before .args .r))) (c .before .before .before .before .before .before .before .before .before .before .before .before .before .before .before .before .before .before .before .before .before .before .before .before .gate-at .ensures)) (c .before .before .before .before .before .before .before .before .before .before .before .before .before .before .before .before .before .before .before .send-all .ensures .1)
+same-length-2 c = round-long (c .before .before .before .before .before .before .before .before .before .before .before .before .before .before .before .before .before .before .before .before .before .before .before .before .before .before .before .before .before .before .before .before .before .before .before .before .pre) (c .before .before .before .before .before .before .before .before .before .before .before .before .before .before .before .before .before .before .before .before .before .before .before .before .words-in .ensures ∙ ap (λ (g : Gate). words g (roundOf (c .before .before .before .before .before .before .before .before .before .before .before .before .before .before .before .before .before .before .before .before .before .before .before .before .before .before .before .before .before .before .before .before .before .before .before .before .args .r))) (c .before .before .before .before .before .before .before .before .before .before .before .before .before .before .before .before .before .before .before .before .before .before .before .before .before .gate-at .ensures)) (c .before .before .before .before .before .before .before .before .before .before .before .before .before .before .before .before .before .before .before .before .send-all .ensures .1)
 
 same-length-3 : tie.Need-same-length-3
-same-length-3 c = search needs
+same-length-3 c = c .before .before .before .before .before .before .before .before .before .before .before .before .before .release .kept .1 .1 .1 .1 .1 .0
 
 returns : tie.Need-returns
-unfolding siteOf
-returns c = round-turned (c .before .before .before .before .before .before .before .before .before .before .before .before .before .before .before .before .before .before .before .before .before .before .before .before .before .before .before .before .before .before .before .before .before .before .before .before .pre) (c .before .before .before .before .before .before .before .before .before .before .before .before .before .before .before .before .before .before .before .before .before .before .before .before .before .site-of .ensures) (c .before .before .before .before .before .before .before .before .before .before .before .before .before .before .before .before .before .before .before .before .before .before .before .words-in .ensures ∙ ap (λ (g : Gate). words g (roundOf (c .before .before .before .before .before .before .before .before .before .before .before .before .before .before .before .before .before .before .before .before .before .before .before .before .before .before .before .before .before .before .before .before .before .before .before .before .args .r))) (c .before .before .before .before .before .before .before .before .before .before .before .before .before .before .before .before .before .before .before .before .before .before .before .before .gate-at .ensures)) (c .before .before .before .before .before .before .before .before .before .before .before .before .before .before .before .before .before .before .before .send-all .ensures .1) (c .before .before .before .before .before .before .receive-all .result) (c .before .before .before .before .before .before .receive-all .ensures .0) _ (c .before .before .before .before .before .before .before .before .before .before .before .before .before .before .before .before .before .before .before .send-all .ensures .0) (c .before .before .before .before .before .before .receive-all .ensures .1) _ (c .before .before .before .advance .ensures) (c .before .before .coefficients-in .ensures) (c .before .before .before .before .before .before .before .before .before .before .before .before .release .ensures)
+returns c = round-turned (c .before .before .before .before .before .before .before .before .before .before .before .before .before .before .before .before .before .before .before .before .before .before .before .before .before .before .before .before .before .before .before .before .before .before .before .before .pre) (c .before .before .before .before .before .before .before .before .before .before .before .before .before .before .before .before .before .before .before .before .before .before .before .before .words-in .ensures ∙ ap (λ (g : Gate). words g (roundOf (c .before .before .before .before .before .before .before .before .before .before .before .before .before .before .before .before .before .before .before .before .before .before .before .before .before .before .before .before .before .before .before .before .before .before .before .before .args .r))) (c .before .before .before .before .before .before .before .before .before .before .before .before .before .before .before .before .before .before .before .before .before .before .before .before .before .gate-at .ensures)) (c .before .before .before .before .before .before .before .before .before .before .before .before .before .before .before .before .before .before .before .before .send-all .ensures .1) (c .before .before .before .before .before .before .before .receive-all .result) (c .before .before .before .before .before .before .before .receive-all .ensures .0) _ (c .before .before .before .before .before .before .before .before .before .before .before .before .before .before .before .before .before .before .before .before .send-all .ensures .0) (c .before .before .before .before .before .before .before .receive-all .ensures .1) _ (c .before .before .before .before .tally-between .ensures) _ (c .before .before .before .count-inputs .ensures) (c .before .before .coefficients-in .ensures) (c .before .before .before .before .before .before .before .before .before .before .before .before .before .release .ensures)
 
 pub one-round-spec : {M : Type 1} → statement M
 one-round-spec =
     tie.close
     (tie.spec
-    array-copy-out-t
-    site-of-requires
     gate-at-requires
     words-in-requires
     mul-end
@@ -140,10 +118,11 @@ one-round-spec =
     part-receive-all-start
     part-receive-all-end
     receive-all-requires
-    advance-requires
+    tally-between-requires
+    count-inputs-requires
     coefficients-in-requires
     add-used
-    add-t27
+    add-t24
     same-length
     same-length-2
     same-length-3

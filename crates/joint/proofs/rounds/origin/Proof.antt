@@ -2,11 +2,10 @@
 -- Assumes nothing.
 use mathlib.Core.Path.{refl}
 use borrow.Author.Needs.{needs}
-use Rattle.circuit.specs.declared.Tally.{Tally}
-use Rattle.circuit.specs.Code.{roundOf, Tallied}
+use Rattle.circuit.specs.Code.{roundOf}
 use Rattle.party.specs.Code.{pointOf, stageOf}
 use Rattle.party.specs.Ask.{mostParties}
-use Rattle.joint.proofs.Arrays.{same-each, zeros}
+use Rattle.joint.proofs.Arrays.{zeros, counted-none}
 use Rattle.joint.proofs.rounds.origin.Statement.{statement}
 use Rattle.joint.proofs.rounds.origin.Tie as tie
 
@@ -17,8 +16,8 @@ returns : tie.Need-returns
 unfolding pointOf stageOf roundOf
 returns c = record {
   point = refl;
-  eight = refl;
-  tallied = λ cs i h. same-each (λ (t : Tally). Tallied cs i 0 t) _ (c .no-tally .result) (c .no-tally .ensures cs i) mostParties i h;
+  tallied = λ cs. c .no-tally .ensures cs 0;
+  counted = counted-none;
   held = zeros mostParties;
   used = refl;
   written = refl;
