@@ -12,16 +12,16 @@ use lib.Seq.{getD-set-same, getD-set-other}
 use lib.Dec.{eqb}
 use borrow.Author.Tests.{eq-eqb, ne-eqb}
 use Rattle.field.specs.Prime.{p}
-use Rattle.circuit.specs.Gate.{Gate, In, Add, Sub, Plus, Times, Mul, Out, kind, first, gate, gates}
+use Rattle.circuit.specs.Gate.{first, gate, gates}
 use Rattle.circuit.specs.Kind.{isIn, ownedBy}
 use Rattle.circuit.specs.Count.{total, count, inputAt, inputCount}
 use Rattle.circuit.specs.Accept.{mostGates}
-use Rattle.circuit.specs.Valid.{Names, Valid}
+use Rattle.circuit.specs.Valid.{Valid}
 use Rattle.circuit.specs.Code.{Tallied}
 use Rattle.circuit.specs.declared.Tally.{Tally}
-use Rattle.circuit.proofs.Tests.{false-no}
 use Rattle.circuit.proofs.Counts.{input-more, input-le, in-count-le}
 use Rattle.party.specs.Ask.{mostParties}
+use Rattle.party.proofs.HeardWords.{owner-low}
 use Rattle.joint.specs.Joint.{inputsAt}
 use Rattle.joint.specs.Code.{Counted}
 use Rattle.joint.proofs.Inputs.{inputs-all, starts-suc, starts-mono}
@@ -80,21 +80,11 @@ module _ {n : ℕ} {c : List ℕ} {counts : List ℕ} {j : ℕ} (k : Counted n c
       record { eight = k .eight; each = λ i h. let z : inputAt c i (j + 1) ≡ inputAt c i j + 0 = rw e at (input-more c i j) in omega (arith, z, k .each i h) }
 
   module _ (v : Valid n p c) (few : n ≤ mostParties) (h : j < gates c) (e : isIn (gate c j) ≡ true) {s : ℕ} (es : s ≡ first (gate c j)) where
-    pub owner-low : s < n
-    unfolding isIn kind first
-    owner-low = rw es (go (gate c j) e (v .each j h .names))
-      where
-        go : (g : Gate) → isIn g ≡ true → Names n p c j g → first g < n
-        go (In s) e m = m
-        go (Add x y) e m = false-no e
-        go (Sub x y) e m = false-no e
-        go (Plus x k) e m = false-no e
-        go (Times x k) e m = false-no e
-        go (Mul x y) e m = false-no e
-        go (Out x) e m = false-no e
+    pub owner-party : s < n
+    owner-party = rw es (owner-low v h e)
 
     pub owner-few : getD counts s 0 ≤ mostGates
-    owner-few = omega (arith, k .each s owner-low, input-le c s j, v .few)
+    owner-few = omega (arith, k .each s owner-party, input-le c s j, v .few)
 
     pub counted-in : Counted n c (j + 1) (set counts s (getD counts s 0 + 1))
     unfolding ownedBy
@@ -110,7 +100,7 @@ module _ {n : ℕ} {c : List ℕ} {counts : List ℕ} {j : ℕ} (k : Counted n c
         go : (i : ℕ) → i < n → Dec (i ≡ s) → getD (set counts s (getD counts s 0 + 1)) i 0 ≡ inputAt c i (j + 1)
         go i l (yes d) =
             let z : inputAt c i (j + 1) ≡ inputAt c i j + 1 = rw (eq-eqb s i (sym d)) at (adds i) in
-            rw d (getD-set-same counts s (getD counts s 0 + 1) 0 (omega (arith, k .eight, owner-low)) ∙ omega (arith, k .each s owner-low, rw d at z))
+            rw d (getD-set-same counts s (getD counts s 0 + 1) 0 (omega (arith, k .eight, owner-party)) ∙ omega (arith, k .each s owner-party, rw d at z))
         go i l (no d) =
             let z : inputAt c i (j + 1) ≡ inputAt c i j + 0 = rw (ne-eqb s i (λ q. d (sym q))) at (adds i) in
             getD-set-other counts s i (getD counts s 0 + 1) 0 d ∙ omega (arith, k .each i l, z)

@@ -9,11 +9,11 @@ use borrow.Rule.Slice.PartMut.{putMid}
 use Rattle.field.specs.Prime.{prime, Is}
 use Rattle.circuit.specs.Gate.{gateSize, gate}
 use Rattle.circuit.specs.Round.{Round, words}
-use Rattle.party.specs.Receive.{next, received}
+use Rattle.party.specs.Receive.{received}
 use Rattle.party.specs.Entry.{overwrite}
-use Rattle.party.specs.declared.Point.{Point}
 use Rattle.party.specs.Ask.{mostParties}
-use Rattle.party.specs.Code.{pointOf, Receives}
+use Rattle.party.specs.Code.{pointOf, Stands, Receives, Hears}
+use Rattle.party.proofs.Received.{hears, stands}
 use Rattle.party.proofs.Keeping.{received-stands}
 use Rattle.joint.specs.Joint.{Joint, joined, band, party}
 use Rattle.joint.specs.Run.{said, step}
@@ -90,45 +90,50 @@ module _ (J : Joint) (f : Frame) (s : Course) (r : Round) (l : List ℕ) where
             ∙ append-nil (joined (J .parties) (saidBy J (stateOf f s l) r))
 
 module _ (J : Joint) (f : Frame) (s : Course) (r : Round) (heard l₀ : List ℕ) where
-  -- the parties before i have received, and came to the point x
-  pub record Receiving (l : List ℕ) (x : Point) (a i : ℕ) : Type 0 where
-    pub filled : Filled (J .parties) (f .scratch) (receivedBy J (stateOf f s l₀) r heard) l₀ l i a
-    pub point : 0 < i → pointOf x ≡ next prime (J .parties) (J .circuit) (s .point .gate) r heard
+  -- the parties before i have received
+  abbrev pub Receiving : List ℕ → ℕ → ℕ → Type 0
+  Receiving l a i = Filled (J .parties) (f .scratch) (receivedBy J (stateOf f s l₀) r heard) l₀ l i a
 
-  pub receiving-start : (x : Point) → Receiving l₀ x 0 0
-  receiving-start x =
-      record { filled = filled-start (J .parties) (f .scratch) (receivedBy J (stateOf f s l₀) r heard) l₀; point = λ h. absurd (omega arith) }
+  pub receiving-start : Receiving l₀ 0 0
+  receiving-start = filled-start (J .parties) (f .scratch) (receivedBy J (stateOf f s l₀) r heard) l₀
 
   module _ (long : J .parties * f .scratch ≤ length l₀)
       (asks : (i : ℕ) → i < J .parties → Receives (party J i) (band (f .scratch) l₀ i) (f .layout) (siteOf s i) r heard) where
+    -- the words can be summed, and the next stop found
+    module _ (some : 0 < J .parties) where
+      pub all-hear : Hears (J .parties) (J .circuit) (s .point .gate) r heard
+      unfolding siteOf party
+      all-hear = hears (party J 0) (band (f .scratch) l₀ 0) (f .layout) (siteOf s 0) heard (asks 0 some)
+
+      pub all-stand : Stands (J .circuit) (f .layout .gates) (s .point .gate) (s .tally .unchecked)
+      unfolding siteOf party
+      all-stand = stands (party J 0) (band (f .scratch) l₀ 0) (f .layout) (siteOf s 0) heard (asks 0 some .ready)
+
     pub each-band : (i : ℕ) → i < J .parties → length (receivedBy J (stateOf f s l₀) r heard i) ≡ f .scratch
     unfolding stateOf siteOf pointOf
     each-band i h =
         received-stands (party J i) (band (f .scratch) l₀ i) (f .layout) (siteOf s i) heard r (asks i h .ready) .len
         ∙ length-band (f .scratch) (J .parties) l₀ long i h
 
-    module _ {l : List ℕ} {x : Point} {a i : ℕ} (inv : Receiving l x a i) where
+    module _ {l : List ℕ} {a i : ℕ} (inv : Receiving l a i) where
       pub receiving-length : length l ≡ length l₀
-      receiving-length = filled-length (J .parties) (f .scratch) (receivedBy J (stateOf f s l₀) r heard) l₀ long each-band (inv .filled)
+      receiving-length = filled-length (J .parties) (f .scratch) (receivedBy J (stateOf f s l₀) r heard) l₀ long each-band inv
 
       pub receiving-fits : i < J .parties → a + f .scratch ≤ length l
-      receiving-fits h = filled-fits (J .parties) (f .scratch) (receivedBy J (stateOf f s l₀) r heard) l₀ long each-band (inv .filled) h
+      receiving-fits h = filled-fits (J .parties) (f .scratch) (receivedBy J (stateOf f s l₀) r heard) l₀ long each-band inv h
 
       part-is : i < J .parties → take (a + f .scratch - a) (drop a l) ≡ band (f .scratch) l₀ i
-      part-is h = filled-part (J .parties) (f .scratch) (receivedBy J (stateOf f s l₀) r heard) l₀ long each-band (inv .filled) h
+      part-is h = filled-part (J .parties) (f .scratch) (receivedBy J (stateOf f s l₀) r heard) l₀ long each-band inv h
 
       pub receiving-asks : i < J .parties → Receives (party J i) (take (a + f .scratch - a) (drop a l)) (f .layout) (siteOf s i) r heard
       receiving-asks h = rw (part-is h) (asks i h)
 
-      pub receiving-again : i < J .parties → {x′ : Point} → pointOf x′ ≡ next prime (J .parties) (J .circuit) (s .point .gate) r heard → {ys : List ℕ}
+      pub receiving-again : i < J .parties → {ys : List ℕ}
           → ys ≡ received prime (party J i) (take (a + f .scratch - a) (drop a l)) (s .point .gate) r heard
-          → Receiving (putMid a (a + f .scratch - a) l ys) x′ (a + f .scratch) (i + 1)
+          → Receiving (putMid a (a + f .scratch - a) l ys) (a + f .scratch) (i + 1)
       unfolding stateOf pointOf
-      receiving-again h d e =
-          record {
-            filled = filled-again (J .parties) (f .scratch) (receivedBy J (stateOf f s l₀) r heard) l₀ long each-band (inv .filled) h (e ∙ rw (part-is h));
-            point = λ z. d;
-          }
+      receiving-again h e =
+          filled-again (J .parties) (f .scratch) (receivedBy J (stateOf f s l₀) r heard) l₀ long each-band inv h (e ∙ rw (part-is h))
 
       pub receiving-done : J .parties ≤ i → l ≡ joined (J .parties) (receivedBy J (stateOf f s l₀) r heard) ++ drop (J .parties * f .scratch) l₀
-      receiving-done h = filled-done (J .parties) (f .scratch) (receivedBy J (stateOf f s l₀) r heard) l₀ long each-band (inv .filled) h
+      receiving-done h = filled-done (J .parties) (f .scratch) (receivedBy J (stateOf f s l₀) r heard) l₀ long each-band inv h

@@ -8,16 +8,15 @@ use native.Mathlib.Omega.{arith}
 use lib.ListN.{length, getD, take, drop, length-drop}
 use lib.Seq.{length-take-le}
 use Rattle.field.specs.Prime.{prime, Is}
-use Rattle.circuit.specs.Gate.{gate}
+use Rattle.circuit.specs.Gate.{Gate, gate, first, second}
 use Rattle.circuit.specs.Count.{unchecked}
 use Rattle.circuit.specs.Round.{Round, words, coefficientsIn}
-use Rattle.party.specs.Position.{Point}
 use Rattle.party.specs.Party.{Party}
 use Rattle.party.specs.Send.{sent, holds}
-use Rattle.party.specs.Receive.{next, received}
+use Rattle.party.specs.Receive.{received}
 use Rattle.party.specs.Entry.{overwrite}
 use Rattle.party.specs.declared.Site.{Site}
-use Rattle.party.specs.Code.{pointOf, Sends, Receives}
+use Rattle.party.specs.Code.{pointOf, Sends, Receives, Named, Summed}
 use Rattle.joint.specs.Joint.{Joint, band, party}
 use Rattle.joint.specs.Run.{takes, step}
 use Rattle.joint.specs.declared.Frame.{Frame}
@@ -102,10 +101,14 @@ module _ {J : Joint} {f : Frame} (t : Lent J f) (s : Course) (r : Round) (l hear
   turn-receives w = rw e (subst (λ (P : Party). Receives P l (f .layout) (siteOf s i) r heard) (sym (party-is t i h)) w)
 
   -- and what it leaves
-  pub turn-point : {x : Point} → x ≡ next prime (f .parties) (J .circuit) (at .gate) r heard → x ≡ next prime (f .parties) (J .circuit) (s .point .gate) r heard
-  unfolding siteOf
-  turn-point w = w ∙ rw e
-
   pub turn-leaves : {l′ : List ℕ} → l′ ≡ received prime (lentTo J f i) l (at .gate) r heard → l′ ≡ received prime (party J i) l (s .point .gate) r heard
   unfolding siteOf
   turn-leaves w = w ∙ ap (λ (P : Party). received prime P l (at .gate) r heard) (party-is t i h) ∙ rw e
+
+  pub turn-named : {x z : ℕ} {g : Gate} → g ≡ gate (J .circuit) (s .point .gate) → x ≡ first g → z ≡ second g → Named (gate (J .circuit) (at .gate)) x z
+  unfolding siteOf
+  turn-named eg ex ez = rw e (record { first = ex ∙ ap first eg; second = ez ∙ ap second eg })
+
+  pub turn-summed : {v w : ℕ} → Summed (f .parties) (gate (J .circuit) (s .point .gate)) r heard v w → Summed (f .parties) (gate (J .circuit) (at .gate)) r heard v w
+  unfolding siteOf
+  turn-summed k = rw e k

@@ -25,7 +25,7 @@ ghost use Rattle.party.specs.Ask.{mostParties};
 ghost use Rattle.party.specs.Send.{sent, holds};
 ghost use Rattle.party.specs.Receive.{next, received};
 ghost use Rattle.party.specs.Entry.{releases, overwrite};
-ghost use Rattle.party.specs.Code.{stageOf, pointOf, Below, Sends, Receives};
+ghost use Rattle.party.specs.Code.{stageOf, pointOf, Below, Sends, Receives, Named, Summed};
 ghost use Rattle.joint.specs.Joint.{joined, band, party};
 ghost use Rattle.joint.specs.Run.{said, step};
 ghost use Rattle.joint.specs.Entry.{ended};
@@ -147,8 +147,8 @@ fn send_all(
     held
 }
 
-// Party i receives the words of all; l is its band of the scratch. Of the joined lists a party has that many numbers of the
-// preprocessing, and its inputs stand from a to b.
+// Party i receives the words of all, which come to e and d; l is its band of the scratch, and the gate names x and z. Of the joined lists
+// a party has that many numbers of the preprocessing, and its inputs stand from a to b.
 fn receive_one(
     parties: usize,
     i: usize,
@@ -157,19 +157,23 @@ fn receive_one(
     a: usize,
     b: usize,
     at: Site,
+    x: usize,
+    z: usize,
     r: Round,
     c: &[u32],
     preps: &[u32],
     inputs: &[u32],
     l: &mut [u32],
     heard: &[u32],
-) -> Point
-    requires { ⌜ (i * prep + prep ≤ length (now preps)) × (a ≤ b) × (b ≤ length (now inputs)) × Receives (lentFrom parties i (now c) prep (now preps) a b (now inputs)) (now l) y at (roundOf r) (now heard) ⌝ }
-    ensures { λ x. ⌜ (pointOf x ≡ next prime parties (now (c .entry)) (at .gate) (roundOf r) (now (heard .entry))) × (now (l .exit) ≡ received prime (lentFrom parties i (now (c .entry)) prep (now (preps .entry)) a b (now (inputs .entry))) (now (l .entry)) (at .gate) (roundOf r) (now (heard .entry))) ⌝ }
+    e: u32,
+    d: u32,
+)
+    requires { ⌜ (i * prep + prep ≤ length (now preps)) × (a ≤ b) × (b ≤ length (now inputs)) × Receives (lentFrom parties i (now c) prep (now preps) a b (now inputs)) (now l) y at (roundOf r) (now heard) × Named (gate (now c) (at .gate)) x z × Summed parties (gate (now c) (at .gate)) (roundOf r) (now heard) e d ⌝ }
+    ensures { λ u. ⌜ now (l .exit) ≡ received prime (lentFrom parties i (now (c .entry)) prep (now (preps .entry)) a b (now (inputs .entry))) (now (l .entry)) (at .gate) (roundOf r) (now (heard .entry)) ⌝ }
 {
     let m = i * prep;
     let n = m + prep;
-    party::receiving::receive_step(
+    party::receiving::receive_summed(
         parties,
         i,
         c,
@@ -178,12 +182,17 @@ fn receive_one(
         l,
         y,
         at,
+        x,
+        z,
         r,
         heard,
-    )
+        e,
+        d,
+    );
 }
 
-// Every party receives the words of all, and is lent its own band of the scratch. All come to the same point.
+// Every party receives the words of all, and is lent its own band of the scratch. All come to the same point, which is found once, as is
+// what the words come to.
 fn receive_all(
     f: Frame,
     s: Course,
@@ -197,10 +206,26 @@ fn receive_all(
     requires { ⌜ Lent (jointOf (f .parties) (now c) (now preps) (now inputs) []) f × (f .parties * f .scratch ≤ length (now scratch)) × ((i : ℕ) → i < f .parties → Receives (party (jointOf (f .parties) (now c) (now preps) (now inputs) []) i) (band (f .scratch) (now scratch) i) (f .layout) (siteOf s i) (roundOf r) (now heard)) ⌝ }
     ensures { λ x. ⌜ (pointOf x ≡ next prime (f .parties) (now (c .entry)) (s .point .gate) (roundOf r) (now (heard .entry))) × (now (scratch .exit) ≡ joined (f .parties) (receivedBy (jointOf (f .parties) (now (c .entry)) (now (preps .entry)) (now (inputs .entry)) []) (stateOf f s (now (scratch .entry))) (roundOf r) (now (heard .entry))) ++ drop (f .parties * f .scratch) (now (scratch .entry))) ⌝ }
 {
-    let mut point = s.point;
+    let from = s.point;
+    let gate = from.gate;
     let t = s.tally;
     let counts = s.inputs;
     let starts = f.starts;
+    let y = f.layout;
+    let g = circuit::gate_at(c, gate);
+    let x = circuit::first_of(g);
+    let z = circuit::second_of(g);
+    let w = party::receiving::heard_of(f.parties, c, gate, r, heard);
+    let point = party::receiving::next_point(
+        f.parties,
+        c,
+        y.gates,
+        gate,
+        t.unchecked,
+        r,
+        heard,
+        w.first,
+    );
     let mut start = 0;
     let mut i = 0;
     while i < f.parties {
@@ -209,20 +234,24 @@ fn receive_all(
         let at = site_of(here.gate, t, counts[i]);
         let first = starts[i];
         let last = starts[i + 1];
-        point = receive_one(
+        receive_one(
             f.parties,
             i,
-            f.layout,
+            y,
             f.prep,
             first,
             last,
             at,
+            x,
+            z,
             r,
             c,
             preps,
             inputs,
             &mut scratch[start..end],
             heard,
+            w.first,
+            w.second,
         );
         start = end;
         i += 1;

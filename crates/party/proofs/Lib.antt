@@ -8,6 +8,7 @@ pub mod Settling
 pub mod Summing
 pub mod Steps
 pub mod Readiness
+pub mod HeardWords
 pub mod Sent
 pub mod Received
 pub mod Keeping

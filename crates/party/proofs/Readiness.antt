@@ -23,7 +23,7 @@ use Rattle.party.specs.Receive.{afterInput, afterMultiply}
 use Rattle.party.specs.declared.Part.{Part}
 use Rattle.party.specs.declared.Layout.{Layout}
 use Rattle.party.specs.declared.Site.{Site}
-use Rattle.party.specs.Code.{partOf, IsPart, layoutOf, Below, Held, Worked, Multiplies, Resumes, Ready}
+use Rattle.party.specs.Code.{partOf, IsPart, layoutOf, Below, Held, Worked, Multiplies, Settles, Ready}
 use Rattle.party.proofs.Following.{unchecked-reach}
 use Rattle.party.proofs.Writing.{OpenedTo, worked-skip}
 use Rattle.party.proofs.Steps.{input-keeps, multiply-keeps}
@@ -109,25 +109,22 @@ module _ (P : Party) (l : List ℕ) (y : Layout) (at : Site) where
     part-low e = part-below (at .prep) (P .prep) e (k .prep-low)
 
     -- what the linear gates ask once gate j is done
-    pub resumes : (l′ : List ℕ)
+    pub settles : (l′ : List ℕ)
         → length l′ ≡ length l
         → Worked (P .circuit) (layoutOf y) l′ (suc (at .gate))
-        → Resumes (P .circuit) (layoutOf y) (getD (P .prep) 0 0) l′ (at .gate) (at .unchecked)
+        → Settles (P .circuit) (layoutOf y) (getD (P .prep) 0 0) l′ (at .gate + 1)
     unfolding layoutOf
-    resumes l′ e w =
-        record {
-          settles =
-              record {
-                parties = P .parties;
-                valid = k .valid;
-                count = lay-gates (k .lay);
-                key-low = k .prep-low 0;
-                room = rw e room-there;
-                upto = within-there;
-                worked = w;
-              };
-          waits = k .sited .unchecked;
-        }
+    settles l′ e w =
+        rw (add-one)
+        (record {
+          parties = P .parties;
+          valid = k .valid;
+          count = lay-gates (k .lay);
+          key-low = k .prep-low 0;
+          room = rw e room-there;
+          upto = within-there;
+          worked = w;
+        })
 
   module _ (k : Ready P l y at Input) where
     pub input-record : shape (gate (P .circuit) (at .gate)) .prep ≡ 3
@@ -138,21 +135,13 @@ module _ (P : Party) (l : List ℕ) (y : Layout) (at : Site) where
     unfolding words shape
     input-words = rw (gate-of Input k .1)
 
-    -- the owner is a party
-    pub owner-low : first (gate (P .circuit) (at .gate)) < P .parties
-    unfolding first
-    owner-low = go (gate-of Input k .1) (names Input k)
-      where
-        go : {g : Gate} {s : ℕ} → g ≡ In s → Names (P .parties) p (P .circuit) (at .gate) g → first g < P .parties
-        go e m = rw e (rw e at m)
-
-    pub input-resumes : (i : ℕ) (m : List ℕ) (e : ℕ) {l′ : List ℕ}
+    pub input-settles : (i : ℕ) (m : List ℕ) (e : ℕ) {l′ : List ℕ}
         → l′ ≡ afterInput prime i (getD (P .prep) 0 0) (layoutOf y) l (at .gate) m e
-        → Resumes (P .circuit) (layoutOf y) (getD (P .prep) 0 0) l′ (at .gate) (at .unchecked)
+        → Settles (P .circuit) (layoutOf y) (getD (P .prep) 0 0) l′ (at .gate + 1)
     unfolding layoutOf
-    input-resumes i m e d =
+    input-settles i m e d =
         let s = input-keeps (P .circuit) (layoutOf y) l (at .gate) (room-there Input k) (worked-there Input k) 0 i (getD (P .prep) 0 0) m e (within-there Input k) (λ t z. absurd (omega arith)) in
-        rw d (resumes Input k _ (s .len) (s .worked))
+        rw d (settles Input k _ (s .len) (s .worked))
 
   module _ (k : Ready P l y at Multiply) where
     pub multiply-record : shape (gate (P .circuit) (at .gate)) .prep ≡ 6
@@ -195,15 +184,15 @@ module _ (P : Party) (l : List ℕ) (y : Layout) (at : Site) where
           entries = multiply-entries;
         }
 
-    pub multiply-resumes : (i x z : ℕ) (m : List ℕ) (e d : ℕ) {l′ : List ℕ}
+    pub multiply-settles : (i x z : ℕ) (m : List ℕ) (e d : ℕ) {l′ : List ℕ}
         → e < p
         → d < p
         → l′ ≡ afterMultiply prime i (getD (P .prep) 0 0) (layoutOf y) l (at .gate) x z m (at .unchecked) e d
-        → Resumes (P .circuit) (layoutOf y) (getD (P .prep) 0 0) l′ (at .gate) (at .unchecked)
+        → Settles (P .circuit) (layoutOf y) (getD (P .prep) 0 0) l′ (at .gate + 1)
     unfolding layoutOf openedIn
-    multiply-resumes i x z m e d le ld f =
+    multiply-settles i x z m e d le ld f =
         let s = multiply-keeps (P .circuit) (layoutOf y) l (at .gate) (room-there Multiply k) (worked-there Multiply k) i (getD (P .prep) 0 0) x z m (at .unchecked) e d (within-there Multiply k) multiply-entries le ld (rw (k .sited .unchecked) (opened-there Multiply k)) in
-        rw f (resumes Multiply k _ (s .len) (s .worked))
+        rw f (settles Multiply k _ (s .len) (s .worked))
 
   module _ (k : Ready P l y at OpenOutput) where
     pub output-words : words (gate (P .circuit) (at .gate)) OpenOutput ≡ 1
@@ -215,10 +204,10 @@ module _ (P : Party) (l : List ℕ) (y : Layout) (at : Site) where
         output-reads (P .parties) (P .circuit) (layoutOf y) l (at .gate) (names OpenOutput k) (worked-there OpenOutput k) _ (gate-of OpenOutput k .1)
 
   -- an out gate has no value to be worked out
-  pub output-resumes : Ready P l y at RevealOutput → Resumes (P .circuit) (layoutOf y) (getD (P .prep) 0 0) l (at .gate) (at .unchecked)
+  pub output-settles : Ready P l y at RevealOutput → Settles (P .circuit) (layoutOf y) (getD (P .prep) 0 0) l (at .gate + 1)
   unfolding hasValue
-  output-resumes k =
-      resumes RevealOutput k l refl
+  output-settles k =
+      settles RevealOutput k l refl
       (worked-skip (layoutOf y) l (P .circuit) (at .gate) (rw (gate-of RevealOutput k .1)) (worked-there RevealOutput k))
 
 -- what waits at the next stop is what waits after the gate

@@ -103,11 +103,10 @@ module _ (c : List ℕ) (y : Layout) (i key : ℕ) where
     pub len : length l ≡ length l₀
     pub worked : Worked c y l j
     pub same : settle prime i key c y (y .gates - b) b l₀ ≡ settle prime i key c y (y .gates - j) j l
-    pub place : reach c (y .gates - b) b ≡ reach c (y .gates - j) j
 
   module _ (b : ℕ) (l₀ : List ℕ) where
     pub settling-start : Settles c y key l₀ b → Settling b l₀ b l₀
-    settling-start s = record { upto = s .upto; len = refl; worked = s .worked; same = refl; place = refl }
+    settling-start s = record { upto = s .upto; len = refl; worked = s .worked; same = refl }
 
     module _ (j : ℕ) (l : List ℕ) (inv : Settling b l₀ j l) where
       left : j < y .gates → y .gates - j ≡ suc (y .gates - (j + 1))
@@ -124,7 +123,7 @@ module _ (c : List ℕ) (y : Layout) (i key : ℕ) where
           → {l′ : List ℕ}
           → l′ ≡ afterLinear prime i key y l j (gate c j)
           → Settling b l₀ (j + 1) l′
-      unfolding settle reach
+      unfolding settle
       settling-again room h e f =
           let k = written-keeps c y 0 l j _ (linear-written i key y l j (gate c j) e) (rw (inv .len) room) h (inv .worked) (λ t z. absurd (omega arith)) in
           record {
@@ -132,15 +131,39 @@ module _ (c : List ℕ) (y : Layout) (i key : ℕ) where
             len = rw f (k .len ∙ inv .len);
             worked = rw (add-one, f) (k .worked);
             same = inv .same ∙ rw (left h, e, f, add-one);
-            place = inv .place ∙ rw (left h, e, add-one);
           }
 
       pub settling-stop : j < y .gates
           → isLinear (gate c j) ≡ false
-          → (j ≡ reach c (y .gates - b) b) × (l ≡ settle prime i key c y (y .gates - b) b l₀)
-      unfolding settle reach
-      settling-stop h e = (rw (inv .place, left h, e), rw (inv .same, left h, e))
+          → l ≡ settle prime i key c y (y .gates - b) b l₀
+      unfolding settle
+      settling-stop h e = rw (inv .same, left h, e)
 
-      pub settling-done : y .gates ≤ j → (j ≡ reach c (y .gates - b) b) × (l ≡ settle prime i key c y (y .gates - b) b l₀)
-      unfolding settle reach
-      settling-done h = let z : y .gates - j ≡ 0 = omega arith in (rw (inv .place, z), rw (inv .same, z))
+      pub settling-done : y .gates ≤ j → l ≡ settle prime i key c y (y .gates - b) b l₀
+      unfolding settle
+      settling-done h = let z : y .gates - j ≡ 0 = omega arith in rw (inv .same, z)
+
+-- the linear gates began at gate b of the first n, and gate j is next
+pub record Reaching (c : List ℕ) (n b j : ℕ) : Type 0 where
+  pub upto : j ≤ n
+  pub place : reach c (n - b) b ≡ reach c (n - j) j
+
+module _ (c : List ℕ) (n b : ℕ) where
+  pub reaching-start : b ≤ n → Reaching c n b b
+  reaching-start h = record { upto = h; place = refl }
+
+  module _ (j : ℕ) (inv : Reaching c n b j) where
+    remain : j < n → n - j ≡ suc (n - (j + 1))
+    remain h = omega arith
+
+    pub reaching-again : j < n → isLinear (gate c j) ≡ true → Reaching c n b (j + 1)
+    unfolding reach
+    reaching-again h e = record { upto = omega arith; place = inv .place ∙ rw (remain h, e, add-one) }
+
+    pub reaching-stop : j < n → isLinear (gate c j) ≡ false → j ≡ reach c (n - b) b
+    unfolding reach
+    reaching-stop h e = rw (inv .place, remain h, e)
+
+    pub reaching-done : n ≤ j → j ≡ reach c (n - b) b
+    unfolding reach
+    reaching-done h = let z : n - j ≡ 0 = omega arith in rw (inv .place, z)

@@ -5,10 +5,10 @@ use mathlib.Core.Path.{_≡_}
 use mathlib.Core.Bool.{Bool, true, cond}
 use mathlib.Core.List.{List}
 use lib.ListN.{length, getD}
-use Rattle.field.specs.Prime.{p}
+use Rattle.field.specs.Prime.{p, prime, Is}
 use Rattle.circuit.specs.Verdict as Q
-use Rattle.circuit.specs.Gate.{gateSize, Gate, In, Add, Sub, Plus, Times, Mul, Out, gate, gates}
-use Rattle.circuit.specs.Kind.{hasValue}
+use Rattle.circuit.specs.Gate.{gateSize, Gate, In, Add, Sub, Plus, Times, Mul, Out, gate, gates, first, second}
+use Rattle.circuit.specs.Kind.{hasValue, isIn, isMul}
 use Rattle.circuit.specs.Count.{prepAt, prepSize, capacity, inputAt, inputCount, unchecked}
 use Rattle.circuit.specs.Round.{Round, rounds, among, words, openedIn, coefficientsIn}
 use Rattle.circuit.specs.Accept.{mostGates}
@@ -19,6 +19,7 @@ use Rattle.party.specs.Scratch as S
 use Rattle.party.specs.Position as P
 use Rattle.party.specs.Position.{occurs}
 use Rattle.party.specs.Party.{Party}
+use Rattle.party.specs.Receive.{heardSum}
 use Rattle.party.specs.Ask.{askLent}
 use Rattle.party.specs.Entry as E
 use Rattle.party.specs.declared.Part.{Part}
@@ -151,9 +152,12 @@ pub record Settles (c : List ℕ) (y : S.Layout) (key : ℕ) (l : List ℕ) (j :
   pub upto : j ≤ y .gates
   pub worked : Worked c y l j
 
--- what going on after gate j asks, before which that many entries waited for a check
-pub record Resumes (c : List ℕ) (y : S.Layout) (key : ℕ) (l : List ℕ) (j waiting : ℕ) : Type 0 where
-  pub settles : Settles c y key l (suc j)
+-- what finding the stop after gate j asks: count gates, and that many entries that waited for a check before gate j
+pub record Stands (c : List ℕ) (count j waiting : ℕ) : Type 0 where
+  pub all : count ≡ gates c
+  pub whole : gateSize * count ≤ length c
+  pub few : count ≤ mostGates
+  pub within : j < count
   pub waits : waiting ≡ unchecked c j
 
 -- where gate j's numbers stand: its record, the unchecked entries before it, the party's input for it
@@ -189,6 +193,31 @@ pub record Receives (P : Party) (l : List ℕ) (y : Layout) (at : Site) (r : Rou
   pub ready : Ready P l y at r
   pub whole : length heard ≡ P .parties * words (gate (P .circuit) (at .gate)) r
   pub heard-low : Below heard
+
+-- gate g names x and z
+pub record Named (g : Gate) (x z : ℕ) : Type 0 where
+  pub first : x ≡ first g
+  pub second : z ≡ second g
+
+-- what summing the words of n parties in round r of gate j asks
+pub record Hears (n : ℕ) (c : List ℕ) (j : ℕ) (r : Round) (heard : List ℕ) : Type 0 where
+  pub valid : Valid n p c
+  pub within : j < gates c
+  pub occurs : among r (rounds c j) ≡ true
+  pub whole : length heard ≡ n * words (gate c j) r
+  pub heard-low : Below heard
+
+-- what the words of n parties come to in round r of gate g: the owner's word of an in gate, else the sum of the first words
+unfoldable pub heardFirst : ℕ → Gate → Round → List ℕ → ℕ
+heardFirst n g r heard = cond (isIn g) (getD heard (first g * words g r) 0) (heardSum prime n (words g r) 0 heard)
+
+-- and the sum of a mul gate's second words
+unfoldable pub heardSecond : ℕ → Gate → Round → List ℕ → ℕ
+heardSecond n g r heard = cond (isMul g) (heardSum prime n (words g r) 1 heard) 0
+
+pub record Summed (n : ℕ) (g : Gate) (r : Round) (heard : List ℕ) (e d : ℕ) : Type 0 where
+  pub first : Is (heardFirst n g r heard) e
+  pub second : Is (heardSecond n g r heard) d
 
 -- what a question about the scratch asks: the layout is the circuit's, and the scratch holds it
 pub record Laid (c l : List ℕ) (y : Layout) : Type 0 where

@@ -1,4 +1,5 @@
 // What a party works out of the words of all. The steps ask nothing: what they need is what an entry has asked.
+use crate::Heard;
 use crate::Layout;
 use crate::Part;
 use crate::Point;
@@ -13,19 +14,16 @@ ghost use mathlib.Core.Path.{_≡_};
 ghost use Prim.Native.Nat.{suc, _+_, _-_, _*_, _<_, _≤_};
 ghost use lib.ListN.{length, getD};
 ghost use Rattle.field.specs.Prime.{p, prime, Is};
-ghost use Rattle.circuit.specs.Gate.{gateSize, gate, gates, first};
+ghost use Rattle.circuit.specs.Gate.{gateSize, gate, gates};
 ghost use Rattle.circuit.specs.Count.{unchecked};
-ghost use Rattle.circuit.specs.Round.{Input, Multiply, OpenOutput, words};
+ghost use Rattle.circuit.specs.Round.{Input, Multiply};
 ghost use Rattle.circuit.specs.Code.{gateOf, roundOf};
 ghost use Rattle.party.specs.Part.{partAt, product};
 ghost use Rattle.party.specs.Scratch.{scratchSize};
 ghost use Rattle.party.specs.Party.{aAt, bAt, cAt};
 ghost use Rattle.party.specs.Position.{Send, aborted, reach, enter, resume};
 ghost use Rattle.party.specs.Receive.{heardSum, afterInput, afterMultiply, afterOpenOutput, afterLinear, settle, next, received};
-ghost use Rattle.party.specs.Code.{IsPart, layoutOf, pointOf, Below, Held, Reads, Multiplies, Settles, Resumes, Receives};
-
-// Words of a reveal.
-const CHECK_WORDS: usize = 1;
+ghost use Rattle.party.specs.Code.{IsPart, layoutOf, pointOf, Below, Held, Reads, Multiplies, Settles, Stands, Receives, heardFirst, Named, Hears, Summed};
 
 // The sum over the parties of word t of each, where each sent k.
 pub fn heard_sum(n: usize, k: usize, t: usize, heard: &[u32]) -> u32
@@ -50,6 +48,29 @@ fn first_word(i: usize, k: usize, heard: &[u32]) -> u32
 {
     let at = i * k;
     heard[at]
+}
+
+// What the words of all come to in round r of gate j.
+pub fn heard_of(parties: usize, c: &[u32], j: usize, r: Round, heard: &[u32]) -> Heard
+    requires { ⌜ Hears parties (now c) j (roundOf r) (now heard) ⌝ }
+    ensures { λ w. ⌜ Summed parties (gate (now (c .entry)) j) (roundOf r) (now (heard .entry)) (w .first) (w .second) ⌝ }
+{
+    let g = circuit::gate_at(c, j);
+    let k = circuit::words_in(g, r);
+    if circuit::is_in(g) {
+        return Heard {
+            first: first_word(circuit::first_of(g), k, heard),
+            second: 0,
+        };
+    }
+    let first = heard_sum(parties, k, 0, heard);
+    if circuit::is_mul(g) {
+        return Heard {
+            first,
+            second: heard_sum(parties, k, 1, heard),
+        };
+    }
+    Heard { first, second: 0 }
 }
 
 // m starts at the gate's record, and e is the owner's word.
@@ -133,17 +154,31 @@ fn after_linear(me: usize, key: u32, y: Layout, l: &mut [u32], j: usize, g: Gate
 }
 
 // The linear gates from gate from on, up to the first gate that needs a round.
-fn settle(me: usize, key: u32, c: &[u32], y: Layout, l: &mut [u32], from: usize) -> usize
+fn settle(me: usize, key: u32, c: &[u32], y: Layout, l: &mut [u32], from: usize)
     requires { ⌜ Settles (now c) (layoutOf y) key (now l) from ⌝ }
-    ensures { λ r. ⌜ (r ≡ reach (now (c .entry)) (y .gates - from) from) × (now (l .exit) ≡ settle prime me key (now (c .entry)) (layoutOf y) (y .gates - from) from (now (l .entry))) ⌝ }
+    ensures { λ r. ⌜ now (l .exit) ≡ settle prime me key (now (c .entry)) (layoutOf y) (y .gates - from) from (now (l .entry)) ⌝ }
 {
     let mut j = from;
     while j < y.gates {
         let g = circuit::gate_at(c, j);
         if !circuit::is_linear(g) {
-            return j;
+            return;
         }
         after_linear(me, key, y, l, j, g);
+        j += 1;
+    }
+}
+
+// The first gate from gate from on that needs a round, or the number of gates.
+fn reach(c: &[u32], count: usize, from: usize) -> usize
+    requires { ⌜ (gateSize * count ≤ length (now c)) × (from ≤ count) ⌝ }
+    ensures { λ r. ⌜ r ≡ reach (now (c .entry)) (count - from) from ⌝ }
+{
+    let mut j = from;
+    while j < count {
+        if !circuit::is_linear(circuit::gate_at(c, j)) {
+            return j;
+        }
         j += 1;
     }
     j
@@ -198,23 +233,51 @@ fn enter(c: &[u32], count: usize, k: usize, waiting: usize) -> Point
     }
 }
 
-// Gate j is done, before which that many entries waited for a check: the linear gates after it, and the next stop. Linear gates open
-// nothing, so the entries that wait there are those that wait after gate j.
-fn resume(
-    me: usize,
-    key: u32,
-    c: &[u32],
-    y: Layout,
-    l: &mut [u32],
-    j: usize,
-    waiting: usize,
-) -> Point
-    requires { ⌜ Resumes (now c) (layoutOf y) key (now l) j waiting ⌝ }
-    ensures { λ x. ⌜ (pointOf x ≡ resume (now (c .entry)) (suc j)) × (now (l .exit) ≡ settle prime me key (now (c .entry)) (layoutOf y) (y .gates - suc j) (suc j) (now (l .entry))) ⌝ }
+// Gate j is done, before which that many entries waited for a check: the next stop. Linear gates open nothing, so the entries that wait
+// there are those that wait after gate j.
+fn resume(c: &[u32], count: usize, j: usize, waiting: usize) -> Point
+    requires { ⌜ Stands (now c) count j waiting ⌝ }
+    ensures { λ x. ⌜ pointOf x ≡ resume (now (c .entry)) (suc j) ⌝ }
 {
     let waiting_after = circuit::unchecked_after(circuit::gate_at(c, j), waiting);
-    let k = settle(me, key, c, y, l, j + 1);
-    enter(c, y.gates, k, waiting_after)
+    let k = reach(c, count, j + 1);
+    enter(c, count, k, waiting_after)
+}
+
+// The point that follows round r of gate j, before which that many entries wait for a check: it is the same for all parties. The words
+// come to e.
+pub fn next_point(
+    parties: usize,
+    c: &[u32],
+    count: usize,
+    j: usize,
+    waiting: usize,
+    r: Round,
+    heard: &[u32],
+    e: u32,
+) -> Point
+    requires { ⌜ Hears parties (now c) j (roundOf r) (now heard) × Stands (now c) count j waiting × (e ≡ heardFirst parties (gate (now c) j) (roundOf r) (now heard)) ⌝ }
+    ensures { λ x. ⌜ pointOf x ≡ next prime parties (now (c .entry)) j (roundOf r) (now (heard .entry)) ⌝ }
+{
+    match r {
+        Round::Input => resume(c, count, j, waiting),
+        Round::Multiply => resume(c, count, j, waiting),
+        Round::CommitOpened => sending_at(j, Round::RevealOpened),
+        Round::RevealOpened => {
+            if e == 0 {
+                return sending_at(j, Round::OpenOutput);
+            }
+            aborted_at(j)
+        }
+        Round::OpenOutput => sending_at(j, Round::CommitOutput),
+        Round::CommitOutput => sending_at(j, Round::RevealOutput),
+        Round::RevealOutput => {
+            if e == 0 {
+                return resume(c, count, j, waiting);
+            }
+            aborted_at(j)
+        }
+    }
 }
 
 fn receive_input(
@@ -227,23 +290,19 @@ fn receive_input(
     y: Layout,
     at: Site,
     heard: &[u32],
-) -> Point
-    requires { ⌜ Receives (record { parties = parties; me = me; circuit = now c; prep = now prep; inputs = now inputs }) (now l) y at Input (now heard) ⌝ }
-    ensures { λ x. ⌜ (pointOf x ≡ next prime parties (now (c .entry)) (at .gate) Input (now (heard .entry))) × (now (l .exit) ≡ received prime (record { parties = parties; me = me; circuit = now (c .entry); prep = now (prep .entry); inputs = now (inputs .entry) }) (now (l .entry)) (at .gate) Input (now (heard .entry))) ⌝ }
+    e: u32,
+)
+    requires { ⌜ Receives (record { parties = parties; me = me; circuit = now c; prep = now prep; inputs = now inputs }) (now l) y at Input (now heard) × Is (heardFirst parties (gate (now c) (at .gate)) Input (now heard)) e ⌝ }
+    ensures { λ x. ⌜ now (l .exit) ≡ received prime (record { parties = parties; me = me; circuit = now (c .entry); prep = now (prep .entry); inputs = now (inputs .entry) }) (now (l .entry)) (at .gate) Input (now (heard .entry)) ⌝ }
 {
     let j = at.gate;
     let start = at.prep;
     let key = prep[0];
-    let g = circuit::gate_at(c, j);
-    let e = first_word(
-        circuit::first_of(g),
-        circuit::words_in(g, Round::Input),
-        heard,
-    );
     after_input(me, key, y, l, j, &prep[start..], e);
-    resume(me, key, c, y, l, j, at.unchecked)
+    settle(me, key, c, y, l, j + 1);
 }
 
+// The gate names x and z.
 fn receive_multiply(
     parties: usize,
     me: usize,
@@ -253,32 +312,58 @@ fn receive_multiply(
     l: &mut [u32],
     y: Layout,
     at: Site,
+    x: usize,
+    z: usize,
     heard: &[u32],
-) -> Point
-    requires { ⌜ Receives (record { parties = parties; me = me; circuit = now c; prep = now prep; inputs = now inputs }) (now l) y at Multiply (now heard) ⌝ }
-    ensures { λ x. ⌜ (pointOf x ≡ next prime parties (now (c .entry)) (at .gate) Multiply (now (heard .entry))) × (now (l .exit) ≡ received prime (record { parties = parties; me = me; circuit = now (c .entry); prep = now (prep .entry); inputs = now (inputs .entry) }) (now (l .entry)) (at .gate) Multiply (now (heard .entry))) ⌝ }
+    e: u32,
+    d: u32,
+)
+    requires { ⌜ Receives (record { parties = parties; me = me; circuit = now c; prep = now prep; inputs = now inputs }) (now l) y at Multiply (now heard) × Named (gate (now c) (at .gate)) x z × Summed parties (gate (now c) (at .gate)) Multiply (now heard) e d ⌝ }
+    ensures { λ r. ⌜ now (l .exit) ≡ received prime (record { parties = parties; me = me; circuit = now (c .entry); prep = now (prep .entry); inputs = now (inputs .entry) }) (now (l .entry)) (at .gate) Multiply (now (heard .entry)) ⌝ }
 {
     let j = at.gate;
     let start = at.prep;
-    let u = at.unchecked;
     let key = prep[0];
-    let g = circuit::gate_at(c, j);
-    let words = circuit::words_in(g, Round::Multiply);
-    let e = heard_sum(parties, words, 0, heard);
-    let d = heard_sum(parties, words, 1, heard);
-    let x = circuit::first_of(g);
-    let z = circuit::second_of(g);
-    after_multiply(me, key, y, l, j, x, z, &prep[start..], u, e, d);
-    resume(me, key, c, y, l, j, u)
+    after_multiply(me, key, y, l, j, x, z, &prep[start..], at.unchecked, e, d);
+    settle(me, key, c, y, l, j + 1);
 }
 
-fn receive_output(parties: usize, c: &[u32], l: &mut [u32], y: Layout, j: usize, heard: &[u32])
-    requires { ⌜ (gateSize * j + gateSize ≤ length (now c)) × (scratchSize (layoutOf y) ≤ length (now l)) × (0 < y .capacity) × Held (layoutOf y) (now l) (first (gate (now c) j)) × (0 < words (gate (now c) j) OpenOutput) × (parties * words (gate (now c) j) OpenOutput ≤ length (now heard)) × Below (now heard) ⌝ }
-    ensures { λ r. ⌜ now (l .exit) ≡ afterOpenOutput prime (layoutOf y) (now (l .entry)) (first (gate (now (c .entry)) j)) (heardSum prime parties (words (gate (now (c .entry)) j) OpenOutput) 0 (now (heard .entry))) ⌝ }
+// The scratch after round r. The gate names x and z, and the words of all come to e and d: who runs all parties finds these once.
+pub fn receive_summed(
+    parties: usize,
+    me: usize,
+    c: &[u32],
+    prep: &[u32],
+    inputs: &[u32],
+    l: &mut [u32],
+    y: Layout,
+    at: Site,
+    x: usize,
+    z: usize,
+    r: Round,
+    heard: &[u32],
+    e: u32,
+    d: u32,
+)
+    requires { ⌜ Receives (record { parties = parties; me = me; circuit = now c; prep = now prep; inputs = now inputs }) (now l) y at (roundOf r) (now heard) × Named (gate (now c) (at .gate)) x z × Summed parties (gate (now c) (at .gate)) (roundOf r) (now heard) e d ⌝ }
+    ensures { λ u. ⌜ now (l .exit) ≡ received prime (record { parties = parties; me = me; circuit = now (c .entry); prep = now (prep .entry); inputs = now (inputs .entry) }) (now (l .entry)) (at .gate) (roundOf r) (now (heard .entry)) ⌝ }
 {
-    let g = circuit::gate_at(c, j);
-    let s = heard_sum(parties, circuit::words_in(g, Round::OpenOutput), 0, heard);
-    after_open_output(y, l, circuit::first_of(g), s);
+    match r {
+        Round::Input => receive_input(parties, me, c, prep, inputs, l, y, at, heard, e),
+        Round::Multiply => {
+            receive_multiply(parties, me, c, prep, inputs, l, y, at, x, z, heard, e, d)
+        }
+        Round::CommitOpened => {}
+        Round::RevealOpened => {}
+        Round::OpenOutput => after_open_output(y, l, x, e),
+        Round::CommitOutput => {}
+        Round::RevealOutput => {
+            if e != 0 {
+                return;
+            }
+            settle(me, prep[0], c, y, l, at.gate + 1);
+        }
+    }
 }
 
 // The scratch after round r, and the point that follows.
@@ -298,26 +383,26 @@ pub fn receive_step(
     ensures { λ x. ⌜ (pointOf x ≡ next prime parties (now (c .entry)) (at .gate) (roundOf r) (now (heard .entry))) × (now (l .exit) ≡ received prime (record { parties = parties; me = me; circuit = now (c .entry); prep = now (prep .entry); inputs = now (inputs .entry) }) (now (l .entry)) (at .gate) (roundOf r) (now (heard .entry))) ⌝ }
 {
     let j = at.gate;
-    match r {
-        Round::Input => receive_input(parties, me, c, prep, inputs, l, y, at, heard),
-        Round::Multiply => receive_multiply(parties, me, c, prep, inputs, l, y, at, heard),
-        Round::CommitOpened => sending_at(j, Round::RevealOpened),
-        Round::RevealOpened => {
-            if heard_sum(parties, CHECK_WORDS, 0, heard) == 0 {
-                return sending_at(j, Round::OpenOutput);
-            }
-            aborted_at(j)
-        }
-        Round::OpenOutput => {
-            receive_output(parties, c, l, y, j, heard);
-            sending_at(j, Round::CommitOutput)
-        }
-        Round::CommitOutput => sending_at(j, Round::RevealOutput),
-        Round::RevealOutput => {
-            if heard_sum(parties, CHECK_WORDS, 0, heard) == 0 {
-                return resume(me, prep[0], c, y, l, j, at.unchecked);
-            }
-            aborted_at(j)
-        }
-    }
+    let g = circuit::gate_at(c, j);
+    let x = circuit::first_of(g);
+    let z = circuit::second_of(g);
+    let w = heard_of(parties, c, j, r, heard);
+    let next = next_point(parties, c, y.gates, j, at.unchecked, r, heard, w.first);
+    receive_summed(
+        parties,
+        me,
+        c,
+        prep,
+        inputs,
+        l,
+        y,
+        at,
+        x,
+        z,
+        r,
+        heard,
+        w.first,
+        w.second,
+    );
+    next
 }

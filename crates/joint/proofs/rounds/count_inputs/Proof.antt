@@ -8,7 +8,7 @@ use borrow.Author.Needs.{needs}
 use Rattle.circuit.specs.Gate.{first}
 use Rattle.circuit.specs.Kind.{isIn}
 use Rattle.joint.specs.Code.{Counted}
-use Rattle.joint.proofs.Arrays.{counted-upto, counted-other, counted-in, owner-low, owner-few}
+use Rattle.joint.proofs.Arrays.{counted-upto, counted-other, counted-in, owner-party, owner-few}
 use Rattle.joint.proofs.rounds.count_inputs.Statement.{statement}
 use Rattle.joint.proofs.rounds.count_inputs.Tie as tie
 
@@ -31,19 +31,19 @@ first-of-requires : tie.Need-first-of-requires Inv-loop μ-loop
 first-of-requires c κs = search needs
 
 mul-counts : tie.Need-mul-counts Inv-loop μ-loop
-mul-counts c = omega (arith, owner-low (c .before .before .before .before .before .loop .inv .1) (c .before .before .before .before .before .before .before .pre .0) (c .before .before .before .before .before .before .before .pre .1) (omega (arith, c .before .before .before .before .loop-test .taken, c .before .before .before .before .before .before .before .pre .3)) (sym (ap isIn (c .before .before .before .gate-at .ensures)) ∙ sym (c .before .before .is-in .ensures) ∙ c .before .if1 .taken) (c .first-of .ensures ∙ ap first (c .before .before .before .gate-at .ensures)), c .before .before .before .before .before .before .before .pre .1)
+mul-counts c = omega (arith, owner-party (c .before .before .before .before .before .loop .inv .1) (c .before .before .before .before .before .before .before .pre .0) (c .before .before .before .before .before .before .before .pre .1) (omega (arith, c .before .before .before .before .loop-test .taken, c .before .before .before .before .before .before .before .pre .3)) (sym (ap isIn (c .before .before .before .gate-at .ensures)) ∙ sym (c .before .before .is-in .ensures) ∙ c .before .if1 .taken) (c .first-of .ensures ∙ ap first (c .before .before .before .gate-at .ensures)), c .before .before .before .before .before .before .before .pre .1)
 
 array-read-counts : tie.Need-array-read-counts Inv-loop μ-loop
-array-read-counts c = omega (arith, owner-low (c .before .before .before .before .before .loop .inv .1) (c .before .before .before .before .before .before .before .pre .0) (c .before .before .before .before .before .before .before .pre .1) (omega (arith, c .before .before .before .before .loop-test .taken, c .before .before .before .before .before .before .before .pre .3)) (sym (ap isIn (c .before .before .before .gate-at .ensures)) ∙ sym (c .before .before .is-in .ensures) ∙ c .before .if1 .taken) (c .first-of .ensures ∙ ap first (c .before .before .before .gate-at .ensures)), c .before .before .before .before .before .before .before .pre .1)
+array-read-counts c = omega (arith, owner-party (c .before .before .before .before .before .loop .inv .1) (c .before .before .before .before .before .before .before .pre .0) (c .before .before .before .before .before .before .before .pre .1) (omega (arith, c .before .before .before .before .loop-test .taken, c .before .before .before .before .before .before .before .pre .3)) (sym (ap isIn (c .before .before .before .gate-at .ensures)) ∙ sym (c .before .before .is-in .ensures) ∙ c .before .if1 .taken) (c .first-of .ensures ∙ ap first (c .before .before .before .gate-at .ensures)), c .before .before .before .before .before .before .before .pre .1)
 
 add-counts : tie.Need-add-counts Inv-loop μ-loop
 add-counts c = omega (arith, owner-few (c .before .before .before .before .before .loop .inv .1) (c .before .before .before .before .before .before .before .pre .0) (c .before .before .before .before .before .before .before .pre .1) (omega (arith, c .before .before .before .before .loop-test .taken, c .before .before .before .before .before .before .before .pre .3)) (sym (ap isIn (c .before .before .before .gate-at .ensures)) ∙ sym (c .before .before .is-in .ensures) ∙ c .before .if1 .taken) (c .first-of .ensures ∙ ap first (c .before .before .before .gate-at .ensures)))
 
 mul-counts-2 : tie.Need-mul-counts-2 Inv-loop μ-loop
-mul-counts-2 c = omega (arith, owner-low (c .before .before .before .before .before .loop .inv .1) (c .before .before .before .before .before .before .before .pre .0) (c .before .before .before .before .before .before .before .pre .1) (omega (arith, c .before .before .before .before .loop-test .taken, c .before .before .before .before .before .before .before .pre .3)) (sym (ap isIn (c .before .before .before .gate-at .ensures)) ∙ sym (c .before .before .is-in .ensures) ∙ c .before .if1 .taken) (c .first-of .ensures ∙ ap first (c .before .before .before .gate-at .ensures)), c .before .before .before .before .before .before .before .pre .1)
+mul-counts-2 c = omega (arith, owner-party (c .before .before .before .before .before .loop .inv .1) (c .before .before .before .before .before .before .before .pre .0) (c .before .before .before .before .before .before .before .pre .1) (omega (arith, c .before .before .before .before .loop-test .taken, c .before .before .before .before .before .before .before .pre .3)) (sym (ap isIn (c .before .before .before .gate-at .ensures)) ∙ sym (c .before .before .is-in .ensures) ∙ c .before .if1 .taken) (c .first-of .ensures ∙ ap first (c .before .before .before .gate-at .ensures)), c .before .before .before .before .before .before .before .pre .1)
 
 array-write-counts : tie.Need-array-write-counts Inv-loop μ-loop
-array-write-counts c = omega (arith, owner-low (c .before .before .before .before .before .loop .inv .1) (c .before .before .before .before .before .before .before .pre .0) (c .before .before .before .before .before .before .before .pre .1) (omega (arith, c .before .before .before .before .loop-test .taken, c .before .before .before .before .before .before .before .pre .3)) (sym (ap isIn (c .before .before .before .gate-at .ensures)) ∙ sym (c .before .before .is-in .ensures) ∙ c .before .if1 .taken) (c .first-of .ensures ∙ ap first (c .before .before .before .gate-at .ensures)), c .before .before .before .before .before .before .before .pre .1)
+array-write-counts c = omega (arith, owner-party (c .before .before .before .before .before .loop .inv .1) (c .before .before .before .before .before .before .before .pre .0) (c .before .before .before .before .before .before .before .pre .1) (omega (arith, c .before .before .before .before .loop-test .taken, c .before .before .before .before .before .before .before .pre .3)) (sym (ap isIn (c .before .before .before .gate-at .ensures)) ∙ sym (c .before .before .is-in .ensures) ∙ c .before .if1 .taken) (c .first-of .ensures ∙ ap first (c .before .before .before .gate-at .ensures)), c .before .before .before .before .before .before .before .pre .1)
 
 add-j : tie.Need-add-j Inv-loop μ-loop
 add-j c = omega (arith, c .before .before .before .loop-test .taken, c .before .before .before .before .before .before .pre .3, c .before .before .before .before .before .before .pre .0 .few)

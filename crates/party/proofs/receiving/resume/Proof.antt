@@ -6,47 +6,28 @@ use native.Mathlib.Numerals.{add-one}
 use denote.Ref.{now}
 use Rattle.circuit.proofs.Counts.{unchecked-few}
 use Rattle.party.specs.Position.{resume}
-use Rattle.party.specs.Code.{layoutOf}
 use Rattle.party.proofs.Readiness.{resume-waits}
-use borrow.Author.Needs.{needs}
 use Rattle.party.proofs.receiving.resume.Statement.{statement}
 use Rattle.party.proofs.receiving.resume.Tie as tie
 
 gate-at-requires : tie.Need-gate-at-requires
-unfolding layoutOf
-gate-at-requires c κs = omega (arith, c .before .before .pre .settles .upto, c .before .before .pre .settles .count, c .before .before .pre .settles .valid .whole)
+gate-at-requires c κs = omega (arith, c .before .pre .within, c .before .pre .whole)
 
 unchecked-after-requires : tie.Need-unchecked-after-requires
-unfolding layoutOf
-unchecked-after-requires c κs =
-    let s = c .before .before .before .pre in
-    omega (arith, s .waits, unchecked-few (now (c .before .before .before .args .c)) (c .before .before .before .args .j), s .settles .upto, s .settles .count, s .settles .valid .few)
+unchecked-after-requires c κs = omega (arith, c .before .before .pre .waits, unchecked-few (now (c .before .before .args .c)) (c .before .before .args .j), c .before .before .pre .within, c .before .before .pre .few)
 
-add-settle : tie.Need-add-settle
-unfolding layoutOf
-add-settle c = omega (arith, c .before .before .before .before .before .pre .settles .upto, c .before .before .before .before .before .pre .settles .count, c .before .before .before .before .before .pre .settles .valid .few)
+add-reach : tie.Need-add-reach
+add-reach c = omega (arith, c .before .before .before .pre .within, c .before .before .before .pre .few)
 
-settle-requires : tie.Need-settle-requires
-settle-requires c κs = rw (add-one) (c .before .before .before .before .before .pre .settles)
+reach-requires : tie.Need-reach-requires
+reach-requires c κs = (c .before .before .before .pre .whole, omega (arith, c .before .before .before .pre .within))
 
 enter-requires : tie.Need-enter-requires
-unfolding layoutOf
-enter-requires c κs =
-    let s = c .before .before .before .before .before .before .before .before .pre in (
-      s .settles .count,
-      omega (arith, s .settles .count, s .settles .valid .whole),
-      omega (arith, s .settles .count, s .settles .valid .two),
-      λ h. resume-waits _ _ _ (s .waits) (c .before .before .before .before .before .gate-at .ensures) (c .before .before .before .before .unchecked-after .ensures) (c .before .before .settle .ensures .0),
-    )
-
-same-length : tie.Need-same-length
-same-length c = search needs
+enter-requires c κs = (c .before .before .before .before .pre .all, c .before .before .before .before .pre .whole, omega (arith, c .before .before .before .before .pre .within), λ h. resume-waits _ _ _ (c .before .before .before .before .pre .waits) (c .before .before .gate-at .ensures) (c .before .unchecked-after .ensures) (c .reach .ensures))
 
 returns : tie.Need-returns
-unfolding resume layoutOf
-returns c =
-    let s = c .before .before .before .before .before .before .before .before .before .pre in
-    (c .enter .ensures ∙ rw (c .before .before .before .settle .ensures .0, add-one, s .settles .count), rw (add-one) at (c .before .before .before .settle .ensures .1))
+unfolding resume
+returns c = c .enter .ensures ∙ rw (c .before .reach .ensures, add-one, c .before .before .before .before .before .pre .all)
 
 pub resume-spec : {M : Type 1} → statement M
 resume-spec =
@@ -54,8 +35,7 @@ resume-spec =
     (tie.spec
     gate-at-requires
     unchecked-after-requires
-    add-settle
-    settle-requires
+    add-reach
+    reach-requires
     enter-requires
-    same-length
     returns)
