@@ -51,7 +51,7 @@ module _ {c : List ℕ} {j : ℕ} {t : Totals} (was : Totalled c j t) where
       w ≡ overRounds (words g) (roundsOf u g) →
       k ≡ overRounds (coefficientsIn u) (roundsOf u g) →
       Totalled c (j + 1) (record { ins = t .ins + a; outs = t .outs + o; words = t .words + w; coefficients = t .coefficients + k })
-  totals-more at left isin one isout two sent drawn =
+  totals-more at left isin one isout two sent taken =
       record {
         ins = cc (was .ins, count-more isIn c j);
         outs = cc (was .outs, count-more isOut c j);

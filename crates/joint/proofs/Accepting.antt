@@ -40,22 +40,22 @@ listsOf preps prep inputs ins room size =
 
 -- 16 to 18, of the lengths wanted
 abbrev pub roomsOf : List ℕ → ℕ → ℕ → ℕ → ℕ → ℕ → Verdict
-roomsOf coefficients draws words transcript outs outputs =
-    ask 16 0 (eqb (length coefficients) draws)
+roomsOf coefficients coefficient-count words transcript outs outputs =
+    ask 16 0 (eqb (length coefficients) coefficient-count)
     then elements 17 p coefficients
     then ask 18 0 (leb words transcript && leb outs outputs)
 
 -- The groups make up the questions of the joint run.
-pub asked : (J : Joint) (l : List ℕ) (transcript outputs : ℕ) {prep ins size draws words outs : ℕ}
+pub asked : (J : Joint) (l : List ℕ) (transcript outputs : ℕ) {prep ins size coefficient-count words outs : ℕ}
     → prep ≡ J .parties * prepSize (J .circuit)
     → ins ≡ inCount (J .circuit)
     → size ≡ J .parties * scratchSize (layout (J .circuit))
-    → draws ≡ coefficientCount (J .circuit)
+    → coefficient-count ≡ coefficientCount (J .circuit)
     → words ≡ J .parties * wordCount (J .circuit)
     → outs ≡ outCount (J .circuit)
     → (settingOf (J .parties) (J .circuit)
     then listsOf (J .preps) prep (J .inputs) ins (length l) size
-    then roomsOf (J .coefficients) draws words transcript outs outputs)
+    then roomsOf (J .coefficients) coefficient-count words transcript outs outputs)
     ≡ askJoint p J l transcript outputs
 unfolding askJoint
 asked J l transcript outputs e₁ e₂ e₃ e₄ e₅ e₆ = rw (e₁, e₂, e₃, e₄, e₅, e₆) (simp then-assoc)
@@ -117,8 +117,8 @@ module _ (J : Joint) (l : List ℕ) (transcript outputs : ℕ) (e : askJoint p J
         room =
             rw (framed .scratch)
             (leb-true (J .parties * scratchSize (layout (J .circuit))) (length l) (ask-true 12 0 (leb (J .parties * scratchSize (layout (J .circuit))) (length l)) (then-right _ _ l₁₁)));
-        draws = eqb-true _ _ (ask-true 16 0 _ (then-left _ _ rooms));
-        draws-low = elements-below 17 p (J .coefficients) (omega arith) (then-left _ _ r₁₇);
+        coefficient-count = eqb-true _ _ (ask-true 16 0 _ (then-left _ _ rooms));
+        coefficients-low = elements-below 17 p (J .coefficients) (omega arith) (then-left _ _ r₁₇);
         words-fit = rw et at (leb-true (J .parties * wordCount (J .circuit)) transcript (both-left (leb (J .parties * wordCount (J .circuit)) transcript) (leb (outCount (J .circuit)) outputs) b));
         outputs-fit = rw eo at (leb-true (outCount (J .circuit)) outputs (both-right (leb (J .parties * wordCount (J .circuit)) transcript) (leb (outCount (J .circuit)) outputs) b));
       }

@@ -85,7 +85,7 @@ module _ (J : Joint) (f : Frame) (s : Course) (r : Round) (l : List ℕ) (g : Go
     pub going-next : (r′ : Round) → nextIn .stage ≡ Send r′
         → s′ .used + coefficientsIn (unchecked (J .circuit) (s′ .point .gate)) r′ ≤ length (J .coefficients)
         → Going J f s′ r′ l′
-    going-next r′ e draws =
+    going-next r′ e coefficient-count =
         record {
           lent = g .lent;
           room = omega (arith, g .room, d .long);
@@ -93,6 +93,6 @@ module _ (J : Joint) (f : Frame) (s : Course) (r : Round) (l : List ℕ) (g : Go
           counted = d .counted;
           held-low = d .held-low;
           ready = ready-then r′ e;
-          draws = draws;
-          draws-low = g .draws-low;
+          coefficient-count = coefficient-count;
+          coefficients-low = g .coefficients-low;
         }

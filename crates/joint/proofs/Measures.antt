@@ -78,9 +78,9 @@ module _ {n : ℕ} {c : List ℕ} (v : Valid n p c) where
     unfolding wordCount
     words-are = k .words ∙ ap (overRun _ c) count-is
 
-    pub draws-are : t .coefficients ≡ coefficientCount c
+    pub coefficients-are : t .coefficients ≡ coefficientCount c
     unfolding coefficientCount
-    draws-are = k .coefficients ∙ ap (overRun _ c) count-is
+    coefficients-are = k .coefficients ∙ ap (overRun _ c) count-is
 
     pub words-few : t .words ≤ 1536
     words-few = omega (arith, k .words, words-run-le c (length c / gateSize), count-few)

@@ -241,7 +241,7 @@ module _ (J : Joint) (f : Frame) where
               record {
                 going =
                     going-next J f s r l (due-is .going) d r′ e′
-                    (omega (arith, used-next, spent-le (J .circuit) (drawsOf (J .circuit)) (s′ .point .gate) r′ fits-next, able .draws));
+                    (omega (arith, used-next, spent-le (J .circuit) (drawsOf (J .circuit)) (s′ .point .gate) r′ fits-next, able .coefficient-count));
                 fuel = omega (arith, due-is .fuel, d .rounds, rest-is);
                 rounds = omega (arith, d .rounds, due-is .rounds, spent-next one);
                 written =
@@ -432,8 +432,8 @@ module _ (J : Joint) (f : Frame) (l t o : List ℕ) (able : Runnable J f l t o) 
                     counted = rw gate-zero (b .counted (J .parties) (J .circuit));
                     held-low = λ i h. rw (b .held i) (omega arith);
                     ready = ready-first;
-                    draws = omega (arith, nothing-drawn, b .used);
-                    draws-low = able .draws-low;
+                    coefficient-count = omega (arith, nothing-drawn, b .used);
+                    coefficients-low = able .coefficients-low;
                   };
               fuel = omega (arith, b .rounds);
               rounds = omega (arith, b .rounds, nothing-spent one);

@@ -28,8 +28,8 @@ use Rattle.joint.proofs.Parties.{lentTo, party-is}
 use Rattle.joint.proofs.States.{keep-holds}
 
 -- the coefficients of the round are there
-pub draws-there : {J : Joint} {f : Frame} {s : Course} {r : Round} {l : List ℕ} → Going J f s r l → {k : ℕ} → k ≡ coefficientsIn (s .tally .unchecked) r → s .used + k ≤ length (J .coefficients)
-draws-there {r = r} g d = omega (arith, d ∙ ap (λ (u : ℕ). coefficientsIn u r) (g .tallied .unchecked), g .draws)
+pub coefficients-there : {J : Joint} {f : Frame} {s : Course} {r : Round} {l : List ℕ} → Going J f s r l → {k : ℕ} → k ≡ coefficientsIn (s .tally .unchecked) r → s .used + k ≤ length (J .coefficients)
+coefficients-there {r = r} g d = omega (arith, d ∙ ap (λ (u : ℕ). coefficientsIn u r) (g .tallied .unchecked), g .coefficient-count)
 
 module _ {J : Joint} {f : Frame} {s : Course} {r : Round} {l : List ℕ} (g : Going J f s r l) (i : ℕ) (h : i < J .parties) where
   -- party i's band lies in the scratch
@@ -46,44 +46,44 @@ module _ {J : Joint} {f : Frame} {s : Course} {r : Round} {l : List ℕ} (g : Go
 
   -- at is the party's site, and the round takes k coefficients
   module _ {at : Site} (e : at ≡ siteOf s i) {k : ℕ} (d : k ≡ coefficientsIn (at .unchecked) r) where
-    draws-are : k ≡ coefficientsIn (unchecked (J .circuit) (s .point .gate)) r
+    coefficients-are : k ≡ coefficientsIn (unchecked (J .circuit) (s .point .gate)) r
     unfolding siteOf
-    draws-are = d ∙ ap (λ (z : Site). coefficientsIn (z .unchecked) r) e ∙ ap (λ (u : ℕ). coefficientsIn u r) (g .tallied .unchecked)
+    coefficients-are = d ∙ ap (λ (z : Site). coefficientsIn (z .unchecked) r) e ∙ ap (λ (u : ℕ). coefficientsIn u r) (g .tallied .unchecked)
 
-    pub draws-le : s .used + k ≤ length (J .coefficients)
-    draws-le = omega (arith, draws-are, g .draws)
+    pub coefficients-le : s .used + k ≤ length (J .coefficients)
+    coefficients-le = omega (arith, coefficients-are, g .coefficient-count)
 
-    abbrev lentDraws : List ℕ
-    lentDraws = take (s .used + k - s .used) (drop (s .used) (J .coefficients))
+    abbrev lentCoefficients : List ℕ
+    lentCoefficients = take (s .used + k - s .used) (drop (s .used) (J .coefficients))
 
-    draws-drawn : lentDraws ≡ take (takes prime J (stateOf f s l) r) (drop (s .used) (J .coefficients))
+    coefficients-taken : lentCoefficients ≡ take (takes prime J (stateOf f s l) r) (drop (s .used) (J .coefficients))
     unfolding takes stateOf pointOf
-    draws-drawn = rw (add-sub-cancel-left (s .used) k, draws-are)
+    coefficients-taken = rw (add-sub-cancel-left (s .used) k, coefficients-are)
 
-    draws-long : length lentDraws ≡ k
-    draws-long = rw (add-sub-cancel-left (s .used) k) (length-take-le k (drop (s .used) (J .coefficients)) (simp length-drop (omega (arith, draws-le))))
+    coefficients-long : length lentCoefficients ≡ k
+    coefficients-long = rw (add-sub-cancel-left (s .used) k) (length-take-le k (drop (s .used) (J .coefficients)) (simp length-drop (omega (arith, coefficients-le))))
 
     -- what sending asks
     pub turn-sends : (room : ℕ) → words (gate (J .circuit) (s .point .gate)) r ≤ room
-        → Sends (lentTo J f i) lentBand (f .layout) at r (getD (s .held) i 0) lentDraws room
+        → Sends (lentTo J f i) lentBand (f .layout) at r (getD (s .held) i 0) lentCoefficients room
     unfolding siteOf party
     turn-sends room w =
-        subst (λ (P : Party). Sends P lentBand (f .layout) at r (getD (s .held) i 0) lentDraws room) (sym (party-is (g .lent) i h))
+        subst (λ (P : Party). Sends P lentBand (f .layout) at r (getD (s .held) i 0) lentCoefficients room) (sym (party-is (g .lent) i h))
         (rw (band-is, e)
         (record {
           ready = g .ready i h;
-          draws = draws-long ∙ draws-are;
-          draws-low = below-part (J .coefficients) (s .used + k - s .used) (s .used) (g .draws-low);
+          coefficient-count = coefficients-long ∙ coefficients-are;
+          coefficients-low = below-part (J .coefficients) (s .used + k - s .used) (s .used) (g .coefficients-low);
           space = w;
         }))
 
     -- and that it sends what is said, and makes the check share that is held
-    pub turn-holds : {x : ℕ} → Is (holds prime (lentTo J f i) lentBand (at .gate) r lentDraws) x → Is (step prime J (stateOf f s l) r .held i) x
+    pub turn-holds : {x : ℕ} → Is (holds prime (lentTo J f i) lentBand (at .gate) r lentCoefficients) x → Is (step prime J (stateOf f s l) r .held i) x
     unfolding step stateOf siteOf pointOf
     turn-holds {x} w =
         subst (λ (v : ℕ). Is v x)
-        (ap (λ (P : Party). holds prime P lentBand (at .gate) r lentDraws) (party-is (g .lent) i h)
-        ∙ rw (band-is, e, draws-drawn)
+        (ap (λ (P : Party). holds prime P lentBand (at .gate) r lentCoefficients) (party-is (g .lent) i h)
+        ∙ rw (band-is, e, coefficients-taken)
         (sym (keep-holds (party J i) (band (f .scratch) l i) (s .point .gate) r (take (takes prime J (stateOf f s l) r) (drop (s .used) (J .coefficients))))))
         w
 

@@ -118,8 +118,8 @@ pub record Going (J : Joint) (f : Frame) (s : Course) (r : Round) (l : List ℕ)
   pub counted : Counted (J .parties) (J .circuit) (s .point .gate) (s .inputs)
   pub held-low : (i : ℕ) → i < J .parties → getD (s .held) i 0 < p
   pub ready : (i : ℕ) → i < J .parties → Ready (party J i) (band (f .scratch) l i) (f .layout) (siteOf s i) r
-  pub draws : s .used + coefficientsIn (unchecked (J .circuit) (s .point .gate)) r ≤ length (J .coefficients)
-  pub draws-low : Below (J .coefficients)
+  pub coefficient-count : s .used + coefficientsIn (unchecked (J .circuit) (s .point .gate)) r ≤ length (J .coefficients)
+  pub coefficients-low : Below (J .coefficients)
 
 -- and of the lists that it writes to: t is the transcript, and o the outputs
 pub record Turning (J : Joint) (f : Frame) (s : Course) (r : Round) (l t o : List ℕ) : Type 0 where
@@ -165,8 +165,8 @@ pub record Started (s : Course) : Type 0 where
 pub record Runnable (J : Joint) (f : Frame) (l t o : List ℕ) : Type 0 where
   pub lent : Lent J f
   pub room : J .parties * f .scratch ≤ length l
-  pub draws : length (J .coefficients) ≡ coefficientCount (J .circuit)
-  pub draws-low : Below (J .coefficients)
+  pub coefficient-count : length (J .coefficients) ≡ coefficientCount (J .circuit)
+  pub coefficients-low : Below (J .coefficients)
   pub words-fit : J .parties * wordCount (J .circuit) ≤ length t
   pub outputs-fit : outCount (J .circuit) ≤ length o
 

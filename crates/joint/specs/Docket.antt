@@ -45,11 +45,11 @@ abbrev pub rooms : List ℕ
 rooms = replicate 28 9
 
 -- the two parties as document 01 lends them to single calls
-abbrev pub seat₀ : Party
-seat₀ = record { parties = 2; me = 0; circuit = circuit; prep = prep₀; inputs = 5 ∷ [] }
+abbrev pub party₀ : Party
+party₀ = record { parties = 2; me = 0; circuit = circuit; prep = prep₀; inputs = 5 ∷ [] }
 
-abbrev pub seat₁ : Party
-seat₁ = record { parties = 2; me = 1; circuit = circuit; prep = prep₁; inputs = 6 ∷ [] }
+abbrev pub party₁ : Party
+party₁ = record { parties = 2; me = 1; circuit = circuit; prep = prep₁; inputs = 6 ∷ [] }
 
 -- seat 0 of k parties
 abbrev pub among : ℕ → Party
@@ -142,17 +142,17 @@ module _ (O : Ops) where
     pub check-words : (after₄ .held 0 ≡ 10) × (after₄ .held 1 ≡ size - 10)
     -- "Seat 1's show word 14 heard: check words 5 and p − 40, stopped."
     pub misheard-check :
-        (sendAnswer O seat₀ (misheard seat₀ 0) (sending CommitOutput 0) (5 ∷ []) 1 ≡ Next (receiving CommitOutput 5))
-        × (sendAnswer O seat₁ (misheard seat₁ 1) (sending CommitOutput 0) (5 ∷ []) 1 ≡ Next (receiving CommitOutput (size - 40)))
+        (sendAnswer O party₀ (misheard party₀ 0) (sending CommitOutput 0) (5 ∷ []) 1 ≡ Next (receiving CommitOutput 5))
+        × (sendAnswer O party₁ (misheard party₁ 1) (sending CommitOutput 0) (5 ∷ []) 1 ≡ Next (receiving CommitOutput (size - 40)))
     pub misheard-stops :
-        (receiveAnswer O seat₀ (misheard seat₀ 0) (receiving RevealOutput 0) (5 ∷ (size - 40) ∷ [])
+        (receiveAnswer O party₀ (misheard party₀ 0) (receiving RevealOutput 0) (5 ∷ (size - 40) ∷ [])
         ≡ Abort (record { gate = 3; stage = Aborted; held = 0 }))
-        × (receiveAnswer O seat₁ (misheard seat₁ 1) (receiving RevealOutput 0) (5 ∷ (size - 40) ∷ [])
+        × (receiveAnswer O party₁ (misheard party₁ 1) (receiving RevealOutput 0) (5 ∷ (size - 40) ∷ [])
         ≡ Abort (record { gate = 3; stage = Aborted; held = 0 }))
     -- "Two draws at the first seal accepted; one or three, 16."
-    pub two-draws : sendAnswer O seat₀ (after₃ .scratch 0) (sending CommitOpened 0) (1 ∷ 2 ∷ []) 1 ≡ Next (receiving CommitOpened 10)
-    pub one-draw : sendAnswer O seat₀ (after₃ .scratch 0) (sending CommitOpened 0) (1 ∷ []) 1 ≡ Refusal 16 0
-    pub three-draws : sendAnswer O seat₀ (after₃ .scratch 0) (sending CommitOpened 0) (1 ∷ 2 ∷ 5 ∷ []) 1 ≡ Refusal 16 0
+    pub two-coefficients : sendAnswer O party₀ (after₃ .scratch 0) (sending CommitOpened 0) (1 ∷ 2 ∷ []) 1 ≡ Next (receiving CommitOpened 10)
+    pub one-coefficient : sendAnswer O party₀ (after₃ .scratch 0) (sending CommitOpened 0) (1 ∷ []) 1 ≡ Refusal 16 0
+    pub three-coefficients : sendAnswer O party₀ (after₃ .scratch 0) (sending CommitOpened 0) (1 ∷ 2 ∷ 5 ∷ []) 1 ≡ Refusal 16 0
     -- "8 seats accepted, 9 gives 1."
     pub eight : openAnswer O (among 8) room ≡ Next (record { gate = 0; stage = Send Input; held = 0 })
     pub nine : openAnswer O (among 9) room ≡ Refusal 1 0

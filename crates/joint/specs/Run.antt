@@ -55,10 +55,10 @@ module _ (O : Ops) (J : Joint) where
   unfoldable pub step : State → Round → State
   step s r =
       let heard = said s r in
-      let drawn = take (takes s r) (drop (s .used) (J .coefficients)) in
+      let taken = take (takes s r) (drop (s .used) (J .coefficients)) in
       record {
         point = next O (J .parties) (J .circuit) (s .point .gate) r heard;
-        held = λ i. keep r (holds O (party J i) (s .scratch i) (s .point .gate) r drawn);
+        held = λ i. keep r (holds O (party J i) (s .scratch i) (s .point .gate) r taken);
         scratch = λ i. received O (party J i) (s .scratch i) (s .point .gate) r heard;
         used = s .used + takes s r;
       }

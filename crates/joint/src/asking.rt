@@ -28,15 +28,15 @@ fn ask_setting(parties: usize, c: &[u32]) -> Verdict
 // Questions 16 to 18: so many coefficients, words and outputs are wanted.
 fn ask_rooms(
     coefficients: &[u32],
-    draws: usize,
+    due: usize,
     words: usize,
     transcript: usize,
     outs: usize,
     outputs: usize,
 ) -> Verdict
-    ensures { λ r. ⌜ verdictOf r ≡ (ask 16 0 (eqb (length (now (coefficients .entry))) draws) then elements 17 p (now (coefficients .entry)) then ask 18 0 (leb words transcript && leb outs outputs)) ⌝ }
+    ensures { λ r. ⌜ verdictOf r ≡ (ask 16 0 (eqb (length (now (coefficients .entry))) due) then elements 17 p (now (coefficients .entry)) then ask 18 0 (leb words transcript && leb outs outputs)) ⌝ }
 {
-    if coefficients.len() != draws {
+    if coefficients.len() != due {
         return Verdict::Refused {
             number: 16,
             index: 0,

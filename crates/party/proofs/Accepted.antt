@@ -147,8 +147,8 @@ module _ (P : Party) (l : List ℕ) (y : Layout) (at : Site) (r : Round) (lent :
   sends held coefficients room e =
       record {
         ready = ready (then-left _ _ e);
-        draws = eqb-true _ _ (ask-true 16 0 _ (then-left _ _ (then-right _ _ e)));
-        draws-low = elements-below 17 p coefficients positive (then-left _ _ (then-right _ _ (then-right _ _ e)));
+        coefficient-count = eqb-true _ _ (ask-true 16 0 _ (then-left _ _ (then-right _ _ e)));
+        coefficients-low = elements-below 17 p coefficients positive (then-left _ _ (then-right _ _ (then-right _ _ e)));
         space = leb-true _ _ (ask-true 18 0 _ (then-right _ _ (then-right _ _ (then-right _ _ e))));
       }
 

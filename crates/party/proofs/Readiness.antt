@@ -8,7 +8,7 @@ use native.Mathlib.Numerals.{add-one}
 use lib.ListN.{length, getD, drop, take, length-drop}
 use lib.Seq.{getD-drop, take-all}
 use Rattle.field.specs.Prime.{p, prime}
-use Rattle.circuit.specs.Gate.{Gate, In, Mul, Out, gateSize, gate, gates, first, second}
+use Rattle.circuit.specs.Gate.{Gate, Mul, Out, gateSize, gate, gates, first, second}
 use Rattle.circuit.specs.Kind.{shape, hasValue}
 use Rattle.circuit.specs.Count.{capacity, unchecked, uncheckedAfter}
 use Rattle.circuit.specs.Round.{Round, Input, Multiply, OpenOutput, RevealOutput, words, openedIn}

@@ -66,8 +66,8 @@ module _ (P : Party) (l : List ℕ) (y : Layout) (at : Site) (held : ℕ) (coeff
         → (S.scratchSize (layoutOf y) ≤ length l) × (getD (P .prep) 0 0 < p) × (k ≤ length coefficients) × Below coefficients × OpenedTo (layoutOf y) l k
     unfolding coefficientsIn
     sends-check {k} c e =
-        let d : length coefficients ≡ openedIn (unchecked (P .circuit) (at .gate)) r = s .draws ∙ rw c in
-        (room-there P l y at r (s .ready), s .ready .prep-low 0, omega arith, s .draws-low, rw e (opened-there P l y at r (s .ready)))
+        let d : length coefficients ≡ openedIn (unchecked (P .circuit) (at .gate)) r = s .coefficient-count ∙ rw c in
+        (room-there P l y at r (s .ready), s .ready .prep-low 0, omega arith, s .coefficients-low, rw e (opened-there P l y at r (s .ready)))
 
     pub holds-check : {k h : ℕ}
         → isCommit r ≡ true

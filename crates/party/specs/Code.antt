@@ -1,6 +1,6 @@
 -- What the code's types stand for, and what its steps ask.
 -- Assumes nothing.
-use Prim.Native.Nat.{ℕ, suc, _+_, _*_, _<_, _≤_}
+use Prim.Native.Nat.{ℕ, _+_, _*_, _<_, _≤_}
 use mathlib.Core.Path.{_≡_}
 use mathlib.Core.Bool.{Bool, true, cond}
 use mathlib.Core.List.{List}
@@ -184,8 +184,8 @@ pub record Ready (P : Party) (l : List ℕ) (y : Layout) (at : Site) (r : Round)
 -- and of sending, 16 to 18; room is the length of the outgoing list
 pub record Sends (P : Party) (l : List ℕ) (y : Layout) (at : Site) (r : Round) (held : ℕ) (coefficients : List ℕ) (room : ℕ) : Type 0 where
   pub ready : Ready P l y at r
-  pub draws : length coefficients ≡ coefficientsIn (unchecked (P .circuit) (at .gate)) r
-  pub draws-low : Below coefficients
+  pub coefficient-count : length coefficients ≡ coefficientsIn (unchecked (P .circuit) (at .gate)) r
+  pub coefficients-low : Below coefficients
   pub space : words (gate (P .circuit) (at .gate)) r ≤ room
 
 -- and of receiving, 19 and 20

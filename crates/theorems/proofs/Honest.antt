@@ -202,13 +202,13 @@ module _ (c : List ℕ) (j : ℕ) where
 
 module _ {O : Ops} (F : Field O) (J : Joint) (has : Given O J) where
   -- The check shares of what is opened sum to zero, whatever the coefficients.
-  check-sum : (j k : ℕ) (os : List Opening) (scratch : ℕ → List ℕ) (drawn : List ℕ) → k ≡ length os
+  check-sum : (j k : ℕ) (os : List Opening) (scratch : ℕ → List ℕ) (taken : List ℕ) → k ≡ length os
       → ((i : ℕ) → i < J .parties → Holds O J i j os (scratch i))
       → Every (CarriesOpened F J has) os
-      → sum O (J .parties) (λ i. checkShare O (layout (J .circuit)) (scratch i) k (keys O J i) drawn) ≡ 0
-  check-sum j k os scratch drawn e h every =
+      → sum O (J .parties) (λ i. checkShare O (layout (J .circuit)) (scratch i) k (keys O J i) taken) ≡ 0
+  check-sum j k os scratch taken e h every =
       sum-ext F (J .parties) _ _ own
-      ∙ check-zero F (J .parties) k (keys O J) (λ t. getD drawn t 0) value (λ t i. mac i t) authentic
+      ∙ check-zero F (J .parties) k (keys O J) (λ t. getD taken t 0) value (λ t i. mac i t) authentic
     where
       value : ℕ → ℕ
       value t = sumOf O J (opened O J (getD os t (Shown 0)))
@@ -222,13 +222,13 @@ module _ {O : Ops} (F : Field O) (J : Joint) (has : Given O J) where
           o .macs ∙ ap (O .mul (sum O (J .parties) (keys O J))) (unfold sumOf in sym (o .shares))
 
       own : (i : ℕ) → i < J .parties
-          → checkShare O (layout (J .circuit)) (scratch i) k (keys O J i) drawn
-          ≡ O .sub (sum O k (λ t. O .mul (getD drawn t 0) (mac i t))) (O .mul (keys O J i) (sum O k (λ t. O .mul (getD drawn t 0) (value t))))
+          → checkShare O (layout (J .circuit)) (scratch i) k (keys O J i) taken
+          ≡ O .sub (sum O k (λ t. O .mul (getD taken t 0) (mac i t))) (O .mul (keys O J i) (sum O k (λ t. O .mul (getD taken t 0) (value t))))
       own i l =
           unfold checkShare in
           ap₂ (O .sub)
-          (sum-ext F k _ _ (λ t lt. ap (O .mul (getD drawn t 0)) (h i l .macs t (omega arith))))
-          (ap (O .mul (keys O J i)) (sum-ext F k _ _ (λ t lt. ap (O .mul (getD drawn t 0)) (h i l .values t (omega arith)))))
+          (sum-ext F k _ _ (λ t lt. ap (O .mul (getD taken t 0)) (h i l .macs t (omega arith))))
+          (ap (O .mul (keys O J i)) (sum-ext F k _ _ (λ t lt. ap (O .mul (getD taken t 0)) (h i l .values t (omega arith)))))
 
   -- What an out gate shows carries its value on plain inputs.
   shown : (j : ℕ) → (x : ℕ) × (gate (J .circuit) j ≡ Out x) → j < gates (J .circuit) → CarriesOpened F J has (Shown (first (gate (J .circuit) j)))
@@ -384,12 +384,12 @@ module _ {O : Ops} (F : Field O) (J : Joint) (has : Given O J) where
         no-value = unfold hasValue in rw eg
 
     -- The check shares made at a commitment sum to zero.
-    committed : (r : Round) → s .point .stage ≡ Send r → isCommit r ≡ true → (drawn : List ℕ)
-        → sum O (J .parties) (λ i. keep r (holds O (party J i) (s .scratch i) at r drawn)) ≡ 0
+    committed : (r : Round) → s .point .stage ≡ Send r → isCommit r ≡ true → (taken : List ℕ)
+        → sum O (J .parties) (λ i. keep r (holds O (party J i) (s .scratch i) at r taken)) ≡ 0
     unfolding keep holds party keys
-    committed r e q drawn =
+    committed r e q taken =
         rw q
-        (check-sum at (openedIn (unchecked (J .circuit) at) r) (pending (J .circuit) at r) (s .scratch) drawn
+        (check-sum at (openedIn (unchecked (J .circuit) at) r) (pending (J .circuit) at r) (s .scratch) taken
         (sym (length-pending (J .circuit) at r)) (holds-at O J s r e inv) (carries-pending at r (fits-at O J s r e inv)))
 
     -- Round r of gate j is followed by round r′ of it.
@@ -419,40 +419,40 @@ module _ {O : Ops} (F : Field O) (J : Joint) (has : Given O J) where
         (sound-resume O J (suc at) held scratch (fits-at O J s r e inv .0) bands)
 
     -- Where a round leads to what follows it, the run is sound there.
-    after-round : (r : Round) → s .point .stage ≡ Send r → (drawn : List ℕ)
-        → Sound O J (follow (J .circuit) at r) (λ i. keep r (holds O (party J i) (s .scratch i) at r drawn)) (later r)
+    after-round : (r : Round) → s .point .stage ≡ Send r → (taken : List ℕ)
+        → Sound O J (follow (J .circuit) at r) (λ i. keep r (holds O (party J i) (s .scratch i) at r taken)) (later r)
     unfolding afterOut
-    after-round Input e drawn =
+    after-round Input e taken =
         let g = gate-at (J .circuit) at Input (fits-at O J s Input e inv .1) in
         leaves Input _ _ e (following-input (J .circuit) at (g .0) (g .1)) (after-input e (g .0) (g .1))
-    after-round Multiply e drawn =
+    after-round Multiply e taken =
         let g = gate-at (J .circuit) at Multiply (fits-at O J s Multiply e inv .1) in
         leaves Multiply _ _ e (following-multiply (J .circuit) at (g .0) (g .1) (g .2)) (after-multiply e (g .0) (g .1) (g .2))
-    after-round CommitOpened e drawn =
+    after-round CommitOpened e taken =
         let f = fits-at O J s CommitOpened e inv in
         let g = gate-at (J .circuit) at CommitOpened (f .1) in
         stays CommitOpened RevealOpened _ _ _ e (following-out (J .circuit) at (g .0) CommitOpened (g .1) (f .1))
         (λ i l. unfold received pending in (unfold pending in holds-at O J s CommitOpened e inv i l))
-        (λ z. committed CommitOpened e (unfold isCommit in refl) drawn)
-    after-round RevealOpened e drawn =
+        (λ z. committed CommitOpened e (unfold isCommit in refl) taken)
+    after-round RevealOpened e taken =
         let f = fits-at O J s RevealOpened e inv in
         let g = gate-at (J .circuit) at RevealOpened (f .1) in
         stays RevealOpened OpenOutput _ _ _ e (following-out (J .circuit) at (g .0) RevealOpened (g .1) (f .1))
         (λ i l. unfold received pending in holds-checked O J (holds-at O J s RevealOpened e inv i l))
         (λ z. unfold isReveal in differ z refl)
-    after-round OpenOutput e drawn =
+    after-round OpenOutput e taken =
         let f = fits-at O J s OpenOutput e inv in
         let g = gate-at (J .circuit) at OpenOutput (f .1) in
         stays OpenOutput CommitOutput _ _ _ e (following-out (J .circuit) at (g .0) OpenOutput (g .1) (f .1))
         (after-open e (g .0) (g .1))
         (λ z. unfold isReveal in differ z refl)
-    after-round CommitOutput e drawn =
+    after-round CommitOutput e taken =
         let f = fits-at O J s CommitOutput e inv in
         let g = gate-at (J .circuit) at CommitOutput (f .1) in
         stays CommitOutput RevealOutput _ _ _ e (following-out (J .circuit) at (g .0) CommitOutput (g .1) (f .1))
         (λ i l. unfold received pending in (unfold pending in holds-at O J s CommitOutput e inv i l))
-        (λ z. committed CommitOutput e (unfold isCommit in refl) drawn)
-    after-round RevealOutput e drawn =
+        (λ z. committed CommitOutput e (unfold isCommit in refl) taken)
+    after-round RevealOutput e taken =
         let f = fits-at O J s RevealOutput e inv in
         let g = gate-at (J .circuit) at RevealOutput (f .1) in
         leaves RevealOutput _ _ e (following-out (J .circuit) at (g .0) RevealOutput (g .1) (f .1)) (after-output e (g .0) (g .1))
@@ -466,12 +466,12 @@ module _ {O : Ops} (F : Field O) (J : Joint) (has : Given O J) where
     pub inv-step : (r : Round) → s .point .stage ≡ Send r → Inv O J (step O J s r)
     unfolding step
     inv-step r e =
-        subst (λ (p : Point). Sound O J p (λ i. keep r (holds O (party J i) (s .scratch i) at r (drawn r))) (later r))
+        subst (λ (p : Point). Sound O J p (λ i. keep r (holds O (party J i) (s .scratch i) at r (taken r))) (later r))
         (sym (point-step r e))
-        (after-round r e (drawn r))
+        (after-round r e (taken r))
       where
-        drawn : Round → List ℕ
-        drawn r = take (takes O J s r) (drop (s .used) (J .coefficients))
+        taken : Round → List ℕ
+        taken r = take (takes O J s r) (drop (s .used) (J .coefficients))
 
   -- A run on enough scratch starts with the invariant.
   pub inv-begun : (scratch : List ℕ) → J .parties * scratchSize (layout (J .circuit)) ≤ length scratch → Inv O J (begun O J scratch)

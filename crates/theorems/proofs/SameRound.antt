@@ -25,12 +25,12 @@ use Rattle.theorems.proofs.Holds.{Holds, own-first, own-second, own-sho
 use Rattle.theorems.proofs.SideBySide.{Pair, J as run, J′ as run′, Agrees, same-owner, same-words, agrees-mul, agrees-shown, sigma, same-check}
 
 -- A check share is that of the closed form.
-check-is : {O : Ops} (F : Field O) (J : Joint) {i j : ℕ} {os : List Opening} {l : List ℕ} → Holds O J i j os l → (drawn : List ℕ)
-    → checkShare O (layout (J .circuit)) l (length os) (key (party J i)) drawn ≡ sigma O J os (λ t. getD drawn t 0) i
+check-is : {O : Ops} (F : Field O) (J : Joint) {i j : ℕ} {os : List Opening} {l : List ℕ} → Holds O J i j os l → (taken : List ℕ)
+    → checkShare O (layout (J .circuit)) l (length os) (key (party J i)) taken ≡ sigma O J os (λ t. getD taken t 0) i
 unfolding checkShare keys
-check-is {O} F J {i} {j} {os} p drawn =
-    ap₂ (O .sub) (sum-ext F (length os) _ _ (λ t lt. ap (O .mul (getD drawn t 0)) (p .macs t lt)))
-    (ap (O .mul (key (party J i))) (sum-ext F (length os) _ _ (λ t lt. ap (O .mul (getD drawn t 0)) (p .values t lt))))
+check-is {O} F J {i} {j} {os} p taken =
+    ap₂ (O .sub) (sum-ext F (length os) _ _ (λ t lt. ap (O .mul (getD taken t 0)) (p .macs t lt)))
+    (ap (O .mul (key (party J i))) (sum-ext F (length os) _ _ (λ t lt. ap (O .mul (getD taken t 0)) (p .values t lt))))
 
 module _ {O : Ops} {F : Field O} (P : Pair F) where
   open Pair P using (n, c, has)
@@ -94,7 +94,7 @@ module _ {O : Ops} {F : Field O} (P : Pair F) where
         ref = names F J has j lj (Out y) e
 
     -- Every party holds the same check share.
-    pub same-held : Every (Agrees P) os → (drawn : List ℕ) (k : ℕ) → k ≡ length os
-        → checkShare O (layout c) l′ k (key (party J′ i)) drawn ≡ checkShare O (layout c) l k (key (party J i)) drawn
-    same-held all drawn k e =
-        rw e (check-is F J′ p′ drawn ∙ same-check P os all (λ t. getD drawn t 0) i li ∙ sym (check-is F J p drawn))
+    pub same-held : Every (Agrees P) os → (taken : List ℕ) (k : ℕ) → k ≡ length os
+        → checkShare O (layout c) l′ k (key (party J′ i)) taken ≡ checkShare O (layout c) l k (key (party J i)) taken
+    same-held all taken k e =
+        rw e (check-is F J′ p′ taken ∙ same-check P os all (λ t. getD taken t 0) i li ∙ sym (check-is F J p taken))

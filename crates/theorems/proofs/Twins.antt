@@ -61,11 +61,11 @@ module _ {O : Ops} {F : Field O} (P : Pair F) where
 
     -- Every party comes to hold the same check share.
     same-holds : (r : Round) → Wants r (gate c j) → Holds O J i j (pending c j r) (scratch i) → Holds O J′ i j (pending c j r) (scratch′ i)
-        → (drawn : List ℕ)
-        → holds O (party J′ i) (scratch′ i) j r drawn ≡ holds O (party J i) (scratch i) j r drawn
+        → (taken : List ℕ)
+        → holds O (party J′ i) (scratch′ i) j r taken ≡ holds O (party J i) (scratch i) j r taken
     unfolding holds party
-    same-holds r g p p′ drawn =
-        ap (λ (k : ℕ). cond (isCommit r) k 0) (same-held P i li p p′ (agrees-pending r g) drawn _ (sym (length-pending c j r)))
+    same-holds r g p p′ taken =
+        ap (λ (k : ℕ). cond (isCommit r) k 0) (same-held P i li p p′ (agrees-pending r g) taken _ (sym (length-pending c j r)))
 
   module _ (A : ℕ → Bool) (known : (i : ℕ) → i < n → A i ≡ true → party J′ i ≡ party J i) where
     -- two states of the two runs that A cannot tell apart; A's parties are the same in both

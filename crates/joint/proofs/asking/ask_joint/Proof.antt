@@ -6,7 +6,7 @@ use native.Mathlib.Omega.{arith}
 use borrow.Author.Needs.{needs}
 use Rattle.circuit.specs.Code.{verdictOf}
 use Rattle.party.proofs.Loops.{call-then, refused-then}
-use Rattle.joint.proofs.Measures.{product-few, count-fits, count-few, capacity-few, prep-is, prep-few, size-is, size-few, ins-are, outs-are, words-are, words-few, draws-are}
+use Rattle.joint.proofs.Measures.{product-few, count-fits, count-few, capacity-few, prep-is, prep-few, size-is, size-few, ins-are, outs-are, words-are, words-few, coefficients-are}
 use Rattle.joint.proofs.Accepting.{asked, settled}
 use Rattle.joint.proofs.asking.ask_joint.Statement.{statement}
 use Rattle.joint.proofs.asking.ask_joint.Tie as tie
@@ -59,7 +59,7 @@ enum-known-number-2 c = search needs
 
 returns-2 : tie.Need-returns-2
 unfolding verdictOf
-returns-2 c = call-then _ _ (c .before .before .before .before .before .before .before .before .before .before .before .before .ask-setting .ensures) (c .before .before .before .before .before .before .before .before .before .before .enum-told .given .1) (refused-then _ _ (c .before .before .before .ask-lists .ensures) (c .before .number2 .given .1)) ∙ asked _ _ _ _ (ap (λ (x : ℕ). c .before .before .before .before .before .before .before .before .before .before .before .before .before .before .before .before .before .before .args .parties * x) (prep-is ((settled _ _ (sym (c .before .before .before .before .before .before .before .before .before .before .before .before .ask-setting .ensures) ∙ ap verdictOf (c .before .before .before .before .before .before .before .before .before .before .enum-told .given .1))) .valid) (c .before .before .before .before .before .before .before .before .tally-between .ensures))) (ins-are ((settled _ _ (sym (c .before .before .before .before .before .before .before .before .before .before .before .before .ask-setting .ensures) ∙ ap verdictOf (c .before .before .before .before .before .before .before .before .before .before .enum-told .given .1))) .valid) (c .before .before .before .before .before .before .before .totals-before .ensures)) (ap (λ (x : ℕ). c .before .before .before .before .before .before .before .before .before .before .before .before .before .before .before .before .before .before .args .parties * x) (size-is ((settled _ _ (sym (c .before .before .before .before .before .before .before .before .before .before .before .before .ask-setting .ensures) ∙ ap verdictOf (c .before .before .before .before .before .before .before .before .before .before .enum-told .given .1))) .valid) (c .before .before .before .before .before .before .before .before .tally-between .ensures) (c .before .before .before .before .before .size-of .ensures))) (draws-are ((settled _ _ (sym (c .before .before .before .before .before .before .before .before .before .before .before .before .ask-setting .ensures) ∙ ap verdictOf (c .before .before .before .before .before .before .before .before .before .before .enum-told .given .1))) .valid) (c .before .before .before .before .before .before .before .totals-before .ensures)) (ap (λ (x : ℕ). c .before .before .before .before .before .before .before .before .before .before .before .before .before .before .before .before .before .before .args .parties * x) (words-are ((settled _ _ (sym (c .before .before .before .before .before .before .before .before .before .before .before .before .ask-setting .ensures) ∙ ap verdictOf (c .before .before .before .before .before .before .before .before .before .before .enum-told .given .1))) .valid) (c .before .before .before .before .before .before .before .totals-before .ensures))) (outs-are ((settled _ _ (sym (c .before .before .before .before .before .before .before .before .before .before .before .before .ask-setting .ensures) ∙ ap verdictOf (c .before .before .before .before .before .before .before .before .before .before .enum-told .given .1))) .valid) (c .before .before .before .before .before .before .before .totals-before .ensures))
+returns-2 c = call-then _ _ (c .before .before .before .before .before .before .before .before .before .before .before .before .ask-setting .ensures) (c .before .before .before .before .before .before .before .before .before .before .enum-told .given .1) (refused-then _ _ (c .before .before .before .ask-lists .ensures) (c .before .number2 .given .1)) ∙ asked _ _ _ _ (ap (λ (x : ℕ). c .before .before .before .before .before .before .before .before .before .before .before .before .before .before .before .before .before .before .args .parties * x) (prep-is ((settled _ _ (sym (c .before .before .before .before .before .before .before .before .before .before .before .before .ask-setting .ensures) ∙ ap verdictOf (c .before .before .before .before .before .before .before .before .before .before .enum-told .given .1))) .valid) (c .before .before .before .before .before .before .before .before .tally-between .ensures))) (ins-are ((settled _ _ (sym (c .before .before .before .before .before .before .before .before .before .before .before .before .ask-setting .ensures) ∙ ap verdictOf (c .before .before .before .before .before .before .before .before .before .before .enum-told .given .1))) .valid) (c .before .before .before .before .before .before .before .totals-before .ensures)) (ap (λ (x : ℕ). c .before .before .before .before .before .before .before .before .before .before .before .before .before .before .before .before .before .before .args .parties * x) (size-is ((settled _ _ (sym (c .before .before .before .before .before .before .before .before .before .before .before .before .ask-setting .ensures) ∙ ap verdictOf (c .before .before .before .before .before .before .before .before .before .before .enum-told .given .1))) .valid) (c .before .before .before .before .before .before .before .before .tally-between .ensures) (c .before .before .before .before .before .size-of .ensures))) (coefficients-are ((settled _ _ (sym (c .before .before .before .before .before .before .before .before .before .before .before .before .ask-setting .ensures) ∙ ap verdictOf (c .before .before .before .before .before .before .before .before .before .before .enum-told .given .1))) .valid) (c .before .before .before .before .before .before .before .totals-before .ensures)) (ap (λ (x : ℕ). c .before .before .before .before .before .before .before .before .before .before .before .before .before .before .before .before .before .before .args .parties * x) (words-are ((settled _ _ (sym (c .before .before .before .before .before .before .before .before .before .before .before .before .ask-setting .ensures) ∙ ap verdictOf (c .before .before .before .before .before .before .before .before .before .before .enum-told .given .1))) .valid) (c .before .before .before .before .before .before .before .totals-before .ensures))) (outs-are ((settled _ _ (sym (c .before .before .before .before .before .before .before .before .before .before .before .before .ask-setting .ensures) ∙ ap verdictOf (c .before .before .before .before .before .before .before .before .before .before .enum-told .given .1))) .valid) (c .before .before .before .before .before .before .before .totals-before .ensures))
 
 enum-told-2 : tie.Need-enum-told-2
 enum-told-2 c = search needs
@@ -73,7 +73,7 @@ ask-rooms-requires c κs = search needs
 
 returns-3 : tie.Need-returns-3
 unfolding verdictOf
-returns-3 c = call-then _ _ (c .before .before .before .before .before .before .before .before .before .before .before .before .before .ask-setting .ensures) (c .before .before .before .before .before .before .before .before .before .before .before .enum-told .given .1) (call-then _ _ (c .before .before .before .before .ask-lists .ensures) (c .before .before .enum-told2 .given .1) (c .ask-rooms .ensures)) ∙ asked _ _ _ _ (ap (λ (x : ℕ). c .before .before .before .before .before .before .before .before .before .before .before .before .before .before .before .before .before .before .before .args .parties * x) (prep-is ((settled _ _ (sym (c .before .before .before .before .before .before .before .before .before .before .before .before .before .ask-setting .ensures) ∙ ap verdictOf (c .before .before .before .before .before .before .before .before .before .before .before .enum-told .given .1))) .valid) (c .before .before .before .before .before .before .before .before .before .tally-between .ensures))) (ins-are ((settled _ _ (sym (c .before .before .before .before .before .before .before .before .before .before .before .before .before .ask-setting .ensures) ∙ ap verdictOf (c .before .before .before .before .before .before .before .before .before .before .before .enum-told .given .1))) .valid) (c .before .before .before .before .before .before .before .before .totals-before .ensures)) (ap (λ (x : ℕ). c .before .before .before .before .before .before .before .before .before .before .before .before .before .before .before .before .before .before .before .args .parties * x) (size-is ((settled _ _ (sym (c .before .before .before .before .before .before .before .before .before .before .before .before .before .ask-setting .ensures) ∙ ap verdictOf (c .before .before .before .before .before .before .before .before .before .before .before .enum-told .given .1))) .valid) (c .before .before .before .before .before .before .before .before .before .tally-between .ensures) (c .before .before .before .before .before .before .size-of .ensures))) (draws-are ((settled _ _ (sym (c .before .before .before .before .before .before .before .before .before .before .before .before .before .ask-setting .ensures) ∙ ap verdictOf (c .before .before .before .before .before .before .before .before .before .before .before .enum-told .given .1))) .valid) (c .before .before .before .before .before .before .before .before .totals-before .ensures)) (ap (λ (x : ℕ). c .before .before .before .before .before .before .before .before .before .before .before .before .before .before .before .before .before .before .before .args .parties * x) (words-are ((settled _ _ (sym (c .before .before .before .before .before .before .before .before .before .before .before .before .before .ask-setting .ensures) ∙ ap verdictOf (c .before .before .before .before .before .before .before .before .before .before .before .enum-told .given .1))) .valid) (c .before .before .before .before .before .before .before .before .totals-before .ensures))) (outs-are ((settled _ _ (sym (c .before .before .before .before .before .before .before .before .before .before .before .before .before .ask-setting .ensures) ∙ ap verdictOf (c .before .before .before .before .before .before .before .before .before .before .before .enum-told .given .1))) .valid) (c .before .before .before .before .before .before .before .before .totals-before .ensures))
+returns-3 c = call-then _ _ (c .before .before .before .before .before .before .before .before .before .before .before .before .before .ask-setting .ensures) (c .before .before .before .before .before .before .before .before .before .before .before .enum-told .given .1) (call-then _ _ (c .before .before .before .before .ask-lists .ensures) (c .before .before .enum-told2 .given .1) (c .ask-rooms .ensures)) ∙ asked _ _ _ _ (ap (λ (x : ℕ). c .before .before .before .before .before .before .before .before .before .before .before .before .before .before .before .before .before .before .before .args .parties * x) (prep-is ((settled _ _ (sym (c .before .before .before .before .before .before .before .before .before .before .before .before .before .ask-setting .ensures) ∙ ap verdictOf (c .before .before .before .before .before .before .before .before .before .before .before .enum-told .given .1))) .valid) (c .before .before .before .before .before .before .before .before .before .tally-between .ensures))) (ins-are ((settled _ _ (sym (c .before .before .before .before .before .before .before .before .before .before .before .before .before .ask-setting .ensures) ∙ ap verdictOf (c .before .before .before .before .before .before .before .before .before .before .before .enum-told .given .1))) .valid) (c .before .before .before .before .before .before .before .before .totals-before .ensures)) (ap (λ (x : ℕ). c .before .before .before .before .before .before .before .before .before .before .before .before .before .before .before .before .before .before .before .args .parties * x) (size-is ((settled _ _ (sym (c .before .before .before .before .before .before .before .before .before .before .before .before .before .ask-setting .ensures) ∙ ap verdictOf (c .before .before .before .before .before .before .before .before .before .before .before .enum-told .given .1))) .valid) (c .before .before .before .before .before .before .before .before .before .tally-between .ensures) (c .before .before .before .before .before .before .size-of .ensures))) (coefficients-are ((settled _ _ (sym (c .before .before .before .before .before .before .before .before .before .before .before .before .before .ask-setting .ensures) ∙ ap verdictOf (c .before .before .before .before .before .before .before .before .before .before .before .enum-told .given .1))) .valid) (c .before .before .before .before .before .before .before .before .totals-before .ensures)) (ap (λ (x : ℕ). c .before .before .before .before .before .before .before .before .before .before .before .before .before .before .before .before .before .before .before .args .parties * x) (words-are ((settled _ _ (sym (c .before .before .before .before .before .before .before .before .before .before .before .before .before .ask-setting .ensures) ∙ ap verdictOf (c .before .before .before .before .before .before .before .before .before .before .before .enum-told .given .1))) .valid) (c .before .before .before .before .before .before .before .before .totals-before .ensures))) (outs-are ((settled _ _ (sym (c .before .before .before .before .before .before .before .before .before .before .before .before .before .ask-setting .ensures) ∙ ap verdictOf (c .before .before .before .before .before .before .before .before .before .before .before .enum-told .given .1))) .valid) (c .before .before .before .before .before .before .before .before .totals-before .ensures))
 
 pub ask-joint-spec : {M : Type 1} → statement M
 ask-joint-spec =

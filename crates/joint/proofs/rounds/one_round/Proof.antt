@@ -7,7 +7,7 @@ use Rattle.circuit.specs.Round.{words}
 use Rattle.circuit.specs.Code.{roundOf}
 use Rattle.circuit.specs.Gate.{Gate}
 use Rattle.joint.proofs.Rounding.{round-gate, round-end, round-room, round-long, round-releases, round-receives, round-tallies, round-counts, round-turned}
-use Rattle.joint.proofs.Turns.{draws-there}
+use Rattle.joint.proofs.Turns.{coefficients-there}
 use Rattle.joint.proofs.rounds.one_round.Statement.{statement}
 use Rattle.joint.proofs.rounds.one_round.Tie as tie
 
@@ -78,7 +78,7 @@ coefficients-in-requires : tie.Need-coefficients-in-requires
 coefficients-in-requires c κs = search needs
 
 add-used : tie.Need-add-used
-add-used c = omega (arith, c .before .before .before .before .before .before .before .before .before .before .before .before .before .before .before .before .before .before .before .before .before .before .before .before .before .before .before .before .before .before .before .before .before .before .before .good, draws-there (c .before .before .before .before .before .before .before .before .before .before .before .before .before .before .before .before .before .before .before .before .before .before .before .before .before .before .before .before .before .before .before .before .before .before .before .pre .going) (c .before .coefficients-in .ensures))
+add-used c = omega (arith, c .before .before .before .before .before .before .before .before .before .before .before .before .before .before .before .before .before .before .before .before .before .before .before .before .before .before .before .before .before .before .before .before .before .before .before .good, coefficients-there (c .before .before .before .before .before .before .before .before .before .before .before .before .before .before .before .before .before .before .before .before .before .before .before .before .before .before .before .before .before .before .before .before .before .before .before .pre .going) (c .before .coefficients-in .ensures))
 
 add-t24 : tie.Need-add-t24
 add-t24 c = omega (arith, c .before .before .before .before .before .before .before .before .before .before .before .before .before .before .before .before .before .before .before .before .before .before .before .before .before .before .before .before .before .before .before .before .before .before .before .before .pre .rounds-few, c .before .before .before .before .before .before .before .before .before .before .before .before .before .before .before .before .before .before .before .before .before .before .before .before .before .before .before .before .before .before .before .before .before .before .before .before .pre .going .lent .valid .few)

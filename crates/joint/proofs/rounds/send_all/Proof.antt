@@ -9,7 +9,7 @@ use Rattle.circuit.specs.Code.{roundOf}
 use Rattle.circuit.specs.Gate.{Gate}
 use Rattle.joint.specs.Code.{jointOf, siteOf}
 use Rattle.joint.proofs.Parties.{start-le, end-le, prep-le}
-use Rattle.joint.proofs.Turns.{band-le, draws-le, turn-sends, turn-holds, turn-says}
+use Rattle.joint.proofs.Turns.{band-le, coefficients-le, turn-sends, turn-holds, turn-says}
 use Rattle.joint.proofs.Rows.{Sending, gate-fits, sending-start, sending-length, sending-fits, sending-room, sending-again, sending-done}
 use Rattle.joint.proofs.rounds.send_all.Statement.{statement}
 use Rattle.joint.proofs.rounds.send_all.Tie as tie
@@ -78,7 +78,7 @@ part-send-one-end c = sending-fits _ _ _ _ _ (c .before .before .before .before 
 
 send-one-requires : tie.Need-send-one-requires Inv-loop μ-loop
 unfolding siteOf
-send-one-requires c κs = (prep-le (c .before .before .before .before .before .before .before .before .before .before .before .before .before .before .before .before .before .before .pre .0 .lent) (c .before .before .before .before .loop .i) (c .before .before .if1 .taken), start-le (c .before .before .before .before .before .before .before .before .before .before .before .before .before .before .before .before .before .before .pre .0 .lent) (c .before .before .before .before .loop .i) (c .before .before .if1 .taken), end-le (c .before .before .before .before .before .before .before .before .before .before .before .before .before .before .before .before .before .before .pre .0 .lent) (c .before .before .before .before .loop .i) (c .before .before .if1 .taken), band-le (c .before .before .before .before .before .before .before .before .before .before .before .before .before .before .before .before .before .before .pre .0) (c .before .before .before .before .loop .i) (c .before .before .if1 .taken), draws-le (c .before .before .before .before .before .before .before .before .before .before .before .before .before .before .before .before .before .before .pre .0) (c .before .before .before .before .loop .i) (c .before .before .if1 .taken) (c .before .site-of .ensures) refl, turn-sends (c .before .before .before .before .before .before .before .before .before .before .before .before .before .before .before .before .before .before .pre .0) (c .before .before .before .before .loop .i) (c .before .before .if1 .taken) (c .before .site-of .ensures) refl _ (sending-room _ _ _ _ _ (c .before .before .before .before .before .before .before .before .before .before .before .before .before .before .before .before .before .before .pre .0) (c .before .before .before .before .before .words-in .ensures ∙ ap (λ (g : Gate). words g (roundOf (c .before .before .before .before .before .before .before .before .before .before .before .before .before .before .before .before .before .before .args .r))) (c .before .before .before .before .before .before .gate-at .ensures)) _ (c .before .before .before .before .before .before .before .before .before .before .before .before .before .before .before .before .before .before .pre .1) (c .before .before .before .before .loop .inv) (c .before .before .if1 .taken)))
+send-one-requires c κs = (prep-le (c .before .before .before .before .before .before .before .before .before .before .before .before .before .before .before .before .before .before .pre .0 .lent) (c .before .before .before .before .loop .i) (c .before .before .if1 .taken), start-le (c .before .before .before .before .before .before .before .before .before .before .before .before .before .before .before .before .before .before .pre .0 .lent) (c .before .before .before .before .loop .i) (c .before .before .if1 .taken), end-le (c .before .before .before .before .before .before .before .before .before .before .before .before .before .before .before .before .before .before .pre .0 .lent) (c .before .before .before .before .loop .i) (c .before .before .if1 .taken), band-le (c .before .before .before .before .before .before .before .before .before .before .before .before .before .before .before .before .before .before .pre .0) (c .before .before .before .before .loop .i) (c .before .before .if1 .taken), coefficients-le (c .before .before .before .before .before .before .before .before .before .before .before .before .before .before .before .before .before .before .pre .0) (c .before .before .before .before .loop .i) (c .before .before .if1 .taken) (c .before .site-of .ensures) refl, turn-sends (c .before .before .before .before .before .before .before .before .before .before .before .before .before .before .before .before .before .before .pre .0) (c .before .before .before .before .loop .i) (c .before .before .if1 .taken) (c .before .site-of .ensures) refl _ (sending-room _ _ _ _ _ (c .before .before .before .before .before .before .before .before .before .before .before .before .before .before .before .before .before .before .pre .0) (c .before .before .before .before .before .words-in .ensures ∙ ap (λ (g : Gate). words g (roundOf (c .before .before .before .before .before .before .before .before .before .before .before .before .before .before .before .before .before .before .args .r))) (c .before .before .before .before .before .before .gate-at .ensures)) _ (c .before .before .before .before .before .before .before .before .before .before .before .before .before .before .before .before .before .before .pre .1) (c .before .before .before .before .loop .inv) (c .before .before .if1 .taken)))
 
 mul-held : tie.Need-mul-held Inv-loop μ-loop
 mul-held c = omega (arith, (c .before .before .before .before .before .if1 .taken), c .before .before .before .before .before .before .before .before .before .before .before .before .before .before .before .before .before .before .before .before .before .pre .0 .lent .few)
