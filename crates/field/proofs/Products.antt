@@ -1,0 +1,32 @@
+-- The elements of sums of products, which are reduced once at the end.
+-- Assumes nothing.
+use Prim.Native.Nat.{ℕ, _+_, _*_, _-_, _≤_}
+use mathlib.Core.Path.{_≡_, ap, sym, _∙_}
+use native.Mathlib.Omega.{arith}
+use Rattle.field.specs.Prime.{p, norm, add, mul}
+use Rattle.field.specs.Prime.Laws.{norm-eq, add-eq, mul-eq, add-norm}
+use Rattle.field.proofs.PrimeField.{primeField}
+use Rattle.field.proofs.Ring.{add-norm-r}
+
+-- The element of a product of numbers is the product.
+pub norm-product : (x y : ℕ) → norm (x * y) ≡ mul x y
+norm-product x y = norm-eq (x * y) ∙ sym (mul-eq x y)
+
+-- A number with a product added stands for the element with the product added.
+pub norm-more : (s x y : ℕ) → norm (s + x * y) ≡ add (norm s) (mul x y)
+norm-more s x y =
+    norm-eq (s + x * y)
+    ∙ sym (add-eq s (x * y))
+    ∙ sym (add-norm s (x * y))
+    ∙ sym (add-norm-r primeField (norm s) (x * y))
+    ∙ ap (add (norm s)) (norm-product x y)
+
+-- A number from which p * p is taken off stands for the same element.
+pub norm-less : (s : ℕ) → p * p ≤ s → norm (s - p * p) ≡ norm s
+norm-less s h = rw (norm-eq (s - p * p), norm-eq s) (omega arith)
+
+-- A number with three products added stands for the sum with each.
+pub norm-three : (c e b d a k m : ℕ)
+    → norm (c + e * b + d * a + k * m)
+    ≡ add (add (add c (mul e b)) (mul d a)) (mul k m)
+norm-three c e b d a k m = rw (norm-more _ k m, norm-more _ d a, norm-more c e b, add-norm c)
