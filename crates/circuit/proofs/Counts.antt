@@ -1,7 +1,7 @@
 -- Laws of what is counted along a circuit: one gate more, that a part is within the whole, and bounds.
 -- Assumes nothing.
 use Prim.Native.Nat.{ℕ, zero, suc, _+_, _*_, _<_, _≤_}
-use mathlib.Core.Path.{_≡_, refl, ap}
+use mathlib.Core.Path.{_≡_, refl}
 use mathlib.Core.Logic.{⊎-elim}
 use mathlib.Core.Bool.{Bool, true, false, cond}
 use mathlib.Core.List.{List}
@@ -10,8 +10,8 @@ use native.Mathlib.Numerals.{add-one}
 use native.Mathlib.Omega.{arith}
 use borrow.Author.Tests.{eq-eqb}
 use Rattle.circuit.specs.Gate.{Gate, In, kind, first, gate, gates}
-use Rattle.circuit.specs.Kind.{shape, hasValue, isIn, isOut, ownedBy}
-use Rattle.circuit.specs.Count.{total, count, prepAt, prepSize, capacity, inputAt, inputCount, inCount, outCount, uncheckedAfter, unchecked}
+use Rattle.circuit.specs.Kind.{shape, hasValue, isIn, ownedBy}
+use Rattle.circuit.specs.Count.{total, count, prepAt, prepSize, capacity, inputAt, inputCount, inCount, uncheckedAfter, unchecked}
 use Rattle.circuit.proofs.Tests.{by-cases}
 use Rattle.circuit.proofs.KindLaws.{shape-low}
 
@@ -136,14 +136,6 @@ module _ (c : List ℕ) where
   unfolding inputAt
   input-le i j = count-le (ownedBy i) c j
 
-  pub input-count-le : (i : ℕ) → inputCount c i ≤ gates c
-  unfolding inputCount
-  input-count-le i = input-le i (gates c)
-
   pub in-count-le : inCount c ≤ gates c
   unfolding inCount
   in-count-le = count-le isIn c (gates c)
-
-  pub out-count-le : outCount c ≤ gates c
-  unfolding outCount
-  out-count-le = count-le isOut c (gates c)

@@ -1,18 +1,16 @@
 -- What an accepted circuit's gates are: which gates are there, what they name, and how it starts.
 -- Assumes nothing.
-use Prim.Native.Nat.{ℕ, zero, suc, _+_, _*_, _<_, _≤_}
+use Prim.Native.Nat.{ℕ, _+_, _*_, _<_, _≤_}
 use mathlib.Core.Path.{_≡_, refl}
-use mathlib.Core.Bool.{true, false}
+use mathlib.Core.Bool.{Bool, true, false, cond}
 use mathlib.Core.List.{List}
 use native.Mathlib.Nat.{not-suc-le-zero}
 use native.Mathlib.Omega.{arith}
 use lib.ListN.{length, List·getD-eq-default}
-use lib.Dec.{ltb}
-use borrow.Author.Tests.{ltb-true, ltb-false}
-use Rattle.circuit.specs.Gate.{Gate, In, Add, Sub, Plus, Times, Mul, Out, gateSize, decode, entry, gate, gates}
+use lib.Dec.{eqb}
+use Rattle.circuit.specs.Gate.{Gate, In, Add, Sub, Plus, Times, Mul, Out, kindIn, kindAdd, kindSub, kindPlus, kindTimes, kindMul, gateSize, decode, entry, gate, gates}
 use Rattle.circuit.specs.Kind.{hasValue}
 use Rattle.circuit.specs.Valid.{Ref, Names, Valid}
-use Rattle.circuit.proofs.Tests.{false-no, by-cases}
 
 -- past the end stands an out gate
 pub gate-past : (c : List ℕ) (j : ℕ) → length c ≤ gateSize * j → gate c j ≡ Out 0
@@ -21,19 +19,6 @@ gate-past c j h =
     let kind : length c ≤ gateSize * j + 0 = omega arith in
     let one : length c ≤ gateSize * j + 1 = omega arith in
     rw (List·getD-eq-default c 0 kind, List·getD-eq-default c 0 one)
-
-out-no-value : {A : Type 0} (x : ℕ) → hasValue (Out x) ≡ true → A
-unfolding hasValue
-out-no-value x e = false-no e
-
--- so what has a value is there
-pub valued-below : (c : List ℕ) (j : ℕ) → length c ≡ gateSize * gates c → hasValue (gate c j) ≡ true → j < gates c
-valued-below c j w e =
-    by-cases (ltb j (gates c)) (λ h. ltb-true j (gates c) h)
-    (λ h. let p : gate c j ≡ Out 0 = gate-past c j (let l : gates c ≤ j = ltb-false j (gates c) h in omega arith) in out-no-value 0 (rw p at e))
-
-pub ref-below : {c : List ℕ} {j x : ℕ} → Ref c j x → j < gates c → x < gates c
-ref-below r h = omega (arith, r .earlier)
 
 module _ {n q : ℕ} {c : List ℕ} (v : Valid n q c) where
   pub names-of : (j : ℕ) {g : Gate} → j < gates c → gate c j ≡ g → Names n q c j g
@@ -53,3 +38,19 @@ module _ {n q : ℕ} {c : List ℕ} (v : Valid n q c) where
       only-in (Times x k) h = no-ref (h .0)
       only-in (Mul x y) h = no-ref (h .0)
       only-in (Out x) h = no-ref h
+
+-- whether a gate has a value is told by its kind
+pub value-by-kind : (k a b d a′ b′ d′ : ℕ) → hasValue (decode k a b d) ≡ hasValue (decode k a′ b′ d′)
+unfolding decode hasValue
+value-by-kind k a b d a′ b′ d′ = go (eqb k kindIn) (eqb k kindAdd) (eqb k kindSub) (eqb k kindPlus) (eqb k kindTimes) (eqb k kindMul)
+  where
+    go : (i p m c t u : Bool)
+        → hasValue (cond i (In a) (cond p (Add a b) (cond m (Sub a b) (cond c (Plus a d) (cond t (Times a d) (cond u (Mul a b) (Out a)))))))
+        ≡ hasValue (cond i (In a′) (cond p (Add a′ b′) (cond m (Sub a′ b′) (cond c (Plus a′ d′) (cond t (Times a′ d′) (cond u (Mul a′ b′) (Out a′)))))))
+    go true p m c t u = refl
+    go false true m c t u = refl
+    go false false true c t u = refl
+    go false false false true t u = refl
+    go false false false false true u = refl
+    go false false false false false true = refl
+    go false false false false false false = refl

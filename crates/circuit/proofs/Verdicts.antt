@@ -62,27 +62,17 @@ pub then-passed : {a : Verdict} (b : Verdict) → a ≡ Accepted → (a then b) 
 unfolding _then_
 then-passed b e = rw e
 
--- for a `return`: v is what the function answers, r what a call answered, b or a what its contract says it is
-module _ (number index : ℕ) (b : Bool) (rest : Verdict) where
-  pub pass : {r : Bool} {v : Verdict} → r ≡ b → not r ≡ false → v ≡ rest → v ≡ (ask number index b then rest)
-  pass e h g = g ∙ sym (then-passed rest (ask-yes number index (said-yes e h)))
+-- a question that was asked of several things, with the answer b so far, and is asked of one more
+module _ (number index : ℕ) where
+  pub asked-yes : (b : Bool) {v : Verdict} → v ≡ Accepted → (ask number index b then v) ≡ ask number index b
+  unfolding ask _then_
+  asked-yes true e = e
+  asked-yes false e = refl
 
-  pub fail : {r : Bool} → r ≡ b → not r ≡ true → Refused number index ≡ (ask number index b then rest)
-  fail e h = sym (then-refused rest (ask-no number index (said-no e h)))
-
-module _ (number index : ℕ) (b : Bool) where
-  pub pass-last : {r : Bool} → r ≡ b → not r ≡ false → Accepted ≡ ask number index b
-  pass-last e h = sym (ask-yes number index (said-yes e h))
-
-  pub fail-last : {r : Bool} → r ≡ b → not r ≡ true → Refused number index ≡ ask number index b
-  fail-last e h = sym (ask-no number index (said-no e h))
-
-module _ (a rest : Verdict) where
-  pub pass-call : {r v : Verdict} → r ≡ a → r ≡ Accepted → v ≡ rest → v ≡ (a then rest)
-  pass-call e h g = g ∙ sym (then-passed rest (sym e ∙ h))
-
-  pub fail-call : {r : Verdict} {number index : ℕ} → r ≡ a → r ≡ Refused number index → Refused number index ≡ (a then rest)
-  fail-call e h = sym (then-refused rest (sym e ∙ h))
+  pub asked-no : (b : Bool) {v : Verdict} → v ≡ Refused number index → (ask number index b then v) ≡ ask number index false
+  unfolding ask _then_
+  asked-no true e = e
+  asked-no false e = refl
 
 module _ (f : ℕ → Verdict) where
   pub each-below : (n : ℕ) → each n f ≡ Accepted → (j : ℕ) → j < n → f j ≡ Accepted
@@ -102,9 +92,12 @@ module _ (f : ℕ → Verdict) where
   unfolding each
   each-none = refl
 
-  pub each-more : (i : ℕ) → each i f ≡ Accepted → f i ≡ Accepted → each (i + 1) f ≡ Accepted
+  pub each-next : (i : ℕ) → each (i + 1) f ≡ (each i f then f i)
   unfolding each
-  each-more i before here = rw add-one (then-both before here)
+  each-next i = rw add-one
+
+  pub each-more : (i : ℕ) → each i f ≡ Accepted → f i ≡ Accepted → each (i + 1) f ≡ Accepted
+  each-more i before here = each-next i ∙ then-both before here
 
   pub each-refused : (i : ℕ) {number index : ℕ} (n : ℕ) → i < n → each i f ≡ Accepted → f i ≡ Refused number index → each n f ≡ Refused number index
   unfolding each
@@ -113,7 +106,7 @@ module _ (f : ℕ → Verdict) where
       ⊎-elim (λ e. let b : each n f ≡ Accepted = rw (← e) before in then-passed (f n) b ∙ rw (← e) here)
       (λ l. then-refused (f n) (each-refused i n l before here)) (eq-or-lt-of-le (le-of-suc-le-suc h))
 
-  pub each-done : (i n : ℕ) → i ≤ n → n ≤ i → each i f ≡ Accepted → each n f ≡ Accepted
+  pub each-done : (i n : ℕ) → i ≤ n → n ≤ i → {v : Verdict} → each i f ≡ v → each n f ≡ v
   each-done i n h g e = let q : n ≡ i = omega arith in rw q e
 
 module _ (number q : ℕ) (xs : List ℕ) where

@@ -59,8 +59,11 @@ pub record Tallied (c : List ℕ) (i j : ℕ) (t : Tally) : Type 0 where
   pub unchecked : t .unchecked ≡ unchecked c j
   pub inputs : t .inputs ≡ inputAt c i j
 
--- what a run of the gates before j takes: its in and out gates, the words of a party and the coefficients
+-- what a run of the gates before j takes: the numbers of a party's preprocessing, the opened entries, its in and out gates, the words of a
+-- party and the coefficients
 pub record Totalled (c : List ℕ) (j : ℕ) (t : Totals) : Type 0 where
+  pub prep : t .prep ≡ prepAt c j
+  pub openings : t .openings ≡ total (λ g. K.shape g .openings) c j
   pub ins : t .ins ≡ count K.isIn c j
   pub outs : t .outs ≡ count K.isOut c j
   pub words : t .words ≡ R.overRun (λ i r. R.words (G.gate c i) r) c j

@@ -55,8 +55,10 @@ pub struct Shape {
     pub words: usize,
 }
 
-// What a whole run takes: in gates, outputs, words of one party, coefficients.
+// What a whole run takes: numbers of a party's preprocessing, opened entries, in gates, outputs, words of one party, coefficients.
 pub struct Totals {
+    pub prep: usize,
+    pub openings: usize,
     pub ins: usize,
     pub outs: usize,
     pub words: usize,
@@ -324,6 +326,15 @@ fn pick_role(first: Role, second: Role, constant: Role, k: usize) -> Role
     constant
 }
 
+// Has gate j a value? Its kind tells, whatever it names.
+fn has_value_at(c: &[u32], j: usize) -> bool
+    requires { ⌜ gateSize * j + gateSize ≤ length (now c) ⌝ }
+    ensures { λ r. ⌜ r ≡ hasValue (gate (now (c .entry)) j) ⌝ }
+{
+    let at = GATE_SIZE * j;
+    has_value(decode_gate(c[at], 0, 0, 0))
+}
+
 // May gate j name gate x?
 fn may_name(c: &[u32], j: usize, x: u32) -> bool
     requires { ⌜ gateSize * j ≤ length (now c) ⌝ }
@@ -331,7 +342,7 @@ fn may_name(c: &[u32], j: usize, x: u32) -> bool
 {
     let named = x as usize;
     if named < j {
-        return has_value(gate_at(c, named));
+        return has_value_at(c, named);
     }
     false
 }
@@ -361,7 +372,8 @@ fn rest_ok(size: u32, x: u32, role: Role) -> bool
     }
 }
 
-// Questions 4 to 6 of the first count gates: all three of one gate before the next.
+// Questions 4 to 6 of the first count gates: all three of one gate before the next. A gate's numbers are gone through once: question 6
+// refuses only after question 5 was asked of each of them.
 fn scan(parties: usize, size: u32, c: &[u32], count: usize) -> Verdict
     requires { ⌜ (gateSize * count ≤ length (now c)) × (count ≤ mostGates) ⌝ }
     ensures { λ r. ⌜ verdictOf r ≡ each count (askGate parties size (now (c .entry))) ⌝ }
@@ -376,25 +388,27 @@ fn scan(parties: usize, size: u32, c: &[u32], count: usize) -> Verdict
             };
         }
         let g = gate_at(c, j);
+        let mut rest = true;
         let mut k = 0;
         while k < OPERANDS {
-            if !name_ok(parties, c, j, c[at + 1 + k], role_of(g, k + 1)) {
+            let role = role_of(g, k + 1);
+            let x = c[at + 1 + k];
+            if !name_ok(parties, c, j, x, role) {
                 return Verdict::Refused {
                     number: 5,
                     index: j,
                 };
             }
+            if !rest_ok(size, x, role) {
+                rest = false;
+            }
             k += 1;
         }
-        let mut m = 0;
-        while m < OPERANDS {
-            if !rest_ok(size, c[at + 1 + m], role_of(g, m + 1)) {
-                return Verdict::Refused {
-                    number: 6,
-                    index: j,
-                };
-            }
-            m += 1;
+        if !rest {
+            return Verdict::Refused {
+                number: 6,
+                index: j,
+            };
         }
         j += 1;
     }
@@ -624,7 +638,10 @@ fn total_gate(c: &[u32], j: usize, waiting: usize, t: Totals) -> Totals
     ensures { λ r. ⌜ Totalled (now (c .entry)) (j + 1) r ⌝ }
 {
     let g = gate_at(c, j);
+    let s = shape_of(g);
     Totals {
+        prep: t.prep + s.prep,
+        openings: t.openings + s.openings,
         ins: t.ins + one_if(is_in(g)),
         outs: t.outs + one_if(is_out(g)),
         words: t.words + words_of(g, waiting),
@@ -638,6 +655,8 @@ pub fn totals_before(c: &[u32], count: usize) -> Totals
     ensures { λ r. ⌜ Totalled (now (c .entry)) count r ⌝ }
 {
     let mut t = Totals {
+        prep: 1,
+        openings: 0,
         ins: 0,
         outs: 0,
         words: 0,

@@ -7,19 +7,16 @@ use Rattle.circuit.proofs.Tests.{tests}
 use Rattle.circuit.proofs.may_name.Statement.{statement}
 use Rattle.circuit.proofs.may_name.Tie as tie
 
-gate-at-requires : tie.Need-gate-at-requires
-gate-at-requires c κs = search needs
-
-has-value-requires : tie.Need-has-value-requires
-has-value-requires c κs = search needs
+has-value-at-requires : tie.Need-has-value-at-requires
+has-value-at-requires c κs = search needs
 
 returns : tie.Need-returns
 unfolding mayName
-returns c = rw (lt-ltb _ _ (c .before .before .if1 .taken)) (cc)
+returns c = rw (lt-ltb _ _ (c .before .if1 .taken)) (c .has-value-at .ensures)
 
 returns-2 : tie.Need-returns-2
 unfolding mayName
 returns-2 c = search tests
 
 pub may-name-spec : {M : Type 1} → statement M
-may-name-spec = tie.close (tie.spec gate-at-requires has-value-requires returns returns-2)
+may-name-spec = tie.close (tie.spec has-value-at-requires returns returns-2)

@@ -6,7 +6,7 @@ use native.Mathlib.Omega.{arith}
 use denote.Ref.{now}
 use borrow.Author.Needs.{needs}
 use Rattle.circuit.specs.Round.{overRun}
-use Rattle.circuit.specs.Count.{total, count, unchecked}
+use Rattle.circuit.specs.Count.{total, count, prepAt, unchecked}
 use Rattle.circuit.specs.Code.{Totalled}
 use Rattle.circuit.proofs.Counts.{unchecked-few, unchecked-more}
 use Rattle.circuit.proofs.totals_before.Statement.{statement}
@@ -19,8 +19,8 @@ abbrev μ-loop : tie.MeasureT-loop
 μ-loop c count t₀ waiting₀ j₀ t waiting j = count - j
 
 loop-holds : tie.Need-loop-holds Inv-loop μ-loop
-unfolding total count unchecked overRun
-loop-holds c = (search needs, refl, record { ins = refl; outs = refl; words = refl; coefficients = refl })
+unfolding total count unchecked overRun prepAt
+loop-holds c = (search needs, refl, record { prep = refl; openings = refl; ins = refl; outs = refl; words = refl; coefficients = refl })
 
 total-gate-requires : tie.Need-total-gate-requires Inv-loop μ-loop
 total-gate-requires c κs = search needs
