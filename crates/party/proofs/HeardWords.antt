@@ -1,8 +1,8 @@
 -- What the words of all come to: what finding it asks, and what it is at each gate.
 -- Assumes nothing.
 use Prim.Native.Nat.{ℕ, _*_, _<_, _≤_}
-use mathlib.Core.Path.{_≡_, _∙_}
-use mathlib.Core.Bool.{true, false}
+use mathlib.Core.Path.{_≡_, sym, ap, _∙_}
+use mathlib.Core.Bool.{true, false, cond}
 use mathlib.Core.List.{List}
 use native.Mathlib.Omega.{arith}
 use lib.ListN.{length, getD}
@@ -15,7 +15,7 @@ use Rattle.circuit.proofs.KindLaws.{is-in}
 use Rattle.circuit.proofs.Rounds.{RoundGate, gate-at-round}
 use Rattle.circuit.proofs.Tests.{false-no}
 use Rattle.party.specs.Receive.{heardSum}
-use Rattle.party.specs.Code.{Below, Hears, Summed, heardFirst, heardSecond}
+use Rattle.party.specs.Code.{Below, Hears, heardFirst, heardSecond}
 use Rattle.party.proofs.Summing.{words-fit}
 
 -- the owner of an in gate is a party
@@ -47,43 +47,46 @@ words-two OpenOutput g h e = false-no (rw (h .1) at e)
 words-two CommitOutput g h e = false-no (rw (h .1) at e)
 words-two RevealOutput g h e = false-no (rw (h .1) at e)
 
-module _ {n : ℕ} {c : List ℕ} {j : ℕ} {r : Round} {heard : List ℕ} (s : Hears n c j r heard) {b : ℕ} (eb : b ≡ words (gate c j) r) where
-  fits : n * b ≤ length heard
-  fits = rw eb (omega (arith, s .whole))
-
-  -- the owner's word is among the words heard
-  pub owner-word : isIn (gate c j) ≡ true → {a : ℕ} → a ≡ first (gate c j) → (a * b < length heard) × Below heard
-  owner-word e {a} ea =
-      let h : a < n = rw ea (owner-low (s .valid) (s .within) e) in
-      (omega (arith, words-fit n b a h fits, eb, words-some r (gate c j) (gate-at-round c j r (s .occurs))), s .heard-low)
-
-  -- the sums can be made
-  pub first-asks : (0 < b) × (n * b ≤ length heard) × Below heard
-  first-asks = (omega (arith, eb, words-some r (gate c j) (gate-at-round c j r (s .occurs))), fits, s .heard-low)
-
-  pub second-asks : isMul (gate c j) ≡ true → (1 < b) × (n * b ≤ length heard) × Below heard
-  second-asks e = (omega (arith, eb, words-two r (gate c j) (gate-at-round c j r (s .occurs)) e), fits, s .heard-low)
+-- the owner's word is among the words heard
+pub owner-word : (n k : ℕ) {s a : ℕ} (heard : List ℕ) → 0 < k → n * k ≤ length heard → Below heard → a ≡ s → s < n → (a * k < length heard) × Below heard
+owner-word n k {s} {a} heard some long low e h = (omega (arith, words-fit n k a (rw e h) long), low)
 
 -- what is found is what the words come to
-module _ (n : ℕ) (g : Gate) (r : Round) (heard : List ℕ) {b : ℕ} (eb : b ≡ words g r) where
-  in-no-mul : isIn g ≡ true → isMul g ≡ false
-  unfolding isMul kind
-  in-no-mul h = rw (is-in g h .1)
+module _ (n k : ℕ) (g : Gate) (heard : List ℕ) where
+  pub word-is : isIn g ≡ true → {a e : ℕ} → a ≡ first g → Is (getD heard (a * k) 0) e → Is (cond (isIn g) (getD heard (first g * k) 0) (heardSum prime n k 0 heard)) e
+  word-is h ea w = record { is = w .is ∙ rw (h, ea); below = w .below }
 
-  pub summed-in : isIn g ≡ true → {a e : ℕ} → a ≡ first g → Is (getD heard (a * b) 0) e → Summed n g r heard e 0
-  unfolding heardFirst heardSecond
-  summed-in h ea w =
-      record { first = record { is = w .is ∙ rw (h, ea, eb); below = w .below }; second = record { is = rw (in-no-mul h); below = omega arith } }
+  pub sum-is : isIn g ≡ false → {e : ℕ} → Is (heardSum prime n k 0 heard) e → Is (cond (isIn g) (getD heard (first g * k) 0) (heardSum prime n k 0 heard)) e
+  sum-is h w = record { is = w .is ∙ rw h; below = w .below }
 
-  pub summed-two : isIn g ≡ false → isMul g ≡ true → {e d : ℕ} → Is (heardSum prime n b 0 heard) e → Is (heardSum prime n b 1 heard) d → Summed n g r heard e d
-  unfolding heardFirst heardSecond
-  summed-two h m w v =
-      record { first = record { is = w .is ∙ rw (h, eb); below = w .below }; second = record { is = v .is ∙ rw (m, eb); below = v .below } }
+  pub second-is : isMul g ≡ true → {d : ℕ} → Is (heardSum prime n k 1 heard) d → Is (cond (isMul g) (heardSum prime n k 1 heard) 0) d
+  second-is h w = record { is = w .is ∙ rw h; below = w .below }
 
-  pub summed-one : isIn g ≡ false → isMul g ≡ false → {e : ℕ} → Is (heardSum prime n b 0 heard) e → Summed n g r heard e 0
-  unfolding heardFirst heardSecond
-  summed-one h m w =
-      record { first = record { is = w .is ∙ rw (h, eb); below = w .below }; second = record { is = rw m; below = omega arith } }
+  pub no-second : isMul g ≡ false → Is (cond (isMul g) (heardSum prime n k 1 heard) 0) 0
+  no-second h = record { is = rw h; below = omega arith }
+
+-- what finding it asks, at a round of gate j that the code knows as g
+module _ {n : ℕ} {c : List ℕ} {j : ℕ} {r : Round} {heard : List ℕ} (s : Hears n c j r heard) {g : Gate} (eg : g ≡ gate c j) {k : ℕ} (ek : k ≡ words g r) where
+  some : 0 < words g r
+  some = rw eg (words-some r (gate c j) (gate-at-round c j r (s .occurs)))
+
+  fits : n * k ≤ length heard
+  fits = rw (ek, eg) (omega (arith, s .whole))
+
+  pub first-asks : (0 < k) × (n * k ≤ length heard) × Below heard × (isIn g ≡ true → first g < n)
+  first-asks = (omega (arith, ek, some), fits, s .heard-low, λ e. rw eg (owner-low (s .valid) (s .within) (sym (ap isIn eg) ∙ e)))
+
+  pub second-asks : (n * k ≤ length heard) × Below heard × (isMul g ≡ true → 1 < k)
+  second-asks = (fits, s .heard-low, λ e. rw (ek, eg) (words-two r (gate c j) (gate-at-round c j r (s .occurs)) (sym (ap isMul eg) ∙ e)))
+
+  -- and what is then found
+  pub first-found : {e : ℕ} → Is (cond (isIn g) (getD heard (first g * k) 0) (heardSum prime n k 0 heard)) e → Is (heardFirst n (gate c j) r heard) e
+  unfolding heardFirst
+  first-found w = record { is = w .is ∙ rw (ek, eg); below = w .below }
+
+  pub second-found : {d : ℕ} → Is (cond (isMul g) (heardSum prime n k 1 heard) 0) d → Is (heardSecond n (gate c j) r heard) d
+  unfolding heardSecond
+  second-found w = record { is = w .is ∙ rw (ek, eg); below = w .below }
 
 -- what the words come to, by the gate
 module _ (n : ℕ) (heard : List ℕ) (r : Round) {g : Gate} where

@@ -1,14 +1,14 @@
--- A loop that asks the same question of one thing after another.
+-- Loops that ask the same question of one thing after another.
 -- Assumes nothing.
 use Prim.Native.Nat.{ℕ, _+_, _<_, _≤_}
 use mathlib.Core.Path.{_≡_, refl, sym, ap, _∙_}
-use mathlib.Core.Bool.{Bool, true, false, not, _&&_, _||_}
+use mathlib.Core.Logic.{_↔_}
+use mathlib.Core.Bool.{Bool, true, false}
 use mathlib.Core.List.{List}
 use native.Mathlib.Omega.{arith}
 use lib.ListN.{length, getD}
-use lib.Dec.{ltb, eqb}
-use borrow.Author.Tests.{lt-ltb, le-ltb}
-use Rattle.circuit.specs.Verdict.{Verdict, Accepted, Refused, ask, _then_, each, elements}
+use borrow.Author.Count.{below-more}
+use Rattle.circuit.specs.Verdict.{Verdict, Accepted, Refused, ask, _then_, each}
 use Rattle.circuit.specs.Code.{verdictOf}
 use Rattle.circuit.specs.declared.Verdict as D
 use Rattle.circuit.proofs.Verdicts.{ask-yes, ask-no, each-none, each-more, each-refused, each-done, then-refused, then-passed}
@@ -31,6 +31,25 @@ module _ (f : ℕ → Verdict) (n : ℕ) where
 
     pub asking-ends : n ≤ k → Accepted ≡ each n f
     asking-ends l = sym (each-done f k n (a .upto) l (a .passed))
+
+-- of the numbers of a list the first k are asked, and all says whether each of them is below q
+pub record Sifted (q : ℕ) (xs : List ℕ) (k : ℕ) (all : Bool) : Type 0 where
+  pub upto : k ≤ length xs
+  pub says : (all ≡ true) ↔ ((i : ℕ) → i < k → getD xs i 0 < q)
+
+module _ (q : ℕ) (xs : List ℕ) where
+  pub sifted-starts : Sifted q xs 0 true
+  sifted-starts = record { upto = omega arith; says = (λ e i l. omega arith, λ h. refl) }
+
+  module _ (k : ℕ) (all : Bool) (s : Sifted q xs k all) where
+    pub sifted-yes : k < length xs → getD xs k 0 < q → Sifted q xs (k + 1) all
+    sifted-yes l h = record { upto = omega arith; says = (λ e. below-more _ _ (s .says .0 e) h, λ b. s .says .1 (λ i m. b i (omega arith))) }
+
+    pub sifted-no : k < length xs → q ≤ getD xs k 0 → Sifted q xs (k + 1) false
+    sifted-no l h = record { upto = omega arith; says = (λ e. let z : _≡_ {A = ℕ} 0 1 = cc in absurd (omega arith), λ b. absurd (omega (arith, b k (omega arith)))) }
+
+    pub sifted-ends : length xs ≤ k → (all ≡ true) ↔ ((i : ℕ) → i < length xs → getD xs i 0 < q)
+    sifted-ends l = let e : length xs ≡ k = omega arith in rw e (s .says)
 
 -- grouping of questions does not matter
 pub then-assoc : (a b c : Verdict) → ((a then b) then c) ≡ (a then b then c)

@@ -1,6 +1,6 @@
 -- Receiving: what the steps of each round ask, and that they leave what is defined.
 -- Assumes nothing.
-use Prim.Native.Nat.{ℕ, _+_, _-_, _<_, _≤_}
+use Prim.Native.Nat.{ℕ, _+_, _-_, _*_, _<_, _≤_}
 use mathlib.Core.Path.{_≡_, ap, _∙_}
 use mathlib.Core.Bool.{true, false}
 use mathlib.Core.List.{List}
@@ -8,10 +8,11 @@ use native.Mathlib.Numerals.{add-one}
 use native.Mathlib.Omega.{arith}
 use lib.ListN.{length, getD, drop}
 use Rattle.field.specs.Prime.{p, prime}
-use Rattle.circuit.specs.Gate.{gate, first}
+use Rattle.circuit.specs.Gate.{gateSize, gate, first}
 use Rattle.circuit.specs.Round.{Round, Input, Multiply, OpenOutput, RevealOutput}
 use Rattle.party.specs.Scratch as S
 use Rattle.party.specs.Party.{Party, key, recordIn, recordOf}
+use Rattle.party.specs.Position.{reach}
 use Rattle.party.specs.Receive.{afterInput, afterMultiply, afterOpenOutput, settle, passes, onward, received}
 use Rattle.party.specs.declared.Layout.{Layout}
 use Rattle.party.specs.declared.Site.{Site}
@@ -25,10 +26,14 @@ module _ (P : Party) (l : List ℕ) (y : Layout) (at : Site) (heard : List ℕ) 
   hears s =
       record { valid = s .ready .valid; within = s .ready .sited .within; occurs = s .ready .occurs; whole = s .whole; heard-low = s .heard-low }
 
-  pub stands : {r : Round} → Ready P l y at r → Stands (P .circuit) (y .gates) (at .gate) (at .unchecked)
-  stands k =
+  -- and finding the next stop
+  pub reach-asks : {r : Round} → Ready P l y at r → (gateSize * (y .gates) ≤ length (P .circuit)) × (at .gate + 1 ≤ y .gates)
+  reach-asks k = let e = lay-gates P l y at (k .lay) in (omega (arith, e, k .valid .whole), omega (arith, e, k .sited .within))
+
+  pub stands : {r : Round} → Ready P l y at r → {stop : ℕ} → stop ≡ reach (P .circuit) (y .gates - (at .gate + 1)) (at .gate + 1) → Stands (P .circuit) (y .gates) (at .gate) stop (at .unchecked)
+  stands k s =
       let e = lay-gates P l y at (k .lay) in
-      record { all = e; whole = omega (arith, e, k .valid .whole); few = omega (arith, e, k .valid .few); within = omega (arith, e, k .sited .within); waits = k .sited .unchecked }
+      record { all = e; whole = omega (arith, e, k .valid .whole); few = omega (arith, e, k .valid .few); within = omega (arith, e, k .sited .within); reached = s; waits = k .sited .unchecked }
 
   pub input-asks : Receives P l y at Input heard → {e : ℕ} {m : List ℕ} → e < p → m ≡ drop (at .prep) (P .prep)
       → (getD (P .prep) 0 0 < p) × (e < p) × (1 < length m) × Below m × (S.scratchSize (layoutOf y) ≤ length l) × (at .gate < y .gates)

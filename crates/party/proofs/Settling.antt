@@ -1,7 +1,7 @@
 -- The linear gates after a gate: what they ask, what they keep, and how the loop over them goes on.
 -- Assumes nothing.
 use Prim.Native.Nat.{ℕ, zero, suc, _+_, _-_, _<_, _≤_}
-use mathlib.Core.Path.{_≡_, refl, _∙_}
+use mathlib.Core.Path.{_≡_, refl, sym, _∙_}
 use mathlib.Core.Bool.{Bool, true, false, cond}
 use mathlib.Core.List.{List}
 use native.Mathlib.Omega.{arith}
@@ -71,6 +71,54 @@ module _ (c : List ℕ) (y : Layout) where
         opened = opened-put y l j (w .part) h u o;
       })
 
+-- a stop is no earlier gate, and what lies before it is linear
+at-stop : (c : List ℕ) (left j : ℕ) → j ≤ reach c left j
+unfolding reach
+at-stop c zero j = omega arith
+at-stop c (suc left) j = go (isLinear (gate c j)) (at-stop c left (suc j))
+  where
+    go : (b : Bool) → suc j ≤ reach c left (suc j) → j ≤ cond b (reach c left (suc j)) j
+    go true h = omega arith
+    go false h = omega arith
+
+before-stop : (c : List ℕ) (left j : ℕ) → j < reach c left j → (0 < left) × (isLinear (gate c j) ≡ true)
+unfolding reach
+before-stop c zero j h = absurd (omega arith)
+before-stop c (suc left) j h = (omega arith, go (isLinear (gate c j)) refl h)
+  where
+    go : (b : Bool) → isLinear (gate c j) ≡ b → j < cond b (reach c left (suc j)) j → isLinear (gate c j) ≡ true
+    go true e l = e
+    go false e l = absurd (omega arith)
+
+-- the linear gates began at gate b of the first n, and gate j is next
+pub record Reaching (c : List ℕ) (n b j : ℕ) : Type 0 where
+  pub upto : j ≤ n
+  pub place : reach c (n - b) b ≡ reach c (n - j) j
+
+module _ (c : List ℕ) (n b : ℕ) where
+  pub reaching-start : b ≤ n → Reaching c n b b
+  reaching-start h = record { upto = h; place = refl }
+
+  module _ (j : ℕ) (inv : Reaching c n b j) where
+    remain : j < n → n - j ≡ suc (n - (j + 1))
+    remain h = omega arith
+
+    pub reaching-again : j < n → isLinear (gate c j) ≡ true → Reaching c n b (j + 1)
+    unfolding reach
+    reaching-again h e = record { upto = omega arith; place = inv .place ∙ rw (remain h, e, add-one) }
+
+    pub reaching-stop : j < n → isLinear (gate c j) ≡ false → j ≡ reach c (n - b) b
+    unfolding reach
+    reaching-stop h e = rw (inv .place, remain h, e)
+
+    pub reaching-done : n ≤ j → j ≡ reach c (n - b) b
+    unfolding reach
+    reaching-done h = let z : n - j ≡ 0 = omega arith in rw (inv .place, z)
+
+    -- the gates before the stop are linear
+    pub reaching-linear : j < reach c (n - b) b → (j < n) × (isLinear (gate c j) ≡ true)
+    reaching-linear h = let k = before-stop c (n - j) j (omega (arith, h, inv .place)) in (omega (arith, k .0), k .1)
+
 module _ (c : List ℕ) (y : Layout) (i key : ℕ) where
   -- the linear gates keep what was worked out and opened
   pub settle-keeps : (u left j : ℕ) (l : List ℕ)
@@ -96,6 +144,16 @@ module _ (c : List ℕ) (y : Layout) (i key : ℕ) where
           let r = ih (omega arith) (rw (k .len) room) (k .worked) (k .opened) in
           record { len = r .len ∙ k .len; worked = r .worked; opened = r .opened }
       go false q ih = record { len = refl; worked = w; opened = o }
+
+  -- at the stop nothing is left to do
+  pub settle-none : (left j : ℕ) (l : List ℕ) → reach c left j ≤ j → settle prime i key c y left j l ≡ l
+  unfolding settle reach
+  settle-none zero j l h = refl
+  settle-none (suc left) j l h = go (isLinear (gate c j)) h
+    where
+      go : (b : Bool) → cond b (reach c left (suc j)) j ≤ j → cond b (settle prime i key c y left (suc j) (afterLinear prime i key y l j (gate c j))) l ≡ l
+      go true h = absurd (omega (arith, h, at-stop c left (suc j)))
+      go false h = refl
 
   -- the linear gates began at gate b with the scratch l₀, and gate j is next with the scratch l
   pub record Settling (b : ℕ) (l₀ : List ℕ) (j : ℕ) (l : List ℕ) : Type 0 where
@@ -133,37 +191,5 @@ module _ (c : List ℕ) (y : Layout) (i key : ℕ) where
             same = inv .same ∙ rw (left h, e, f, add-one);
           }
 
-      pub settling-stop : j < y .gates
-          → isLinear (gate c j) ≡ false
-          → l ≡ settle prime i key c y (y .gates - b) b l₀
-      unfolding settle
-      settling-stop h e = rw (inv .same, left h, e)
-
-      pub settling-done : y .gates ≤ j → l ≡ settle prime i key c y (y .gates - b) b l₀
-      unfolding settle
-      settling-done h = let z : y .gates - j ≡ 0 = omega arith in rw (inv .same, z)
-
--- the linear gates began at gate b of the first n, and gate j is next
-pub record Reaching (c : List ℕ) (n b j : ℕ) : Type 0 where
-  pub upto : j ≤ n
-  pub place : reach c (n - b) b ≡ reach c (n - j) j
-
-module _ (c : List ℕ) (n b : ℕ) where
-  pub reaching-start : b ≤ n → Reaching c n b b
-  reaching-start h = record { upto = h; place = refl }
-
-  module _ (j : ℕ) (inv : Reaching c n b j) where
-    remain : j < n → n - j ≡ suc (n - (j + 1))
-    remain h = omega arith
-
-    pub reaching-again : j < n → isLinear (gate c j) ≡ true → Reaching c n b (j + 1)
-    unfolding reach
-    reaching-again h e = record { upto = omega arith; place = inv .place ∙ rw (remain h, e, add-one) }
-
-    pub reaching-stop : j < n → isLinear (gate c j) ≡ false → j ≡ reach c (n - b) b
-    unfolding reach
-    reaching-stop h e = rw (inv .place, remain h, e)
-
-    pub reaching-done : n ≤ j → j ≡ reach c (n - b) b
-    unfolding reach
-    reaching-done h = let z : n - j ≡ 0 = omega arith in rw (inv .place, z)
+      pub settling-end : Reaching c (y .gates) b j → reach c (y .gates - b) b ≤ j → l ≡ settle prime i key c y (y .gates - b) b l₀
+      settling-end r h = rw (inv .same) (sym (settle-none (y .gates - j) j l (omega (arith, h, r .place))))

@@ -7,8 +7,8 @@ use native.Mathlib.Omega.{arith}
 use native.Mathlib.Numerals.{add-one}
 use native.Mathlib.Nat.{le-trans, mul-le-mul-right, suc-mul}
 use lib.ListN.{length, getD}
-use Rattle.field.specs.Prime.{p, prime, add, sub, mul, Is}
-use Rattle.field.specs.Prime.Laws.{add-lt}
+use Rattle.field.specs.Prime.{p, prime, norm, add, sub, mul, Is}
+use Rattle.field.specs.Prime.Laws.{norm-of-lt, add-lt}
 use Rattle.field.specs.Sum.{sum}
 use Rattle.party.specs.Scratch.{Layout, Slot, Value, ValueMac, read}
 use Rattle.party.specs.Send.{checkShare}
@@ -28,20 +28,34 @@ unfolding sum
 added-more f i acc a {w} {r} e d =
     rw (add-one i) (record { is = cc; below = rw d (add-lt acc w) })
 
+-- i terms of a row are added up in a number that stands for the sum, kept below p * p
+pub record Running (f : ℕ → ℕ) (i acc : ℕ) : Type 0 where
+  pub added : Added f i (norm acc)
+  pub below : acc < p * p
+
+pub running-start : (f : ℕ → ℕ) → Running f 0 0
+running-start f = record { added = rw (norm-of-lt {x = 0} (omega arith)) (added-start f); below = omega arith }
+
+pub running-more : (f : ℕ → ℕ) (i acc : ℕ) → Running f i acc → {w r : ℕ} → w ≡ f i → (r < p * p) × (norm r ≡ add (norm acc) w)
+    → Running f (i + 1) r
+running-more f i acc a e (b, d) = record { added = added-more f i (norm acc) (a .added) e d; below = b }
+
 -- a coefficient times what is in the slot of an opened entry
 abbrev pub weighed : Layout → List ℕ → List ℕ → (ℕ → Slot) → ℕ → ℕ
 weighed y l coefficients slot t = mul (getD coefficients t 0) (read y l (slot t))
 
 -- the check share from its two sums
-pub check-made : (y : Layout) (l : List ℕ) (k key : ℕ) (coefficients : List ℕ) {t values macs w r : ℕ}
+pub check-made : (y : Layout) (l : List ℕ) (k key : ℕ) (coefficients : List ℕ) {t values macs v m w r : ℕ}
     → t ≡ k
-    → Added (weighed y l coefficients Value) t values
-    → Added (weighed y l coefficients ValueMac) t macs
-    → w ≡ mul key values
-    → r ≡ sub macs w
+    → Running (weighed y l coefficients Value) t values
+    → Running (weighed y l coefficients ValueMac) t macs
+    → m ≡ norm macs
+    → v ≡ norm values
+    → w ≡ mul key v
+    → r ≡ sub m w
     → r ≡ checkShare prime y l k key coefficients
 unfolding checkShare
-check-made y l k key coefficients e a b d f = rw (f, d, a .is, b .is, e)
+check-made y l k key coefficients e a b g h d f = rw (f, d, g, h, a .added .is, b .added .is, e)
 
 -- n parties sent k words each: those of party i end before the list does
 pub words-fit : (n k i : ℕ) {len : ℕ} → i < n → n * k ≤ len → i * k + k ≤ len

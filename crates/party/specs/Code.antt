@@ -1,6 +1,6 @@
 -- What the code's types stand for, and what its steps ask.
 -- Assumes nothing.
-use Prim.Native.Nat.{ℕ, _+_, _*_, _<_, _≤_}
+use Prim.Native.Nat.{ℕ, _+_, _-_, _*_, _<_, _≤_}
 use mathlib.Core.Path.{_≡_}
 use mathlib.Core.Bool.{Bool, true, cond}
 use mathlib.Core.List.{List}
@@ -152,12 +152,14 @@ pub record Settles (c : List ℕ) (y : S.Layout) (key : ℕ) (l : List ℕ) (j :
   pub upto : j ≤ y .gates
   pub worked : Worked c y l j
 
--- what finding the stop after gate j asks: count gates, and that many entries that waited for a check before gate j
-pub record Stands (c : List ℕ) (count j waiting : ℕ) : Type 0 where
+-- what finding the point after gate j asks: count gates, the stop that the linear gates after it reach, and that many entries that waited
+-- for a check before it
+pub record Stands (c : List ℕ) (count j stop waiting : ℕ) : Type 0 where
   pub all : count ≡ gates c
   pub whole : gateSize * count ≤ length c
   pub few : count ≤ mostGates
   pub within : j < count
+  pub reached : stop ≡ P.reach c (count - (j + 1)) (j + 1)
   pub waits : waiting ≡ unchecked c j
 
 -- where gate j's numbers stand: its record, the unchecked entries before it, the party's input for it

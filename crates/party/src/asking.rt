@@ -10,6 +10,8 @@ use crate::scratch;
 use circuit::Round;
 use circuit::Verdict;
 ghost use mathlib.Core.Path.{_≡_};
+ghost use mathlib.Core.Logic.{_↔_};
+ghost use mathlib.Core.Bool.{true};
 ghost use Prim.Native.Nat.{ℕ, _+_, _*_, _<_, _≤_};
 ghost use lib.ListN.{length, getD};
 ghost use lib.Dec.{ltb, leb, eqb};
@@ -19,11 +21,11 @@ ghost use Rattle.circuit.specs.Gate.{gateSize, gates};
 ghost use Rattle.circuit.specs.Count.{unchecked};
 ghost use Rattle.circuit.specs.Accept.{askCircuit};
 ghost use Rattle.circuit.specs.Code.{verdictOf, roundOf};
-ghost use Rattle.party.specs.Scratch.{layout, scratchSize};
+ghost use Rattle.party.specs.Scratch.{layout};
 ghost use Rattle.party.specs.Position.{mayHold, stageOccurs, occurs};
 ghost use Rattle.party.specs.Send.{mark};
 ghost use Rattle.party.specs.Ask.{askParties, slotQuestion, askSlots, askWorked, askSendRound, askReceiveRound, askLent};
-ghost use Rattle.party.specs.Code.{layoutOf, slotOf, sortOf, wantedOf, stageOf, positionOf, Within, Laid, Asked, lentOf, LentOk};
+ghost use Rattle.party.specs.Code.{slotOf, sortOf, wantedOf, stageOf, positionOf, Within, Laid, Asked, lentOf, LentOk};
 
 const FEWEST_PARTIES: usize = 2;
 
@@ -50,10 +52,28 @@ pub fn ask_parties(parties: usize) -> Verdict
     Verdict::Accepted
 }
 
-// Are the numbers of a list elements?
+// Are all numbers of a list elements? There is no exit on the way, so that several numbers are asked at a time.
+fn all_elements(xs: &[u32]) -> bool
+    ensures { λ r. ⌜ (r ≡ true) ↔ ((k : ℕ) → k < length (now (xs .entry)) → getD (now (xs .entry)) k 0 < p) ⌝ }
+{
+    let mut all = true;
+    let mut k = 0;
+    while k < xs.len() {
+        if field::P <= xs[k] {
+            all = false;
+        }
+        k += 1;
+    }
+    all
+}
+
+// Are the numbers of a list elements? The index of one that is not is looked for only if there is one.
 pub fn ask_elements(number: u32, xs: &[u32]) -> Verdict
     ensures { λ r. ⌜ verdictOf r ≡ elements number p (now (xs .entry)) ⌝ }
 {
+    if all_elements(xs) {
+        return Verdict::Accepted;
+    }
     let mut k = 0;
     while k < xs.len() {
         if field::P <= xs[k] {
@@ -213,16 +233,16 @@ fn is_wanted(c: &[u32], sort: Sort, k: usize) -> bool
     }
 }
 
-// Question 15 of one slot.
+// Question 15 of one slot. Whether it is wanted is asked only if its number is no element.
 fn ask_slot(c: &[u32], l: &[u32], y: Layout, sort: Sort, t: usize) -> Verdict
     requires { ⌜ Laid (now c) (now l) y × Within (layout (now c)) (sortOf sort t) ⌝ }
     ensures { λ r. ⌜ verdictOf r ≡ slotQuestion p (now (c .entry)) (now (l .entry)) (wantedOf (now (c .entry)) sort t) (sortOf sort t) ⌝ }
 {
-    if !is_wanted(c, sort, t) {
+    let at = scratch::offset_of(y, slot_at(sort, t));
+    if l[at] < field::P {
         return Verdict::Accepted;
     }
-    let at = scratch::offset_of(y, slot_at(sort, t));
-    if field::P <= l[at] {
+    if is_wanted(c, sort, t) {
         return Verdict::Refused {
             number: 15,
             index: at,

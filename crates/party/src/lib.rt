@@ -81,12 +81,6 @@ pub struct Site {
     pub input: usize,
 }
 
-// What the words of all come to: the owner's word of an in gate or the sum of the first words, and the sum of a mul gate's second words.
-pub struct Heard {
-    pub first: u32,
-    pub second: u32,
-}
-
 // What questions 1 to 12 come to: where they accept, the layout of the scratch and the site of a gate.
 pub enum Lent {
     Refused { number: u32, index: usize },

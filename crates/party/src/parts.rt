@@ -1,8 +1,9 @@
 // What is done to a share and its MAC share alike.
 use crate::Part;
-ghost use mathlib.Core.Path.{_≡_};
+ghost use mathlib.Core.Bool.{cond};
 ghost use Prim.Native.Nat.{_+_, _<_};
 ghost use lib.ListN.{length};
+ghost use lib.Dec.{eqb};
 ghost use Rattle.field.specs.Prime.{p, prime, Is};
 ghost use Rattle.party.specs.Part.{partAt, plus, minus, scale, known, shift, product};
 ghost use Rattle.party.specs.Code.{partOf, Low, IsPart, Below};
@@ -48,16 +49,23 @@ pub fn times(k: u32, x: Part) -> Part
     }
 }
 
-// The party's part of a number that all know: the share stands at party 0 only.
+// The party's share of a number that all know: it stands at party 0 only.
+fn known_share(me: usize, k: u32) -> u32
+    requires { ⌜ k < p ⌝ }
+    ensures { λ r. ⌜ Is (cond (eqb me 0) k 0) r ⌝ }
+{
+    if me == 0 { k } else { 0 }
+}
+
+// The party's part of a number that all know.
 fn of_known(me: usize, key: u32, k: u32) -> Part
     requires { ⌜ (key < p) × (k < p) ⌝ }
     ensures { λ r. ⌜ IsPart (known prime me key k) r ⌝ }
 {
-    let mac = field::mul(key, k);
-    if me == 0 {
-        return Part { share: k, mac };
+    Part {
+        share: known_share(me, k),
+        mac: field::mul(key, k),
     }
-    Part { share: 0, mac }
 }
 
 pub fn shifted(me: usize, key: u32, x: Part, k: u32) -> Part
@@ -72,7 +80,9 @@ pub fn multiplied(me: usize, key: u32, a: Part, b: Part, c: Part, e: u32, d: u32
     requires { ⌜ (key < p) × Low a × Low b × Low c × (e < p) × (d < p) ⌝ }
     ensures { λ r. ⌜ IsPart (product prime me key (partOf a) (partOf b) (partOf c) e d) r ⌝ }
 {
-    let s = add(c, times(e, b));
-    let t = add(s, times(d, a));
-    shifted(me, key, t, field::mul(e, d))
+    let ed = field::mul(e, d);
+    Part {
+        share: field::add_products(c.share, e, b.share, d, a.share, 1, known_share(me, ed)),
+        mac: field::add_products(c.mac, e, b.mac, d, a.mac, key, ed),
+    }
 }

@@ -1,5 +1,4 @@
 // What a party works out of the words of all. The steps ask nothing: what they need is what an entry has asked.
-use crate::Heard;
 use crate::Layout;
 use crate::Part;
 use crate::Point;
@@ -11,10 +10,12 @@ use crate::sending;
 use circuit::Gate;
 use circuit::Round;
 ghost use mathlib.Core.Path.{_≡_};
+ghost use mathlib.Core.Bool.{true, cond};
 ghost use Prim.Native.Nat.{suc, _+_, _-_, _*_, _<_, _≤_};
 ghost use lib.ListN.{length, getD};
 ghost use Rattle.field.specs.Prime.{p, prime, Is};
-ghost use Rattle.circuit.specs.Gate.{gateSize, gate, gates};
+ghost use Rattle.circuit.specs.Gate.{gateSize, gate, gates, first};
+ghost use Rattle.circuit.specs.Kind.{isIn, isMul};
 ghost use Rattle.circuit.specs.Count.{unchecked};
 ghost use Rattle.circuit.specs.Round.{Input, Multiply};
 ghost use Rattle.circuit.specs.Code.{gateOf, roundOf};
@@ -50,31 +51,30 @@ fn first_word(i: usize, k: usize, heard: &[u32]) -> u32
     heard[at]
 }
 
-// What the words of all come to in round r of gate j.
-pub fn heard_of(parties: usize, c: &[u32], j: usize, r: Round, heard: &[u32]) -> Heard
-    requires { ⌜ Hears parties (now c) j (roundOf r) (now heard) ⌝ }
-    ensures { λ w. ⌜ Summed parties (gate (now (c .entry)) j) (roundOf r) (now (heard .entry)) (w .first) (w .second) ⌝ }
+// What the first words of n parties come to at gate g, where each sent k: the owner's word of an in gate, else their sum.
+pub fn heard_first(n: usize, g: Gate, k: usize, heard: &[u32]) -> u32
+    requires { ⌜ (0 < k) × (n * k ≤ length (now heard)) × Below (now heard) × (isIn (gateOf g) ≡ true → first (gateOf g) < n) ⌝ }
+    ensures { λ r. ⌜ Is (cond (isIn (gateOf g)) (getD (now (heard .entry)) (first (gateOf g) * k) 0) (heardSum prime n k 0 (now (heard .entry)))) r ⌝ }
 {
-    let g = circuit::gate_at(c, j);
-    let k = circuit::words_in(g, r);
     if circuit::is_in(g) {
-        return Heard {
-            first: first_word(circuit::first_of(g), k, heard),
-            second: 0,
-        };
+        return first_word(circuit::first_of(g), k, heard);
     }
-    let first = heard_sum(parties, k, 0, heard);
+    heard_sum(n, k, 0, heard)
+}
+
+// And the second words, which a mul gate alone has.
+pub fn heard_second(n: usize, g: Gate, k: usize, heard: &[u32]) -> u32
+    requires { ⌜ (n * k ≤ length (now heard)) × Below (now heard) × (isMul (gateOf g) ≡ true → 1 < k) ⌝ }
+    ensures { λ r. ⌜ Is (cond (isMul (gateOf g)) (heardSum prime n k 1 (now (heard .entry))) 0) r ⌝ }
+{
     if circuit::is_mul(g) {
-        return Heard {
-            first,
-            second: heard_sum(parties, k, 1, heard),
-        };
+        return heard_sum(n, k, 1, heard);
     }
-    Heard { first, second: 0 }
+    0
 }
 
 // m starts at the gate's record, and e is the owner's word.
-fn after_input(me: usize, key: u32, y: Layout, l: &mut [u32], j: usize, m: &[u32], e: u32)
+pub fn after_input(me: usize, key: u32, y: Layout, l: &mut [u32], j: usize, m: &[u32], e: u32)
     requires { ⌜ (key < p) × (e < p) × (1 < length (now m)) × Below (now m) × (scratchSize (layoutOf y) ≤ length (now l)) × (j < y .gates) ⌝ }
     ensures { λ r. ⌜ now (l .exit) ≡ afterInput prime me key (layoutOf y) (now (l .entry)) j (now (m .entry)) e ⌝ }
 {
@@ -82,7 +82,7 @@ fn after_input(me: usize, key: u32, y: Layout, l: &mut [u32], j: usize, m: &[u32
     scratch::put_wire(l, y, j, x);
 }
 
-fn after_multiply(
+pub fn after_multiply(
     me: usize,
     key: u32,
     y: Layout,
@@ -118,7 +118,7 @@ fn triple_product(me: usize, key: u32, m: &[u32], e: u32, d: u32) -> Part
 }
 
 // The sum of the shown shares is the only opened entry.
-fn after_open_output(y: Layout, l: &mut [u32], x: usize, s: u32)
+pub fn after_open_output(y: Layout, l: &mut [u32], x: usize, s: u32)
     requires { ⌜ (scratchSize (layoutOf y) ≤ length (now l)) × (0 < y .capacity) × Held (layoutOf y) (now l) x ⌝ }
     ensures { λ r. ⌜ now (l .exit) ≡ afterOpenOutput prime (layoutOf y) (now (l .entry)) x s ⌝ }
 {
@@ -126,7 +126,7 @@ fn after_open_output(y: Layout, l: &mut [u32], x: usize, s: u32)
     scratch::put_opened(l, y, 0, s, shown.mac);
 }
 
-fn after_linear(me: usize, key: u32, y: Layout, l: &mut [u32], j: usize, g: Gate)
+pub fn after_linear(me: usize, key: u32, y: Layout, l: &mut [u32], j: usize, g: Gate)
     requires { ⌜ (key < p) × (scratchSize (layoutOf y) ≤ length (now l)) × (j < y .gates) × Reads (layoutOf y) (now l) (gateOf g) ⌝ }
     ensures { λ r. ⌜ now (l .exit) ≡ afterLinear prime me key (layoutOf y) (now (l .entry)) j (gateOf g) ⌝ }
 {
@@ -153,24 +153,8 @@ fn after_linear(me: usize, key: u32, y: Layout, l: &mut [u32], j: usize, g: Gate
     }
 }
 
-// The linear gates from gate from on, up to the first gate that needs a round.
-fn settle(me: usize, key: u32, c: &[u32], y: Layout, l: &mut [u32], from: usize)
-    requires { ⌜ Settles (now c) (layoutOf y) key (now l) from ⌝ }
-    ensures { λ r. ⌜ now (l .exit) ≡ settle prime me key (now (c .entry)) (layoutOf y) (y .gates - from) from (now (l .entry)) ⌝ }
-{
-    let mut j = from;
-    while j < y.gates {
-        let g = circuit::gate_at(c, j);
-        if !circuit::is_linear(g) {
-            return;
-        }
-        after_linear(me, key, y, l, j, g);
-        j += 1;
-    }
-}
-
 // The first gate from gate from on that needs a round, or the number of gates.
-fn reach(c: &[u32], count: usize, from: usize) -> usize
+pub fn reach(c: &[u32], count: usize, from: usize) -> usize
     requires { ⌜ (gateSize * count ≤ length (now c)) × (from ≤ count) ⌝ }
     ensures { λ r. ⌜ r ≡ reach (now (c .entry)) (count - from) from ⌝ }
 {
@@ -182,6 +166,18 @@ fn reach(c: &[u32], count: usize, from: usize) -> usize
         j += 1;
     }
     j
+}
+
+// The linear gates from gate from on, up to the stop that they reach.
+pub fn settle(me: usize, key: u32, c: &[u32], y: Layout, l: &mut [u32], from: usize, stop: usize)
+    requires { ⌜ Settles (now c) (layoutOf y) key (now l) from × (stop ≡ reach (now c) (y .gates - from) from) ⌝ }
+    ensures { λ r. ⌜ now (l .exit) ≡ settle prime me key (now (c .entry)) (layoutOf y) (y .gates - from) from (now (l .entry)) ⌝ }
+{
+    let mut j = from;
+    while j < stop {
+        after_linear(me, key, y, l, j, circuit::gate_at(c, j));
+        j += 1;
+    }
 }
 
 // The sending half of a round of gate k.
@@ -235,33 +231,33 @@ fn enter(c: &[u32], count: usize, k: usize, waiting: usize) -> Point
 
 // Gate j is done, before which that many entries waited for a check: the next stop. Linear gates open nothing, so the entries that wait
 // there are those that wait after gate j.
-fn resume(c: &[u32], count: usize, j: usize, waiting: usize) -> Point
-    requires { ⌜ Stands (now c) count j waiting ⌝ }
+fn resume(c: &[u32], count: usize, j: usize, stop: usize, waiting: usize) -> Point
+    requires { ⌜ Stands (now c) count j stop waiting ⌝ }
     ensures { λ x. ⌜ pointOf x ≡ resume (now (c .entry)) (suc j) ⌝ }
 {
     let waiting_after = circuit::unchecked_after(circuit::gate_at(c, j), waiting);
-    let k = reach(c, count, j + 1);
-    enter(c, count, k, waiting_after)
+    enter(c, count, stop, waiting_after)
 }
 
-// The point that follows round r of gate j, before which that many entries wait for a check: it is the same for all parties. The words
-// come to e.
+// The point that follows round r of gate j, before which that many entries wait for a check, and after which stop is reached: it is the
+// same for all parties. The words come to e.
 pub fn next_point(
     parties: usize,
     c: &[u32],
     count: usize,
     j: usize,
+    stop: usize,
     waiting: usize,
     r: Round,
     heard: &[u32],
     e: u32,
 ) -> Point
-    requires { ⌜ Hears parties (now c) j (roundOf r) (now heard) × Stands (now c) count j waiting × (e ≡ heardFirst parties (gate (now c) j) (roundOf r) (now heard)) ⌝ }
+    requires { ⌜ Hears parties (now c) j (roundOf r) (now heard) × Stands (now c) count j stop waiting × (e ≡ heardFirst parties (gate (now c) j) (roundOf r) (now heard)) ⌝ }
     ensures { λ x. ⌜ pointOf x ≡ next prime parties (now (c .entry)) j (roundOf r) (now (heard .entry)) ⌝ }
 {
     match r {
-        Round::Input => resume(c, count, j, waiting),
-        Round::Multiply => resume(c, count, j, waiting),
+        Round::Input => resume(c, count, j, stop, waiting),
+        Round::Multiply => resume(c, count, j, stop, waiting),
         Round::CommitOpened => sending_at(j, Round::RevealOpened),
         Round::RevealOpened => {
             if e == 0 {
@@ -273,7 +269,7 @@ pub fn next_point(
         Round::CommitOutput => sending_at(j, Round::RevealOutput),
         Round::RevealOutput => {
             if e == 0 {
-                return resume(c, count, j, waiting);
+                return resume(c, count, j, stop, waiting);
             }
             aborted_at(j)
         }
@@ -289,17 +285,18 @@ fn receive_input(
     l: &mut [u32],
     y: Layout,
     at: Site,
+    stop: usize,
     heard: &[u32],
     e: u32,
 )
-    requires { ⌜ Receives (record { parties = parties; me = me; circuit = now c; prep = now prep; inputs = now inputs }) (now l) y at Input (now heard) × Is (heardFirst parties (gate (now c) (at .gate)) Input (now heard)) e ⌝ }
+    requires { ⌜ Receives (record { parties = parties; me = me; circuit = now c; prep = now prep; inputs = now inputs }) (now l) y at Input (now heard) × (stop ≡ reach (now c) (y .gates - (at .gate + 1)) (at .gate + 1)) × Is (heardFirst parties (gate (now c) (at .gate)) Input (now heard)) e ⌝ }
     ensures { λ x. ⌜ now (l .exit) ≡ received prime (record { parties = parties; me = me; circuit = now (c .entry); prep = now (prep .entry); inputs = now (inputs .entry) }) (now (l .entry)) (at .gate) Input (now (heard .entry)) ⌝ }
 {
     let j = at.gate;
     let start = at.prep;
     let key = prep[0];
     after_input(me, key, y, l, j, &prep[start..], e);
-    settle(me, key, c, y, l, j + 1);
+    settle(me, key, c, y, l, j + 1, stop);
 }
 
 // The gate names x and z.
@@ -314,22 +311,23 @@ fn receive_multiply(
     at: Site,
     x: usize,
     z: usize,
+    stop: usize,
     heard: &[u32],
     e: u32,
     d: u32,
 )
-    requires { ⌜ Receives (record { parties = parties; me = me; circuit = now c; prep = now prep; inputs = now inputs }) (now l) y at Multiply (now heard) × Named (gate (now c) (at .gate)) x z × Summed parties (gate (now c) (at .gate)) Multiply (now heard) e d ⌝ }
+    requires { ⌜ Receives (record { parties = parties; me = me; circuit = now c; prep = now prep; inputs = now inputs }) (now l) y at Multiply (now heard) × (stop ≡ reach (now c) (y .gates - (at .gate + 1)) (at .gate + 1)) × Named (gate (now c) (at .gate)) x z × Summed parties (gate (now c) (at .gate)) Multiply (now heard) e d ⌝ }
     ensures { λ r. ⌜ now (l .exit) ≡ received prime (record { parties = parties; me = me; circuit = now (c .entry); prep = now (prep .entry); inputs = now (inputs .entry) }) (now (l .entry)) (at .gate) Multiply (now (heard .entry)) ⌝ }
 {
     let j = at.gate;
     let start = at.prep;
     let key = prep[0];
     after_multiply(me, key, y, l, j, x, z, &prep[start..], at.unchecked, e, d);
-    settle(me, key, c, y, l, j + 1);
+    settle(me, key, c, y, l, j + 1, stop);
 }
 
-// The scratch after round r. The gate names x and z, and the words of all come to e and d: who runs all parties finds these once.
-pub fn receive_summed(
+// The scratch after round r. The gate names x and z, the words of all come to e and d, and the linear gates after it reach stop.
+fn receive_summed(
     parties: usize,
     me: usize,
     c: &[u32],
@@ -340,18 +338,34 @@ pub fn receive_summed(
     at: Site,
     x: usize,
     z: usize,
+    stop: usize,
     r: Round,
     heard: &[u32],
     e: u32,
     d: u32,
 )
-    requires { ⌜ Receives (record { parties = parties; me = me; circuit = now c; prep = now prep; inputs = now inputs }) (now l) y at (roundOf r) (now heard) × Named (gate (now c) (at .gate)) x z × Summed parties (gate (now c) (at .gate)) (roundOf r) (now heard) e d ⌝ }
+    requires { ⌜ Receives (record { parties = parties; me = me; circuit = now c; prep = now prep; inputs = now inputs }) (now l) y at (roundOf r) (now heard) × (stop ≡ reach (now c) (y .gates - (at .gate + 1)) (at .gate + 1)) × Named (gate (now c) (at .gate)) x z × Summed parties (gate (now c) (at .gate)) (roundOf r) (now heard) e d ⌝ }
     ensures { λ u. ⌜ now (l .exit) ≡ received prime (record { parties = parties; me = me; circuit = now (c .entry); prep = now (prep .entry); inputs = now (inputs .entry) }) (now (l .entry)) (at .gate) (roundOf r) (now (heard .entry)) ⌝ }
 {
     match r {
-        Round::Input => receive_input(parties, me, c, prep, inputs, l, y, at, heard, e),
+        Round::Input => receive_input(parties, me, c, prep, inputs, l, y, at, stop, heard, e),
         Round::Multiply => {
-            receive_multiply(parties, me, c, prep, inputs, l, y, at, x, z, heard, e, d)
+            receive_multiply(
+                parties,
+                me,
+                c,
+                prep,
+                inputs,
+                l,
+                y,
+                at,
+                x,
+                z,
+                stop,
+                heard,
+                e,
+                d,
+            )
         }
         Round::CommitOpened => {}
         Round::RevealOpened => {}
@@ -361,7 +375,7 @@ pub fn receive_summed(
             if e != 0 {
                 return;
             }
-            settle(me, prep[0], c, y, l, at.gate + 1);
+            settle(me, prep[0], c, y, l, at.gate + 1, stop);
         }
     }
 }
@@ -386,8 +400,11 @@ pub fn receive_step(
     let g = circuit::gate_at(c, j);
     let x = circuit::first_of(g);
     let z = circuit::second_of(g);
-    let w = heard_of(parties, c, j, r, heard);
-    let next = next_point(parties, c, y.gates, j, at.unchecked, r, heard, w.first);
+    let k = circuit::words_in(g, r);
+    let e = heard_first(parties, g, k, heard);
+    let d = heard_second(parties, g, k, heard);
+    let stop = reach(c, y.gates, j + 1);
+    let next = next_point(parties, c, y.gates, j, stop, at.unchecked, r, heard, e);
     receive_summed(
         parties,
         me,
@@ -399,10 +416,11 @@ pub fn receive_step(
         at,
         x,
         z,
+        stop,
         r,
         heard,
-        w.first,
-        w.second,
+        e,
+        d,
     );
     next
 }

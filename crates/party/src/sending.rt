@@ -32,13 +32,24 @@ pub const B_AT: usize = 2;
 
 pub const C_AT: usize = 4;
 
-// The word of an in gate; m starts at the gate's record.
-fn input_word(me: usize, owner: usize, m: &[u32], input: u32) -> u32
-    requires { ⌜ (2 < length (now m)) × Below (now m) × (input < p) ⌝ }
-    ensures { λ r. ⌜ Is (inputWord prime me owner (now (m .entry)) input) r ⌝ }
+// The number at k, and 0 past the end: a party may have no input left at a gate that it does not own.
+fn number_at(xs: &[u32], k: usize) -> u32
+    requires { ⌜ Below (now xs) ⌝ }
+    ensures { λ r. ⌜ Is (getD (now (xs .entry)) k 0) r ⌝ }
+{
+    if k < xs.len() {
+        return xs[k];
+    }
+    0
+}
+
+// The word of an in gate; m starts at the gate's record, and the owner's input for it stands at k.
+pub fn input_word(me: usize, owner: usize, m: &[u32], inputs: &[u32], k: usize) -> u32
+    requires { ⌜ (2 < length (now m)) × Below (now m) × Below (now inputs) ⌝ }
+    ensures { λ r. ⌜ Is (inputWord prime me owner (now (m .entry)) (getD (now (inputs .entry)) k 0)) r ⌝ }
 {
     if me == owner {
-        return field::sub(input, m[WHOLE_MASK_AT]);
+        return field::sub(number_at(inputs, k), m[WHOLE_MASK_AT]);
     }
     0
 }
@@ -73,32 +84,21 @@ fn opened_mac(l: &[u32], y: Layout, t: usize) -> u32
     scratch::read_slot(l, y, Slot::ValueMac(t))
 }
 
-// The check share over the first k opened entries.
-fn check_share(l: &[u32], y: Layout, k: usize, key: u32, coefficients: &[u32]) -> u32
+// The check share over the first k opened entries. Its two sums are reduced once, at the end.
+pub fn check_share(l: &[u32], y: Layout, k: usize, key: u32, coefficients: &[u32]) -> u32
     requires { ⌜ (scratchSize (layoutOf y) ≤ length (now l)) × (key < p) × (k ≤ length (now coefficients)) × Below (now coefficients) × ((t : ℕ) → t < k → Opened (layoutOf y) (now l) t) ⌝ }
     ensures { λ r. ⌜ Is (checkShare prime (layoutOf y) (now (l .entry)) k key (now (coefficients .entry))) r ⌝ }
 {
-    let mut values: u32 = 0;
-    let mut macs: u32 = 0;
+    let mut values: u64 = 0;
+    let mut macs: u64 = 0;
     let mut t = 0;
     while t < k {
         let w = coefficients[t];
-        values = field::add(values, field::mul(w, opened_value(l, y, t)));
-        macs = field::add(macs, field::mul(w, opened_mac(l, y, t)));
+        values = field::add_product(values, w, opened_value(l, y, t));
+        macs = field::add_product(macs, w, opened_mac(l, y, t));
         t += 1;
     }
-    field::sub(macs, field::mul(key, values))
-}
-
-// The number at k, and 0 past the end: a party may have no input left at a gate that it does not own.
-fn number_at(xs: &[u32], k: usize) -> u32
-    requires { ⌜ Below (now xs) ⌝ }
-    ensures { λ r. ⌜ Is (getD (now (xs .entry)) k 0) r ⌝ }
-{
-    if k < xs.len() {
-        return xs[k];
-    }
-    0
+    field::sub(field::reduce(macs), field::mul(key, field::reduce(values)))
 }
 
 fn send_input(me: usize, c: &[u32], prep: &[u32], inputs: &[u32], at: Site, out: &mut [u32])
@@ -107,8 +107,19 @@ fn send_input(me: usize, c: &[u32], prep: &[u32], inputs: &[u32], at: Site, out:
 {
     let owner = circuit::first_of(circuit::gate_at(c, at.gate));
     let start = at.prep;
-    let w = input_word(me, owner, &prep[start..], number_at(inputs, at.input));
+    let w = input_word(me, owner, &prep[start..], inputs, at.input);
     out[0] = w;
+}
+
+// The words of a mul gate that names x and z; m starts at the gate's record.
+pub fn multiply_words(l: &[u32], y: Layout, x: usize, z: usize, m: &[u32], out: &mut [u32])
+    requires { ⌜ (scratchSize (layoutOf y) ≤ length (now l)) × Held (layoutOf y) (now l) x × Held (layoutOf y) (now l) z × (3 < length (now m)) × Below (now m) × (1 < length (now out)) ⌝ }
+    ensures { λ r. ⌜ now (out .exit) ≡ overwrite (maskedFirst prime (layoutOf y) (now (l .entry)) x (now (m .entry)) .share ∷ maskedSecond prime (layoutOf y) (now (l .entry)) z (now (m .entry)) .share ∷ []) (now (out .entry)) ⌝ }
+{
+    let e = masked_first(l, y, x, m);
+    let d = masked_second(l, y, z, m);
+    out[0] = e.share;
+    out[1] = d.share;
 }
 
 fn send_multiply(c: &[u32], prep: &[u32], l: &[u32], y: Layout, at: Site, out: &mut [u32])
@@ -117,10 +128,14 @@ fn send_multiply(c: &[u32], prep: &[u32], l: &[u32], y: Layout, at: Site, out: &
 {
     let g = circuit::gate_at(c, at.gate);
     let start = at.prep;
-    let e = masked_first(l, y, circuit::first_of(g), &prep[start..]);
-    let d = masked_second(l, y, circuit::second_of(g), &prep[start..]);
-    out[0] = e.share;
-    out[1] = d.share;
+    multiply_words(
+        l,
+        y,
+        circuit::first_of(g),
+        circuit::second_of(g),
+        &prep[start..],
+        out,
+    );
 }
 
 fn send_output(c: &[u32], l: &[u32], y: Layout, j: usize, out: &mut [u32])

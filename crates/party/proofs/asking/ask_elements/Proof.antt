@@ -1,6 +1,8 @@
--- `party::asking::ask_elements` meets its contract: the loop asks one number after the other and is left at the first that is no element.
+-- `party::asking::ask_elements` meets its contract: where all numbers are elements no question is refused, and else the loop asks one number after
+-- the other and is left at the first that is no element.
 -- Assumes nothing.
 use Prim.Native.Nat.{_-_}
+use mathlib.Core.Path.{sym}
 use borrow.Author.Needs.{needs}
 use borrow.Author.Tests.{lt-ltb, le-ltb}
 use native.Mathlib.Omega.{arith}
@@ -9,12 +11,13 @@ use lib.Dec.{ltb}
 use Rattle.field.specs.Prime.{p}
 use Rattle.circuit.specs.Verdict.{ask, elements}
 use Rattle.circuit.specs.Code.{verdictOf}
-use Rattle.circuit.proofs.Verdicts.{ask-yes, ask-no}
+use Rattle.circuit.proofs.Verdicts.{ask-yes, ask-no, each-all}
 use Rattle.party.proofs.Loops.{Asking, asking-starts, asking-goes-on, asking-refuses, asking-ends}
 use Rattle.party.proofs.asking.ask_elements.Statement.{statement}
 use Rattle.party.proofs.asking.ask_elements.Tie as tie
 use Rattle.party.proofs.asking.ask_elements.Reads as reads
 use Rattle.party.proofs.asking.ask_elements.Lts as lts
+use Rattle.party.proofs.asking.all_elements.Reads as all-elements-reads
 
 abbrev Inv-loop : tie.InvT-loop
 Inv-loop number xs k₀ k = Asking (λ k. ask number k (ltb (getD xs k 0) p)) (length xs) k
@@ -22,18 +25,25 @@ Inv-loop number xs k₀ k = Asking (λ k. ask number k (ltb (getD xs k 0) p)) (l
 abbrev μ-loop : tie.MeasureT-loop
 μ-loop number xs k₀ k = length xs - k
 
-loop-holds : tie.Need-loop-holds Inv-loop μ-loop
-loop-holds c = asking-starts _ _
-
-mul-if1 : tie.Need-mul-if1 Inv-loop μ-loop
-mul-if1 c = search needs
-
-shared-slice-read-if1 : tie.Need-shared-slice-read-if1 Inv-loop μ-loop
-shared-slice-read-if1 c = search needs
+all-elements-requires : tie.Need-all-elements-requires Inv-loop μ-loop
+all-elements-requires c κs = search needs
 
 returns : tie.Need-returns Inv-loop μ-loop
 unfolding verdictOf elements
-returns c = asking-refuses _ _ _ (c .before .before .before .loop .inv) (omega arith) (ask-no _ _ (le-ltb _ _ (c .if1 .taken)))
+returns c = sym (each-all _ _ (λ k l. ask-yes _ _ (lt-ltb _ _ (c .before .all-elements .ensures .0 (c .if1 .taken) k l))))
+
+loop-holds : tie.Need-loop-holds Inv-loop μ-loop
+loop-holds c = asking-starts _ _
+
+mul-if2 : tie.Need-mul-if2 Inv-loop μ-loop
+mul-if2 c = search needs
+
+shared-slice-read-if2 : tie.Need-shared-slice-read-if2 Inv-loop μ-loop
+shared-slice-read-if2 c = search needs
+
+returns-2 : tie.Need-returns-2 Inv-loop μ-loop
+unfolding verdictOf elements
+returns-2 c = asking-refuses _ _ _ (c .before .before .before .loop .inv) (omega arith) (ask-no _ _ (le-ltb _ _ (c .if2 .taken)))
 
 add-k : tie.Need-add-k Inv-loop μ-loop
 add-k c = search needs
@@ -42,11 +52,11 @@ loop-less : tie.Need-loop-less Inv-loop μ-loop
 loop-less c = search needs
 
 loop-again : tie.Need-loop-again Inv-loop μ-loop
-loop-again c = asking-goes-on _ _ _ (c .before .before .before .loop .inv) (omega arith) (ask-yes _ _ (lt-ltb _ _ (c .if1 .left)))
+loop-again c = asking-goes-on _ _ _ (c .before .before .before .loop .inv) (omega arith) (ask-yes _ _ (lt-ltb _ _ (c .if2 .left)))
 
-returns-2 : tie.Need-returns-2 Inv-loop μ-loop
+returns-3 : tie.Need-returns-3 Inv-loop μ-loop
 unfolding verdictOf elements
-returns-2 c = asking-ends _ _ _ (c .before .loop .inv) (omega arith)
+returns-3 c = asking-ends _ _ _ (c .before .loop .inv) (omega arith)
 
 pub ask-elements-spec : {M : Type 1} → statement M
 ask-elements-spec =
@@ -54,11 +64,13 @@ ask-elements-spec =
     (tie.spec
     Inv-loop
     μ-loop
-    loop-holds
-    mul-if1
-    shared-slice-read-if1
+    all-elements-requires
     returns
+    loop-holds
+    mul-if2
+    shared-slice-read-if2
+    returns-2
     add-k
     loop-less
     loop-again
-    returns-2)
+    returns-3)

@@ -1,40 +1,39 @@
--- `party::parts::multiplied` meets its contract: the calls are the definition's sums and products in its order.
+-- `party::parts::multiplied` meets its contract: share and MAC share are the definition's sums of products, and one times the share of
+-- E × D is that share.
 -- Assumes nothing.
-use Rattle.party.specs.Part.{product}
+use mathlib.Core.Path.{_∙_}
+use Rattle.field.specs.Prime.Laws.{norm-of-lt}
+use Rattle.field.proofs.PrimeField.{primeField}
+use Rattle.field.proofs.Ring.{one-mul}
+use Rattle.party.specs.Part.{plus, scale, known, shift, product}
+use Rattle.party.specs.Code.{partOf}
 use borrow.Author.Needs.{needs}
 use Rattle.party.proofs.parts.multiplied.Statement.{statement}
 use Rattle.party.proofs.parts.multiplied.Tie as tie
 
-times-requires : tie.Need-times-requires
-times-requires c κs = search needs
-
-add-requires : tie.Need-add-requires
-add-requires c κs = search needs
-
-times-requires-2 : tie.Need-times-requires-2
-times-requires-2 c κs = search needs
-
-add-requires-2 : tie.Need-add-requires-2
-add-requires-2 c κs = search needs
-
 mul-requires : tie.Need-mul-requires
 mul-requires c κs = search needs
 
-shifted-requires : tie.Need-shifted-requires
-shifted-requires c κs = search needs
+known-share-requires : tie.Need-known-share-requires
+known-share-requires c κs = search needs
+
+add-products-requires : tie.Need-add-products-requires
+add-products-requires c κs = search needs
+
+add-products-requires-2 : tie.Need-add-products-requires-2
+add-products-requires-2 c κs = search needs
 
 returns : tie.Need-returns
-unfolding product
-returns c = record { is = cc; low = search needs }
+unfolding partOf plus scale known shift product
+returns c =
+    record { is = cc (one-mul primeField _ ∙ norm-of-lt (c .before .before .known-share .ensures .below)); low = search needs }
 
 pub multiplied-spec : {M : Type 1} → statement M
 multiplied-spec =
     tie.close
     (tie.spec
-    times-requires
-    add-requires
-    times-requires-2
-    add-requires-2
     mul-requires
-    shifted-requires
+    known-share-requires
+    add-products-requires
+    add-products-requires-2
     returns)

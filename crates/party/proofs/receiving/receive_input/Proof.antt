@@ -24,19 +24,19 @@ part-after-input-end : tie.Need-part-after-input-end
 part-after-input-end c = search needs
 
 after-input-requires : tie.Need-after-input-requires
-after-input-requires c κs = input-asks _ _ _ _ _ (c .before .before .before .before .before .before .before .before .pre .0) (c .before .before .before .before .before .before .before .before .pre .1 .below) (tail-part (c .before .before .before .before .before .before .before .before .args .at .prep) (now (c .before .before .before .before .before .before .before .before .args .prep)))
+after-input-requires c κs = input-asks _ _ _ _ _ (c .before .before .before .before .before .before .before .before .pre .0) (c .before .before .before .before .before .before .before .before .pre .2 .below) (tail-part (c .before .before .before .before .before .before .before .before .args .at .prep) (now (c .before .before .before .before .before .before .before .before .args .prep)))
 
 add-settle : tie.Need-add-settle
 add-settle c = omega (arith, c .before .before .before .before .before .before .before .before .before .before .before .before .pre .0 .ready .sited .within, c .before .before .before .before .before .before .before .before .before .before .before .before .pre .0 .ready .valid .few)
 
 settle-requires : tie.Need-settle-requires
-settle-requires c κs = input-settles _ _ _ _ (c .before .before .before .before .before .before .before .before .before .before .before .before .pre .0 .ready) _ _ _ (c .before .before .before .after-input .ensures)
+settle-requires c κs = (input-settles _ _ _ _ (c .before .before .before .before .before .before .before .before .before .before .before .before .pre .0 .ready) _ _ _ (c .before .before .before .after-input .ensures), c .before .before .before .before .before .before .before .before .before .before .before .before .pre .1)
 
 same-length : tie.Need-same-length
 same-length c = search needs
 
 returns : tie.Need-returns
-returns c = input-made _ _ _ _ _ (c .before .before .before .before .before .before .before .before .before .before .before .before .before .before .before .pre .0 .ready) (tail-part (c .before .before .before .before .before .before .before .before .before .before .before .before .before .before .before .args .at .prep) (now (c .before .before .before .before .before .before .before .before .before .before .before .before .before .before .before .args .prep))) (c .before .before .before .before .before .before .before .before .before .before .before .before .before .before .before .pre .1 .is) (c .before .before .before .before .before .before .after-input .ensures) (c .before .before .settle .ensures)
+returns c = input-made _ _ _ _ _ (c .before .before .before .before .before .before .before .before .before .before .before .before .before .before .before .pre .0 .ready) (tail-part (c .before .before .before .before .before .before .before .before .before .before .before .before .before .before .before .args .at .prep) (now (c .before .before .before .before .before .before .before .before .before .before .before .before .before .before .before .args .prep))) (c .before .before .before .before .before .before .before .before .before .before .before .before .before .before .before .pre .2 .is) (c .before .before .before .before .before .before .after-input .ensures) (c .before .before .settle .ensures)
 
 pub receive-input-spec : {M : Type 1} → statement M
 receive-input-spec =

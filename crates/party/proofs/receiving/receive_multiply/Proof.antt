@@ -24,19 +24,19 @@ part-after-multiply-end : tie.Need-part-after-multiply-end
 part-after-multiply-end c = search needs
 
 after-multiply-requires : tie.Need-after-multiply-requires
-after-multiply-requires c κs = multiply-asks _ _ _ _ (c .before .before .before .before .before .before .before .before .pre .0 .ready) (tail-part (c .before .before .before .before .before .before .before .before .args .at .prep) (now (c .before .before .before .before .before .before .before .before .args .prep))) (c .before .before .before .before .before .before .before .before .pre .1 .first) (c .before .before .before .before .before .before .before .before .pre .1 .second) (c .before .before .before .before .before .before .before .before .pre .2 .first .below) (c .before .before .before .before .before .before .before .before .pre .2 .second .below)
+after-multiply-requires c κs = multiply-asks _ _ _ _ (c .before .before .before .before .before .before .before .before .pre .0 .ready) (tail-part (c .before .before .before .before .before .before .before .before .args .at .prep) (now (c .before .before .before .before .before .before .before .before .args .prep))) (c .before .before .before .before .before .before .before .before .pre .2 .first) (c .before .before .before .before .before .before .before .before .pre .2 .second) (c .before .before .before .before .before .before .before .before .pre .3 .first .below) (c .before .before .before .before .before .before .before .before .pre .3 .second .below)
 
 add-settle : tie.Need-add-settle
 add-settle c = omega (arith, c .before .before .before .before .before .before .before .before .before .before .before .before .pre .0 .ready .sited .within, c .before .before .before .before .before .before .before .before .before .before .before .before .pre .0 .ready .valid .few)
 
 settle-requires : tie.Need-settle-requires
-settle-requires c κs = multiply-settles _ _ _ _ (c .before .before .before .before .before .before .before .before .before .before .before .before .pre .0 .ready) _ _ _ _ _ _ (c .before .before .before .before .before .before .before .before .before .before .before .before .pre .2 .first .below) (c .before .before .before .before .before .before .before .before .before .before .before .before .pre .2 .second .below) (c .before .before .before .after-multiply .ensures)
+settle-requires c κs = (multiply-settles _ _ _ _ (c .before .before .before .before .before .before .before .before .before .before .before .before .pre .0 .ready) _ _ _ _ _ _ (c .before .before .before .before .before .before .before .before .before .before .before .before .pre .3 .first .below) (c .before .before .before .before .before .before .before .before .before .before .before .before .pre .3 .second .below) (c .before .before .before .after-multiply .ensures), c .before .before .before .before .before .before .before .before .before .before .before .before .pre .1)
 
 same-length : tie.Need-same-length
 same-length c = search needs
 
 returns : tie.Need-returns
-returns c = multiply-received _ _ _ _ _ (c .before .before .before .before .before .before .before .before .before .before .before .before .before .before .before .pre .0 .ready) (tail-part (c .before .before .before .before .before .before .before .before .before .before .before .before .before .before .before .args .at .prep) (now (c .before .before .before .before .before .before .before .before .before .before .before .before .before .before .before .args .prep))) (c .before .before .before .before .before .before .before .before .before .before .before .before .before .before .before .pre .1) (c .before .before .before .before .before .before .before .before .before .before .before .before .before .before .before .pre .2) (c .before .before .before .before .before .before .after-multiply .ensures) (c .before .before .settle .ensures)
+returns c = multiply-received _ _ _ _ _ (c .before .before .before .before .before .before .before .before .before .before .before .before .before .before .before .pre .0 .ready) (tail-part (c .before .before .before .before .before .before .before .before .before .before .before .before .before .before .before .args .at .prep) (now (c .before .before .before .before .before .before .before .before .before .before .before .before .before .before .before .args .prep))) (c .before .before .before .before .before .before .before .before .before .before .before .before .before .before .before .pre .2) (c .before .before .before .before .before .before .before .before .before .before .before .before .before .before .before .pre .3) (c .before .before .before .before .before .before .after-multiply .ensures) (c .before .before .settle .ensures)
 
 pub receive-multiply-spec : {M : Type 1} → statement M
 receive-multiply-spec =

@@ -2,10 +2,12 @@
 -- Assumes nothing.
 use mathlib.Core.Path.{ap, _∙_}
 use mathlib.Core.List.{[]}
+use native.Mathlib.Omega.{arith}
 use borrow.Author.Needs.{needs}
 use Rattle.circuit.specs.Gate.{first, second}
 use Rattle.party.proofs.Readiness.{gate-there}
-use Rattle.party.proofs.Received.{hears, stands}
+use Rattle.party.proofs.HeardWords.{first-asks, second-asks, first-found, second-found}
+use Rattle.party.proofs.Received.{hears, reach-asks, stands}
 use Rattle.party.proofs.receiving.receive_step.Statement.{statement}
 use Rattle.party.proofs.receiving.receive_step.Tie as tie
 
@@ -18,14 +20,34 @@ first-of-requires c κs = search needs
 second-of-requires : tie.Need-second-of-requires
 second-of-requires c κs = search needs
 
-heard-of-requires : tie.Need-heard-of-requires
-heard-of-requires c κs = hears _ _ _ _ _ (c .before .before .before .before .before .before .before .before .pre)
+words-in-requires : tie.Need-words-in-requires
+words-in-requires c κs = search needs
+
+heard-first-requires : tie.Need-heard-first-requires
+heard-first-requires c κs = first-asks (hears _ _ _ _ _ (c .before .before .before .before .before .before .before .before .before .pre)) (c .before .before .before .gate-at .ensures) (c .words-in .ensures)
+
+heard-second-requires : tie.Need-heard-second-requires
+heard-second-requires c κs = second-asks (hears _ _ _ _ _ (c .before .before .before .before .before .before .before .before .before .before .pre)) (c .before .before .before .before .gate-at .ensures) (c .before .words-in .ensures)
+
+add-reach : tie.Need-add-reach
+add-reach c = omega (arith, c .before .before .before .before .before .before .before .before .before .before .before .pre .ready .sited .within, c .before .before .before .before .before .before .before .before .before .before .before .pre .ready .valid .few)
+
+reach-requires : tie.Need-reach-requires
+reach-requires c κs = reach-asks _ _ _ _ [] (c .before .before .before .before .before .before .before .before .before .before .before .pre .ready)
 
 next-point-requires : tie.Need-next-point-requires
-next-point-requires c κs = (hears _ _ _ _ _ (c .before .before .before .before .before .before .before .before .before .pre), stands _ _ _ _ [] (c .before .before .before .before .before .before .before .before .before .pre .ready), c .heard-of .ensures .first .is)
+next-point-requires c κs = (hears _ _ _ _ _ (c .before .before .before .before .before .before .before .before .before .before .before .before .pre), stands _ _ _ _ [] (c .before .before .before .before .before .before .before .before .before .before .before .before .pre .ready) (c .reach .ensures), first-found (hears _ _ _ _ _ (c .before .before .before .before .before .before .before .before .before .before .before .before .pre)) (c .before .before .before .before .before .before .gate-at .ensures) (c .before .before .before .words-in .ensures) (c .before .before .heard-first .ensures) .is)
 
 receive-summed-requires : tie.Need-receive-summed-requires
-receive-summed-requires c κs = (c .before .before .before .before .before .before .before .before .before .before .before .pre, (record { first = c .before .before .before .before .first-of .ensures ∙ ap first (c .before .before .before .before .before .gate-at .ensures); second = c .before .before .before .second-of .ensures ∙ ap second (c .before .before .before .before .before .gate-at .ensures) }), c .before .before .heard-of .ensures)
+receive-summed-requires c κs = (
+  c .before .before .before .before .before .before .before .before .before .before .before .before .before .before .pre,
+  c .before .before .reach .ensures,
+  (record { first = c .before .before .before .before .before .before .before .first-of .ensures ∙ ap first (c .before .before .before .before .before .before .before .before .gate-at .ensures); second = c .before .before .before .before .before .before .second-of .ensures ∙ ap second (c .before .before .before .before .before .before .before .before .gate-at .ensures) }),
+  (record {
+    first = first-found (hears _ _ _ _ _ (c .before .before .before .before .before .before .before .before .before .before .before .before .before .before .pre)) (c .before .before .before .before .before .before .before .before .gate-at .ensures) (c .before .before .before .before .before .words-in .ensures) (c .before .before .before .before .heard-first .ensures);
+    second = second-found (hears _ _ _ _ _ (c .before .before .before .before .before .before .before .before .before .before .before .before .before .before .pre)) (c .before .before .before .before .before .before .before .before .gate-at .ensures) (c .before .before .before .before .before .words-in .ensures) (c .before .before .before .heard-second .ensures);
+  }),
+)
 
 same-length : tie.Need-same-length
 same-length c = search needs
@@ -40,7 +62,11 @@ receive-step-spec =
     gate-at-requires
     first-of-requires
     second-of-requires
-    heard-of-requires
+    words-in-requires
+    heard-first-requires
+    heard-second-requires
+    add-reach
+    reach-requires
     next-point-requires
     receive-summed-requires
     same-length

@@ -20,7 +20,7 @@ enum-told c = search needs
 
 receive-input-requires : tie.Need-receive-input-requires
 unfolding roundOf
-receive-input-requires c κs = let s = (rw (c .before .enum-told .given .1) at (c .before .before .before .before .before .before .before .before .pre)) in (s .0, s .2 .first)
+receive-input-requires c κs = let s = (rw (c .before .enum-told .given .1) at (c .before .before .before .before .before .before .before .before .pre)) in (s .0, s .1, s .3 .first)
 
 enum-told-2 : tie.Need-enum-told-2
 enum-told-2 c = search needs
@@ -40,7 +40,7 @@ enum-told-5 c = search needs
 
 after-open-output-requires : tie.Need-after-open-output-requires
 unfolding roundOf
-after-open-output-requires c κs = let s = (rw (c .before .enum-told5 .given .1) at (c .before .before .before .before .before .before .before .before .pre)) in output-asks _ _ _ _ [] (s .0 .ready) (s .1 .first)
+after-open-output-requires c κs = let s = (rw (c .before .enum-told5 .given .1) at (c .before .before .before .before .before .before .before .before .pre)) in output-asks _ _ _ _ [] (s .0 .ready) (s .2 .first)
 
 enum-told-6 : tie.Need-enum-told-6
 enum-told-6 c = search needs
@@ -50,7 +50,7 @@ enum-told-7 c = search needs
 
 returns : tie.Need-returns
 unfolding roundOf isReveal
-returns c = let s = (rw (c .before .enum-told7 .given .1) at (c .before .before .before .before .before .before .before .before .pre)) in rw (c .before .enum-told7 .given .1) (revealed-not _ _ _ _ (passes-not prime _ _ RevealOutput refl (s .2 .first .is ∙ revealed-output (hears _ _ _ _ _ (s .0))) (c .if1 .taken)))
+returns c = let s = (rw (c .before .enum-told7 .given .1) at (c .before .before .before .before .before .before .before .before .pre)) in rw (c .before .enum-told7 .given .1) (revealed-not _ _ _ _ (passes-not prime _ _ RevealOutput refl (s .3 .first .is ∙ revealed-output (hears _ _ _ _ _ (s .0))) (c .if1 .taken)))
 
 shared-slice-read-settle : tie.Need-shared-slice-read-settle
 shared-slice-read-settle c = prep-some _ _ _ _ _ (c .before .before .before .before .before .before .before .before .before .pre .0 .ready)
@@ -60,7 +60,7 @@ add-settle c = omega (arith, c .before .before .before .before .before .before .
 
 settle-requires : tie.Need-settle-requires
 unfolding roundOf
-settle-requires c κs = output-settles _ _ _ _ ((rw (c .before .before .before .before .enum-told7 .given .1) at (c .before .before .before .before .before .before .before .before .before .before .before .pre)) .0 .ready)
+settle-requires c κs = let s = (rw (c .before .before .before .before .enum-told7 .given .1) at (c .before .before .before .before .before .before .before .before .before .before .before .pre)) in (output-settles _ _ _ _ (s .0 .ready), s .1)
 
 same-length : tie.Need-same-length
 same-length c = search needs
@@ -89,7 +89,7 @@ same-length-3 c = search needs
 
 returns-6 : tie.Need-returns-6
 unfolding roundOf
-returns-6 c = let s = (rw (c .before .before .before .before .enum-told5 .given .1) at (c .before .before .before .before .before .before .before .before .before .before .before .pre)) in rw (c .before .before .before .before .enum-told5 .given .1) (output-received _ _ _ _ _ (s .0 .ready) (s .1 .first) (s .2 .first .is) (c .before .before .after-open-output .ensures))
+returns-6 c = let s = (rw (c .before .before .before .before .enum-told5 .given .1) at (c .before .before .before .before .before .before .before .before .before .before .before .pre)) in rw (c .before .before .before .before .enum-told5 .given .1) (output-received _ _ _ _ _ (s .0 .ready) (s .2 .first) (s .3 .first .is) (c .before .before .after-open-output .ensures))
 
 returns-7 : tie.Need-returns-7
 unfolding roundOf received
@@ -100,7 +100,7 @@ same-length-4 c = search needs
 
 returns-8 : tie.Need-returns-8
 unfolding roundOf isReveal
-returns-8 c = let s = (rw (c .before .before .before .before .before .before .before .enum-told7 .given .1) at (c .before .before .before .before .before .before .before .before .before .before .before .before .before .before .pre)) in rw (c .before .before .before .before .before .before .before .enum-told7 .given .1) (revealed _ _ _ _ _ (s .0 .ready) (passes-zero prime _ _ RevealOutput refl (s .2 .first .is ∙ revealed-output (hears _ _ _ _ _ (s .0))) (c .before .before .before .before .before .before .if1 .left)) (c .before .before .settle .ensures))
+returns-8 c = let s = (rw (c .before .before .before .before .before .before .before .enum-told7 .given .1) at (c .before .before .before .before .before .before .before .before .before .before .before .before .before .before .pre)) in rw (c .before .before .before .before .before .before .before .enum-told7 .given .1) (revealed _ _ _ _ _ (s .0 .ready) (passes-zero prime _ _ RevealOutput refl (s .3 .first .is ∙ revealed-output (hears _ _ _ _ _ (s .0))) (c .before .before .before .before .before .before .if1 .left)) (c .before .before .settle .ensures))
 
 pub receive-summed-spec : {M : Type 1} → statement M
 receive-summed-spec =

@@ -16,18 +16,12 @@ gate-at-requires c κs = omega (arith, c .before .pre .within, c .before .pre .w
 unchecked-after-requires : tie.Need-unchecked-after-requires
 unchecked-after-requires c κs = omega (arith, c .before .before .pre .waits, unchecked-few (now (c .before .before .args .c)) (c .before .before .args .j), c .before .before .pre .within, c .before .before .pre .few)
 
-add-reach : tie.Need-add-reach
-add-reach c = omega (arith, c .before .before .before .pre .within, c .before .before .before .pre .few)
-
-reach-requires : tie.Need-reach-requires
-reach-requires c κs = (c .before .before .before .pre .whole, omega (arith, c .before .before .before .pre .within))
-
 enter-requires : tie.Need-enter-requires
-enter-requires c κs = (c .before .before .before .before .pre .all, c .before .before .before .before .pre .whole, omega (arith, c .before .before .before .before .pre .within), λ h. resume-waits _ _ _ (c .before .before .before .before .pre .waits) (c .before .before .gate-at .ensures) (c .before .unchecked-after .ensures) (c .reach .ensures))
+enter-requires c κs = (c .before .before .before .pre .all, c .before .before .before .pre .whole, omega (arith, c .before .before .before .pre .within), λ h. resume-waits _ _ _ (c .before .before .before .pre .waits) (c .before .gate-at .ensures) (c .unchecked-after .ensures) (c .before .before .before .pre .reached))
 
 returns : tie.Need-returns
 unfolding resume
-returns c = c .enter .ensures ∙ rw (c .before .reach .ensures, add-one, c .before .before .before .before .before .pre .all)
+returns c = c .enter .ensures ∙ rw (c .before .before .before .before .pre .reached, add-one, c .before .before .before .before .pre .all)
 
 pub resume-spec : {M : Type 1} → statement M
 resume-spec =
@@ -35,7 +29,5 @@ resume-spec =
     (tie.spec
     gate-at-requires
     unchecked-after-requires
-    add-reach
-    reach-requires
     enter-requires
     returns)

@@ -1,61 +1,51 @@
--- `party::receiving::settle` meets its contract: what is left to do from gate j on is what was left from the first gate on.
+-- `party::receiving::settle` meets its contract: what is left to do from gate j on is what was left from the first gate on, and the gates before the stop are linear.
 -- Assumes nothing.
 use Prim.Native.Nat.{_-_}
 use native.Mathlib.Omega.{arith}
-use borrow.Author.Needs.{needs}
-use borrow.Author.Tests.{not-true, not-false}
 use Rattle.party.specs.Code.{layoutOf}
-use Rattle.party.proofs.Settling.{Settling, settling-start, settling-asks, settling-again, settling-stop, settling-done}
+use Rattle.party.proofs.Settling.{Settling, Reaching, settling-start, settling-asks, settling-again, settling-end, reaching-start, reaching-linear, reaching-again}
 use Rattle.party.proofs.receiving.settle.Statement.{statement}
 use Rattle.party.proofs.receiving.settle.Tie as tie
 
 abbrev Inv-loop : tie.InvT-loop
-Inv-loop me key c y l₀ from j₀ l j = Settling c (layoutOf y) me key from l₀ j l
+Inv-loop me key c y l₀ from stop j₀ l j = Settling c (layoutOf y) me key from l₀ j l × Reaching c (y .gates) from j
 
 abbrev μ-loop : tie.MeasureT-loop
-μ-loop me key c y l₀ from j₀ l j = y .gates - j
+μ-loop me key c y l₀ from stop j₀ l j = stop - j
 
 loop-holds : tie.Need-loop-holds Inv-loop μ-loop
-loop-holds c = settling-start _ _ _ _ _ _ (c .before .before .pre)
+unfolding layoutOf
+loop-holds c = (settling-start _ _ _ _ _ _ (c .before .before .pre .0), reaching-start _ _ _ (c .before .before .pre .0 .upto))
 
 gate-at-requires : tie.Need-gate-at-requires Inv-loop μ-loop
 unfolding layoutOf
-gate-at-requires c κs = omega (arith, c .before .before .before .before .before .pre .valid .whole, c .before .before .before .before .before .pre .count)
-
-is-linear-requires : tie.Need-is-linear-requires Inv-loop μ-loop
-is-linear-requires c κs = search needs
-
-same-length : tie.Need-same-length Inv-loop μ-loop
-same-length c = c .before .before .before .before .before .loop .inv .len
-
-returns : tie.Need-returns Inv-loop μ-loop
-unfolding layoutOf
-returns c = settling-stop _ _ _ _ _ _ _ _ (c .before .before .before .before .before .loop .inv) (omega arith) (cc (not-true (c .before .is-linear .result) (c .if2 .taken)))
+gate-at-requires c κs = let k = reaching-linear _ _ _ _ (c .before .before .loop .inv .1) (omega (arith, c .before .before .before .before .before .pre .1, c .before .loop-test .taken)) in omega (arith, k .0, c .before .before .before .before .before .pre .0 .valid .whole, c .before .before .before .before .before .pre .0 .count)
 
 after-linear-requires : tie.Need-after-linear-requires Inv-loop μ-loop
 unfolding layoutOf
 after-linear-requires c κs =
-    let a = settling-asks _ _ _ _ _ _ _ _ (c .before .before .before .before .before .before .loop .inv) (c .before .before .before .before .before .before .before .before .before .pre) (omega arith) (c .before .before .before .gate-at .ensures) in
-    (c .before .before .before .before .before .before .before .before .before .pre .key-low, a .0, omega arith, a .1)
+    let k = reaching-linear _ _ _ _ (c .before .before .before .loop .inv .1) (omega (arith, c .before .before .before .before .before .before .pre .1, c .before .before .loop-test .taken)) in
+    let a = settling-asks _ _ _ _ _ _ _ _ (c .before .before .before .loop .inv .0) (c .before .before .before .before .before .before .pre .0) (k .0) (c .gate-at .ensures) in
+    (c .before .before .before .before .before .before .pre .0 .key-low, a .0, k .0, a .1)
 
 add-j : tie.Need-add-j Inv-loop μ-loop
-add-j c = omega arith
+add-j c = omega (arith, c .before .before .before .before .before .loop-test .taken)
 
 loop-less : tie.Need-loop-less Inv-loop μ-loop
-loop-less c = omega arith
+loop-less c = omega (arith, c .before .before .before .before .before .loop-test .taken)
 
 loop-again : tie.Need-loop-again Inv-loop μ-loop
 unfolding layoutOf
 loop-again c =
-    settling-again _ _ _ _ _ _ _ _ (c .before .before .before .before .before .before .before .before .before .loop .inv) (c .before .before .before .before .before .before .before .before .before .before .before .before .pre .room) (omega arith)
-    (cc (not-false (c .before .before .before .before .before .is-linear .result) (c .before .before .before .before .if2 .left))) (rw (c .before .before .before .before .before .before .gate-at .ensures) at (c .before .before .after-linear .ensures))
+    let k = reaching-linear _ _ _ _ (c .before .before .before .before .before .before .loop .inv .1) (omega (arith, c .before .before .before .before .before .before .before .before .before .pre .1, c .before .before .before .before .before .loop-test .taken)) in
+    (settling-again _ _ _ _ _ _ _ _ (c .before .before .before .before .before .before .loop .inv .0) (c .before .before .before .before .before .before .before .before .before .pre .0 .room) (k .0) (k .1) (rw (c .before .before .before .gate-at .ensures) at (c .before .before .after-linear .ensures)), reaching-again _ _ _ _ (c .before .before .before .before .before .before .loop .inv .1) (k .0) (k .1))
 
-same-length-2 : tie.Need-same-length-2 Inv-loop μ-loop
-same-length-2 c = c .before .before .loop .inv .len
+same-length : tie.Need-same-length Inv-loop μ-loop
+same-length c = c .before .loop .inv .0 .len
 
-returns-2 : tie.Need-returns-2 Inv-loop μ-loop
+returns : tie.Need-returns Inv-loop μ-loop
 unfolding layoutOf
-returns-2 c = settling-done _ _ _ _ _ _ _ _ (c .before .before .loop .inv) (omega arith)
+returns c = settling-end _ _ _ _ _ _ _ _ (c .before .loop .inv .0) (c .before .loop .inv .1) (omega (arith, c .before .before .before .before .pre .1, c .loop-test .left))
 
 pub settle-spec : {M : Type 1} → statement M
 settle-spec =
@@ -65,12 +55,9 @@ settle-spec =
     μ-loop
     loop-holds
     gate-at-requires
-    is-linear-requires
-    same-length
-    returns
     after-linear-requires
     add-j
     loop-less
     loop-again
-    same-length-2
-    returns-2)
+    same-length
+    returns)

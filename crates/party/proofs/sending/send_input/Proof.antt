@@ -26,14 +26,10 @@ part-input-word-start c = search needs
 part-input-word-end : tie.Need-part-input-word-end
 part-input-word-end c = search needs
 
-number-at-requires : tie.Need-number-at-requires
-number-at-requires c κs = search needs
-
 input-word-requires : tie.Need-input-word-requires
 input-word-requires c κs =
-    let s = c .before .before .before .before .before .before .before .before in
-    let e = tail-part (s .args .at .prep) (now (s .args .prep)) in
-    (part-longer (s .args .at .prep) 3 (now (s .args .prep)) e (omega (arith, s .pre .1)), part-below (s .args .at .prep) (now (s .args .prep)) e (s .pre .2), c .number-at .ensures .below)
+    let e = tail-part (c .before .before .before .before .before .before .before .args .at .prep) (now (c .before .before .before .before .before .before .before .args .prep)) in
+    (part-longer (c .before .before .before .before .before .before .before .args .at .prep) 3 (now (c .before .before .before .before .before .before .before .args .prep)) e (omega (arith, c .before .before .before .before .before .before .before .pre .1)), part-below (c .before .before .before .before .before .before .before .args .at .prep) (now (c .before .before .before .before .before .before .before .args .prep)) e (c .before .before .before .before .before .before .before .pre .2), c .before .before .before .before .before .before .before .pre .3)
 
 slice-write-out : tie.Need-slice-write-out
 slice-write-out c = search needs
@@ -43,9 +39,8 @@ same-length c = search needs
 
 returns : tie.Need-returns
 returns c =
-    let s = c .before .before .before .before .before .before .before .before .before in
-    rw (c .input-word .ensures .is, tail-part (s .args .at .prep) (now (s .args .prep)), c .before .before .before .first-of .ensures, c .before .before .before .before .gate-at .ensures, c .before .number-at .ensures .is)
-    (overwrite-one _ _ (s .pre .4))
+    rw (c .input-word .ensures .is, tail-part (c .before .before .before .before .before .before .before .before .args .at .prep) (now (c .before .before .before .before .before .before .before .before .args .prep)), c .before .before .first-of .ensures, c .before .before .before .gate-at .ensures)
+    (overwrite-one _ _ (c .before .before .before .before .before .before .before .before .pre .4))
 
 pub send-input-spec : {M : Type 1} → statement M
 send-input-spec =
@@ -57,7 +52,6 @@ send-input-spec =
     sub-input-word
     part-input-word-start
     part-input-word-end
-    number-at-requires
     input-word-requires
     slice-write-out
     same-length

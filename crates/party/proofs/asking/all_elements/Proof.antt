@@ -1,0 +1,56 @@
+-- `party::asking::all_elements` meets its contract: the loop asks every number and remembers whether each so far is an element.
+-- Assumes nothing.
+use Prim.Native.Nat.{_-_}
+use mathlib.Core.Logic.{⊎-elim}
+use borrow.Author.Needs.{needs}
+use native.Mathlib.Omega.{arith}
+use lib.ListN.{length}
+use Rattle.field.specs.Prime.{p}
+use Rattle.party.proofs.Loops.{Sifted, sifted-starts, sifted-yes, sifted-no, sifted-ends}
+use Rattle.party.proofs.asking.all_elements.Statement.{statement}
+use Rattle.party.proofs.asking.all_elements.Tie as tie
+use Rattle.party.proofs.asking.all_elements.Reads as reads
+use Rattle.party.proofs.asking.all_elements.Lts as lts
+
+abbrev Inv-loop : tie.InvT-loop
+Inv-loop xs all₀ k₀ all k = Sifted p xs k all
+
+abbrev μ-loop : tie.MeasureT-loop
+μ-loop xs all₀ k₀ all k = length xs - k
+
+loop-holds : tie.Need-loop-holds Inv-loop μ-loop
+loop-holds c = sifted-starts _ _
+
+mul-if1 : tie.Need-mul-if1 Inv-loop μ-loop
+mul-if1 c = search needs
+
+shared-slice-read-if1 : tie.Need-shared-slice-read-if1 Inv-loop μ-loop
+shared-slice-read-if1 c = search needs
+
+add-k : tie.Need-add-k Inv-loop μ-loop
+add-k c = search needs
+
+loop-less : tie.Need-loop-less Inv-loop μ-loop
+loop-less c = search needs
+
+loop-again : tie.Need-loop-again Inv-loop μ-loop
+loop-again c =
+    let before = c .before .before .before .loop .inv in
+    ⊎-elim (λ w. rw (w .1) (sifted-no _ _ _ _ before (omega arith) (w .0 .taken))) (λ w. rw (w .1) (sifted-yes _ _ _ _ before (omega arith) (w .0 .left))) (c .if1 .came)
+
+returns : tie.Need-returns Inv-loop μ-loop
+returns c = sifted-ends _ _ _ _ (c .before .loop .inv) (omega arith)
+
+pub all-elements-spec : {M : Type 1} → statement M
+all-elements-spec =
+    tie.close
+    (tie.spec
+    Inv-loop
+    μ-loop
+    loop-holds
+    mul-if1
+    shared-slice-read-if1
+    add-k
+    loop-less
+    loop-again
+    returns)
