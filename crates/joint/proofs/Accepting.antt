@@ -1,15 +1,15 @@
 -- The questions in groups, and what their acceptance gives.
 -- Assumes nothing.
 use Prim.Native.Nat.{ℕ, _*_, _≤_}
-use mathlib.Core.Path.{_≡_, refl, _∙_}
+use mathlib.Core.Path.{_≡_}
 use mathlib.Core.Bool.{_&&_}
 use mathlib.Core.List.{List}
 use native.Mathlib.Omega.{arith}
 use lib.ListN.{length}
-use lib.Dec.{leb, eqb}
+use lib.Dec.{leb}
 use borrow.Author.Tests.{leb-true, eqb-true}
 use Rattle.field.specs.Prime.{p}
-use Rattle.circuit.specs.Verdict.{Verdict, Accepted, ask, _then_, elements}
+use Rattle.circuit.specs.Verdict.{Verdict, Accepted, _then_}
 use Rattle.circuit.specs.Count.{prepSize, inCount, outCount}
 use Rattle.circuit.specs.Round.{wordCount, coefficientCount}
 use Rattle.circuit.specs.Accept.{askCircuit}
@@ -23,42 +23,36 @@ use Rattle.party.proofs.Loops.{then-assoc}
 use Rattle.joint.specs.Joint.{Joint}
 use Rattle.joint.specs.Ask.{askJoint}
 use Rattle.joint.specs.declared.Frame.{Frame}
-use Rattle.joint.specs.Code.{Framed, Runnable}
+use Rattle.joint.specs.Code.{Framed, listsOf, roomsOf, Runnable}
 
 -- 1 and 3 to 7
 abbrev pub settingOf : ℕ → List ℕ → Verdict
 settingOf n c = askParties n then askCircuit n p c
 
--- 8 to 12, of the lengths wanted
-abbrev pub listsOf : List ℕ → ℕ → List ℕ → ℕ → ℕ → ℕ → Verdict
-listsOf preps prep inputs ins room size =
-    ask 8 0 (eqb (length preps) prep)
-    then elements 9 p preps
-    then ask 10 0 (eqb (length inputs) ins)
-    then elements 11 p inputs
-    then ask 12 0 (leb size room)
+-- and the others
+abbrev pub lentOf : ℕ → List ℕ → List ℕ → List ℕ → ℕ → List ℕ → ℕ → ℕ → Verdict
+lentOf n c preps inputs room coefficients transcript outputs =
+    listsOf preps (n * prepSize c) inputs (inCount c) room (n * scratchSize (layout c))
+    then roomsOf coefficients (coefficientCount c) (n * wordCount c) transcript (outCount c) outputs
 
--- 16 to 18, of the lengths wanted
-abbrev pub roomsOf : List ℕ → ℕ → ℕ → ℕ → ℕ → ℕ → Verdict
-roomsOf coefficients coefficient-count words transcript outs outputs =
-    ask 16 0 (eqb (length coefficients) coefficient-count)
-    then elements 17 p coefficients
-    then ask 18 0 (leb words transcript && leb outs outputs)
-
--- The groups make up the questions of the joint run.
-pub asked : (J : Joint) (l : List ℕ) (transcript outputs : ℕ) {prep ins size coefficient-count words outs : ℕ}
-    → prep ≡ J .parties * prepSize (J .circuit)
-    → ins ≡ inCount (J .circuit)
-    → size ≡ J .parties * scratchSize (layout (J .circuit))
-    → coefficient-count ≡ coefficientCount (J .circuit)
-    → words ≡ J .parties * wordCount (J .circuit)
-    → outs ≡ outCount (J .circuit)
-    → (settingOf (J .parties) (J .circuit)
-    then listsOf (J .preps) prep (J .inputs) ins (length l) size
-    then roomsOf (J .coefficients) coefficient-count words transcript outs outputs)
+-- The groups make up the questions of the joint run ..
+pub asked : (J : Joint) (l : List ℕ) (transcript outputs : ℕ)
+    → (settingOf (J .parties) (J .circuit) then lentOf (J .parties) (J .circuit) (J .preps) (J .inputs) (length l) (J .coefficients) transcript outputs)
     ≡ askJoint p J l transcript outputs
 unfolding askJoint
-asked J l transcript outputs e₁ e₂ e₃ e₄ e₅ e₆ = rw (e₁, e₂, e₃, e₄, e₅, e₆) (simp then-assoc)
+asked J l transcript outputs = simp then-assoc
+
+-- .. and are asked of the lengths that are counted.
+pub lent-asked : (n : ℕ) (c preps inputs : List ℕ) (room : ℕ) (coefficients : List ℕ) (transcript outputs : ℕ) {prep ins size coefficient-count words outs : ℕ}
+    → prep ≡ prepSize c
+    → ins ≡ inCount c
+    → size ≡ scratchSize (layout c)
+    → coefficient-count ≡ coefficientCount c
+    → words ≡ wordCount c
+    → outs ≡ outCount c
+    → (listsOf preps (n * prep) inputs ins room (n * size) then roomsOf coefficients coefficient-count (n * words) transcript outs outputs)
+    ≡ lentOf n c preps inputs room coefficients transcript outputs
+lent-asked n c preps inputs room coefficients transcript outputs e₁ e₂ e₃ e₄ e₅ e₆ = rw (e₁, e₂, e₃, e₄, e₅, e₆)
 
 -- what acceptance of the first group gives
 pub record Settled (n : ℕ) (c : List ℕ) : Type 0 where
@@ -76,22 +70,13 @@ settled n c e =
       valid = valid n p c (then-right _ _ e);
     }
 
-module _ (J : Joint) (l : List ℕ) (transcript outputs : ℕ) (e : askJoint p J l transcript outputs ≡ Accepted) where
-  -- the groups, each accepted
-  whole : (settingOf (J .parties) (J .circuit)
-      then listsOf (J .preps) (J .parties * prepSize (J .circuit)) (J .inputs) (inCount (J .circuit)) (length l) (J .parties * scratchSize (layout (J .circuit)))
-      then roomsOf (J .coefficients) (coefficientCount (J .circuit)) (J .parties * wordCount (J .circuit)) transcript (outCount (J .circuit)) outputs)
-      ≡ Accepted
-  whole = asked J l transcript outputs refl refl refl refl refl refl ∙ e
-
-  pub accepted-setting : Settled (J .parties) (J .circuit)
-  accepted-setting = settled (J .parties) (J .circuit) (then-left _ _ whole)
-
+module _ (J : Joint) (l : List ℕ) (transcript outputs : ℕ) (first : Settled (J .parties) (J .circuit))
+    (e : lentOf (J .parties) (J .circuit) (J .preps) (J .inputs) (length l) (J .coefficients) transcript outputs ≡ Accepted) where
   lists : listsOf (J .preps) (J .parties * prepSize (J .circuit)) (J .inputs) (inCount (J .circuit)) (length l) (J .parties * scratchSize (layout (J .circuit))) ≡ Accepted
-  lists = then-left _ _ (then-right _ _ whole)
+  lists = then-left _ _ e
 
   rooms : roomsOf (J .coefficients) (coefficientCount (J .circuit)) (J .parties * wordCount (J .circuit)) transcript (outCount (J .circuit)) outputs ≡ Accepted
-  rooms = then-right _ _ (then-right _ _ whole)
+  rooms = then-right _ _ e
 
   -- What acceptance gives.
   pub accepted-runnable : (f : Frame) (t o : List ℕ) → Framed (J .parties) (J .circuit) f → transcript ≡ length t → outputs ≡ length o → Runnable J f l t o
@@ -106,9 +91,9 @@ module _ (J : Joint) (l : List ℕ) (transcript outputs : ℕ) (e : askJoint p J
         lent =
             record {
               framed = framed;
-              some = accepted-setting .some;
-              few = accepted-setting .few;
-              valid = accepted-setting .valid;
+              some = first .some;
+              few = first .few;
+              valid = first .valid;
               preps-long = eqb-true _ _ (ask-true 8 0 _ (then-left _ _ l₈));
               preps-low = elements-below 9 p (J .preps) (omega arith) (then-left _ _ l₉);
               inputs-long = eqb-true _ _ (ask-true 10 0 _ (then-left _ _ l₁₀));

@@ -1,6 +1,6 @@
--- Arrays with a number or a count for each party, filled one after another.
+-- Arrays with a number for each party, filled one after another.
 -- Assumes nothing.
-use Prim.Native.Nat.{ℕ, zero, suc, _+_, _<_, _≤_}
+use Prim.Native.Nat.{ℕ, zero, suc, _+_, _*_, _<_, _≤_}
 use mathlib.Core.Path.{_≡_, refl, sym, ap, _∙_}
 use mathlib.Core.Bool.{true, false, cond}
 use mathlib.Core.List.{List}
@@ -17,13 +17,11 @@ use Rattle.circuit.specs.Kind.{isIn, ownedBy}
 use Rattle.circuit.specs.Count.{total, count, inputAt, inputCount}
 use Rattle.circuit.specs.Accept.{mostGates}
 use Rattle.circuit.specs.Valid.{Valid}
-use Rattle.circuit.specs.Code.{Tallied}
-use Rattle.circuit.specs.declared.Tally.{Tally}
-use Rattle.circuit.proofs.Counts.{input-more, input-le, in-count-le}
+use Rattle.circuit.proofs.Counts.{total-mono, input-more, input-le, in-count-le}
 use Rattle.party.specs.Ask.{mostParties}
 use Rattle.party.proofs.HeardWords.{owner-low}
 use Rattle.joint.specs.Joint.{inputsAt}
-use Rattle.joint.specs.Code.{Counted}
+use Rattle.joint.specs.Code.{Small, CountedOn, Placed}
 use Rattle.joint.proofs.Inputs.{inputs-all, starts-suc, starts-mono}
 
 module _ {A : Type 0} (d : A) (P : ℕ → A → Type 0) (xs : List A) (i : ℕ) (x : A) where
@@ -35,46 +33,29 @@ module _ {A : Type 0} (d : A) (P : ℕ → A → Type 0) (xs : List A) (i : ℕ)
       go (yes e) = rw (e, getD-set-same xs i x d h) here
       go (no e) = rw (getD-set-other xs i k x d e) (before k (omega arith))
 
--- all of a party's inputs are counted
-pub counted : {c : List ℕ} {i count : ℕ} {t : Tally} → Tallied c i count t → count ≡ gates c → t .inputs ≡ inputCount c i
-unfolding inputCount
-counted {c} {i} k e = k .inputs ∙ ap (inputAt c i) e
+-- an array of zeros
+pub zeros : (n i : ℕ) → _≡_ {A = ℕ} (getD (replicate n 0) i 0) 0
+zeros zero i = refl
+zeros (suc n) zero = refl
+zeros (suc n) (suc i) = zeros n i
 
--- where the inputs of parties start
-module _ (n : ℕ) (c : List ℕ) where
-  pub record Starting (starts : List ℕ) (at i : ℕ) : Type 0 where
-    pub upto : i ≤ n
-    pub nine : length starts ≡ mostParties + 1
-    pub place : at ≡ inputsAt c i
-    pub are : (k : ℕ) → k < i + 1 → getD starts k 0 ≡ inputsAt c k
+pub zeros-small : (n : ℕ) → Small n (replicate mostParties 0)
+zeros-small n = record { eight = refl; each = λ i h. rw (zeros mostParties i) (omega arith) }
 
-  pub starting : {starts : List ℕ} → length starts ≡ mostParties + 1 → getD starts 0 0 ≡ 0 → Starting starts 0 0
-  unfolding inputsAt
-  starting {starts} h e =
-      record { upto = omega arith; nine = h; place = refl; are = λ k l. let z : k ≡ 0 = omega arith in rw z e }
+-- no party had an input before the first gate
+none-yet : (c : List ℕ) (i : ℕ) → inputAt c i 0 ≡ 0
+unfolding inputAt count total
+none-yet c i = refl
 
-  module _ (v : Valid n p c) {starts : List ℕ} {at i : ℕ} (inv : Starting starts at i) (h : i < n) {inputs : ℕ} (e : inputs ≡ inputCount c i) where
-    next-start : at + inputs ≡ inputsAt c (i + 1)
-    next-start = omega (arith, inv .place, e, starts-suc c i, ap (inputsAt c) (add-one i))
+-- the inputs of parties are counted on: what gate j adds
+pub counted-first : {n : ℕ} {c : List ℕ} {a : ℕ} {before : List ℕ} → Small n before → CountedOn n c a a before before
+counted-first small = record { eight = small .eight; each = λ i h. refl }
 
-    pub starting-small : at + inputs ≤ mostGates
-    starting-small = omega (arith, next-start, starts-mono c (i + 1) n (omega arith), inputs-all v, in-count-le c, v .few)
-
-    pub starting-again : n ≤ mostParties → Starting (set starts (i + 1) (at + inputs)) (at + inputs) (i + 1)
-    starting-again few =
-        record {
-          upto = omega arith;
-          nine = length-set starts (i + 1) (at + inputs) ∙ inv .nine;
-          place = next-start;
-          are = each-set 0 (λ k x. x ≡ inputsAt c k) starts (i + 1) (at + inputs) (omega (arith, inv .nine)) (inv .are) next-start;
-        }
-
--- how many inputs parties had: what gate j adds
-module _ {n : ℕ} {c : List ℕ} {counts : List ℕ} {j : ℕ} (k : Counted n c j counts) where
-  pub counted-upto : {to : ℕ} → j ≤ to → to ≤ j → Counted n c to counts
+module _ {n : ℕ} {c : List ℕ} {a j : ℕ} {before counts : List ℕ} (k : CountedOn n c a j before counts) where
+  pub counted-upto : {to : ℕ} → j ≤ to → to ≤ j → CountedOn n c a to before counts
   counted-upto {to} h g = let e : j ≡ to = omega arith in rw e at k
 
-  pub counted-other : isIn (gate c j) ≡ false → Counted n c (j + 1) counts
+  pub counted-other : isIn (gate c j) ≡ false → CountedOn n c a (j + 1) before counts
   unfolding ownedBy
   counted-other e =
       record { eight = k .eight; each = λ i h. let z : inputAt c i (j + 1) ≡ inputAt c i j + 0 = rw e at (input-more c i j) in omega (arith, z, k .each i h) }
@@ -83,10 +64,10 @@ module _ {n : ℕ} {c : List ℕ} {counts : List ℕ} {j : ℕ} (k : Counted n c
     pub owner-party : s < n
     owner-party = rw es (owner-low v h e)
 
-    pub owner-few : getD counts s 0 ≤ mostGates
-    owner-few = omega (arith, k .each s owner-party, input-le c s j, v .few)
+    pub owner-few : Small n before → getD counts s 0 ≤ 2 * mostGates
+    owner-few small = omega (arith, k .each s owner-party, small .each s owner-party, input-le c s j, v .few)
 
-    pub counted-in : Counted n c (j + 1) (set counts s (getD counts s 0 + 1))
+    pub counted-in : CountedOn n c a (j + 1) before (set counts s (getD counts s 0 + 1))
     unfolding ownedBy
     counted-in =
         record {
@@ -97,21 +78,68 @@ module _ {n : ℕ} {c : List ℕ} {counts : List ℕ} {j : ℕ} (k : Counted n c
         adds : (i : ℕ) → inputAt c i (j + 1) ≡ inputAt c i j + cond (eqb s i) 1 0
         adds i = rw es (rw e at (input-more c i j))
 
-        go : (i : ℕ) → i < n → Dec (i ≡ s) → getD (set counts s (getD counts s 0 + 1)) i 0 ≡ inputAt c i (j + 1)
+        go : (i : ℕ) → i < n → Dec (i ≡ s) → getD (set counts s (getD counts s 0 + 1)) i 0 + inputAt c i a ≡ getD before i 0 + inputAt c i (j + 1)
         go i l (yes d) =
             let z : inputAt c i (j + 1) ≡ inputAt c i j + 1 = rw (eq-eqb s i (sym d)) at (adds i) in
-            rw d (getD-set-same counts s (getD counts s 0 + 1) 0 (omega (arith, k .eight, owner-party)) ∙ omega (arith, k .each s owner-party, rw d at z))
+            let w : getD (set counts s (getD counts s 0 + 1)) i 0 ≡ getD counts i 0 + 1 = rw d (getD-set-same counts s (getD counts s 0 + 1) 0 (omega (arith, k .eight, owner-party))) in
+            omega (arith, k .each i l, z, w)
         go i l (no d) =
             let z : inputAt c i (j + 1) ≡ inputAt c i j + 0 = rw (ne-eqb s i (λ q. d (sym q))) at (adds i) in
-            getD-set-other counts s i (getD counts s 0 + 1) 0 d ∙ omega (arith, k .each i l, z)
+            omega (arith, k .each i l, z, getD-set-other counts s i (getD counts s 0 + 1) 0 d)
 
--- an array of zeros
-pub zeros : (n i : ℕ) → _≡_ {A = ℕ} (getD (replicate n 0) i 0) 0
-zeros zero i = refl
-zeros (suc n) zero = refl
-zeros (suc n) (suc i) = zeros n i
+-- where the inputs of parties start
+module _ (n : ℕ) (c : List ℕ) where
+  pub record Starting (starts : List ℕ) (at i : ℕ) : Type 0 where
+    pub upto : i ≤ n
+    pub eight : length starts ≡ mostParties
+    pub place : at ≡ inputsAt c i
+    pub are : (k : ℕ) → k < i → getD starts k 0 ≡ inputsAt c k
 
--- no party had an input before the first gate
-pub counted-none : (n : ℕ) (c : List ℕ) → Counted n c 0 (replicate mostParties 0)
-unfolding inputAt count total
-counted-none n c = record { eight = refl; each = λ i h. zeros mostParties i }
+  pub starting : {starts : List ℕ} → length starts ≡ mostParties → Starting starts 0 0
+  unfolding inputsAt
+  starting h = record { upto = omega arith; eight = h; place = refl; are = λ k l. absurd (omega arith) }
+
+  module _ (v : Valid n p c) {to : ℕ} (whole : to ≡ gates c) {counts : List ℕ} (d : CountedOn n c 0 to (replicate mostParties 0) counts)
+      {starts : List ℕ} {at i : ℕ} (inv : Starting starts at i) (h : i < n) where
+    next-start : at + getD counts i 0 ≡ inputsAt c (i + 1)
+    unfolding inputCount
+    next-start =
+        omega (arith, inv .place, d .each i h, none-yet c i, zeros mostParties i, ap (inputAt c i) whole, starts-suc c i, ap (inputsAt c) (add-one i))
+
+    pub starting-small : at + getD counts i 0 ≤ mostGates
+    starting-small = omega (arith, next-start, starts-mono c (i + 1) n (omega arith), inputs-all v, in-count-le c, v .few)
+
+    pub starting-again : n ≤ mostParties → Starting (set starts i at) (at + getD counts i 0) (i + 1)
+    starting-again few =
+        record {
+          upto = omega arith;
+          eight = length-set starts i at ∙ inv .eight;
+          place = next-start;
+          are = each-set 0 (λ k x. x ≡ inputsAt c k) starts i at (omega (arith, inv .eight)) (inv .are) (inv .place);
+        }
+
+  pub starting-done : {starts : List ℕ} {at i : ℕ} → Starting starts at i → n ≤ i → Placed n c 0 starts
+  starting-done inv h = record { eight = inv .eight; each = λ k l. omega (arith, inv .are k (omega arith), none-yet c k) }
+
+-- where parties stand in the joined inputs
+module _ {n : ℕ} {c : List ℕ} {j : ℕ} {places : List ℕ} (k : Placed n c j places) where
+  pub placed-small : Valid n p c → j ≤ gates c → Small n places
+  unfolding inputAt inputCount count
+  placed-small v h =
+      record {
+        eight = k .eight;
+        each = λ i l.
+            omega (
+              arith,
+              k .each i l,
+              total-mono (λ g. cond (ownedBy i g) 1 0) c j (gates c) h,
+              starts-suc c i,
+              starts-mono c (suc i) n l,
+              inputs-all v,
+              in-count-le c,
+              v .few,
+            );
+      }
+
+  pub placed-on : {to : ℕ} {counts : List ℕ} → CountedOn n c j to places counts → Placed n c to counts
+  placed-on d = record { eight = d .eight; each = λ i l. omega (arith, d .each i l, k .each i l) }

@@ -1,7 +1,7 @@
 -- A round leaves what the next round asks.
 -- Assumes nothing.
 use Prim.Native.Nat.{ℕ, _+_, _<_, _≤_}
-use mathlib.Core.Path.{_≡_, ap}
+use mathlib.Core.Path.{_≡_, refl, ap}
 use mathlib.Core.Bool.{true}
 use mathlib.Core.List.{List}
 use native.Mathlib.Omega.{arith}
@@ -60,25 +60,25 @@ module _ (J : Joint) (f : Frame) (s : Course) (r : Round) (l : List ℕ) (g : Go
     unfolding stageOccurs
     next-fits r′ e = (omega (arith, gate-is, next-there .within), rw gate-is (rw e at (next-there .occurs)))
 
-    sited : (i : ℕ) → i < J .parties → Sited (J .circuit) i (siteOf s′ i)
+    sited : (i : ℕ) → i < J .parties → Sited (J .circuit) i (siteOf (J .circuit) s′ i)
     unfolding siteOf
     sited i h =
         record {
           within = omega (arith, gate-is, next-there .within);
           prep = d .tallied .prep;
           unchecked = d .tallied .unchecked;
-          input = d .counted .each i h;
+          input = refl;
         }
 
     received-is : (i : ℕ) → i < J .parties → band (f .scratch) l′ i ≡ received prime (party J i) (band (f .scratch) l i) (s .point .gate) r heardIn
     unfolding stateOf step pointOf
     received-is i h = d .alike .scratch i h
 
-    ready-then : (r′ : Round) → nextIn .stage ≡ Send r′ → (i : ℕ) → i < J .parties → Ready (party J i) (band (f .scratch) l′ i) (f .layout) (siteOf s′ i) r′
+    ready-then : (r′ : Round) → nextIn .stage ≡ Send r′ → (i : ℕ) → i < J .parties → Ready (party J i) (band (f .scratch) l′ i) (f .layout) (siteOf (J .circuit) s′ i) r′
     unfolding siteOf party
     ready-then r′ e i h =
-        ready-next (party J i) (band (f .scratch) l i) (band (f .scratch) l′ i) (f .layout) (siteOf s i) (siteOf s′ i) r r′ nextIn (g .ready i h)
-        (rw (received-is i h) (received-stands (party J i) (band (f .scratch) l i) (f .layout) (siteOf s i) heardIn r (g .ready i h)))
+        ready-next (party J i) (band (f .scratch) l i) (band (f .scratch) l′ i) (f .layout) (siteOf (J .circuit) s i) (siteOf (J .circuit) s′ i) r r′ nextIn (g .ready i h)
+        (rw (received-is i h) (received-stands (party J i) (band (f .scratch) l i) (f .layout) (siteOf (J .circuit) s i) heardIn r (g .ready i h)))
         (next-there .occurs) (sited i h) gate-is e
 
     -- what the next round asks, if there is one and the coefficients last
@@ -90,7 +90,7 @@ module _ (J : Joint) (f : Frame) (s : Course) (r : Round) (l : List ℕ) (g : Go
           lent = g .lent;
           room = omega (arith, g .room, d .long);
           tallied = d .tallied;
-          counted = d .counted;
+          placed = d .placed;
           held-low = d .held-low;
           ready = ready-then r′ e;
           coefficient-count = coefficient-count;

@@ -15,9 +15,12 @@ pub mod Running
 pub mod Dues
 pub mod Accepting
 pub mod Arrays
-pub mod Turns
 pub mod Releasing
 pub mod Rows
+pub mod Cutting
+pub mod Gathering
+pub mod SendTurns
+pub mod ReceiveTurns
 pub mod Measures
 pub mod Later
 pub mod Rounding

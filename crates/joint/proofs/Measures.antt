@@ -13,17 +13,18 @@ use Rattle.circuit.specs.Count.{total, count, prepAt, prepSize, capacity, inCou
 use Rattle.circuit.specs.Round.{words, overRun, wordCount, coefficientCount}
 use Rattle.circuit.specs.Accept.{mostGates}
 use Rattle.circuit.specs.Valid.{Valid}
-use Rattle.circuit.specs.Code.{Tallied, Totalled}
-use Rattle.circuit.specs.declared.Tally.{Tally}
+use Rattle.circuit.specs.Code.{Totalled}
 use Rattle.circuit.specs.declared.Totals.{Totals}
 use Rattle.circuit.proofs.Counts.{prep-size-le, capacity-le}
 use Rattle.circuit.proofs.Rounds.{words-run-le}
-use Rattle.party.specs.Scratch.{layout, scratchSize}
+use Rattle.party.specs.Scratch.{Layout, layout, scratchSize}
 use Rattle.party.specs.Ask.{mostParties}
 use Rattle.party.specs.Code.{layoutOf}
+use Rattle.joint.specs.declared.Frame.{Frame}
+use Rattle.joint.specs.Code.{Framed}
 
 -- a number for each party
-pub product-few : {n x : ℕ} (k : ℕ) → n ≤ mostParties → x ≤ k → n * x ≤ mostParties * k
+product-few : {n x : ℕ} (k : ℕ) → n ≤ mostParties → x ≤ k → n * x ≤ mostParties * k
 product-few k h g = mul-le-mul h g
 
 module _ {n : ℕ} {c : List ℕ} (v : Valid n p c) where
@@ -38,49 +39,58 @@ module _ {n : ℕ} {c : List ℕ} (v : Valid n p c) where
   pub count-few : length c / gateSize ≤ mostGates
   count-few = omega (arith, count-is, v .few)
 
-  module _ {i : ℕ} {t : Tally} (k : Tallied c i (length c / gateSize) t) where
+  -- the totals of all gates
+  module _ {m : ℕ} (all : m ≡ gates c) {t : Totals} (k : Totalled c m t) where
     pub prep-is : t .prep ≡ prepSize c
     unfolding prepSize
-    prep-is = k .prep ∙ ap (prepAt c) count-is
+    prep-is = k .prep ∙ ap (prepAt c) all
 
-    pub capacity-is : t .openings + 1 ≡ capacity c
+    capacity-is : t .openings + 1 ≡ capacity c
     unfolding capacity
-    capacity-is = ap (λ (x : ℕ). x + 1) (k .openings ∙ ap (total (λ g. shape g .openings) c) count-is)
+    capacity-is = ap (λ (x : ℕ). x + 1) (k .openings ∙ ap (total (λ g. shape g .openings) c) all)
 
     pub capacity-few : t .openings + 1 ≤ 513
     capacity-few = omega (arith, capacity-is, capacity-le c, v .few)
 
-    pub laid-is : layoutOf (record { gates = length c / gateSize; capacity = t .openings + 1 }) ≡ layout c
+    pub laid-is : layoutOf (record { gates = m; capacity = t .openings + 1 }) ≡ layout c
     unfolding layoutOf layout
-    laid-is = rw (count-is, capacity-is)
+    laid-is = rw (all, capacity-is)
 
-    pub prep-few : t .prep ≤ 1537
-    prep-few = omega (arith, prep-is, prep-size-le c, v .few)
+    pub size-is : {size : ℕ} → size ≡ scratchSize (layoutOf (record { gates = m; capacity = t .openings + 1 })) → size ≡ scratchSize (layout c)
+    size-is e = e ∙ ap scratchSize laid-is
 
-    module _ {size : ℕ} (e : size ≡ scratchSize (layoutOf (record { gates = length c / gateSize; capacity = t .openings + 1 }))) where
-      pub size-is : size ≡ scratchSize (layout c)
-      size-is = e ∙ ap scratchSize laid-is
+  -- the numbers of the frame
+  module _ {f : Frame} (h : Framed n c f) where
+    pub gates-are : f .layout .gates ≡ gates c
+    unfolding layoutOf layout
+    gates-are = ap (λ (y : Layout). y .gates) (h .lay)
 
-      pub size-few : size ≤ 1538
-      unfolding scratchSize layoutOf
-      size-few = omega (arith, e, capacity-few, count-few)
+    gates-few : f .layout .gates ≤ mostGates
+    gates-few = omega (arith, gates-are, v .few)
 
-  module _ {t : Totals} (k : Totalled c (length c / gateSize) t) where
-    pub ins-are : t .ins ≡ inCount c
-    unfolding inCount
-    ins-are = k .ins ∙ ap (count isIn c) count-is
+    pub preps-few : n ≤ mostParties → n * f .prep ≤ mostParties * 1537
+    preps-few few = product-few 1537 few (omega (arith, h .prep, prep-size-le c, v .few))
 
-    pub outs-are : t .outs ≡ outCount c
-    unfolding outCount
-    outs-are = k .outs ∙ ap (count isOut c) count-is
+    pub sizes-few : n ≤ mostParties → n * f .scratch ≤ mostParties * 1538
+    unfolding scratchSize layout
+    sizes-few few = product-few 1538 few (omega (arith, h .scratch, capacity-le c, v .few))
 
-    pub words-are : t .words ≡ wordCount c
-    unfolding wordCount
-    words-are = k .words ∙ ap (overRun _ c) count-is
+    module _ {t : Totals} (k : Totalled c (f .layout .gates) t) where
+      pub ins-are : t .ins ≡ inCount c
+      unfolding inCount
+      ins-are = k .ins ∙ ap (count isIn c) gates-are
 
-    pub coefficients-are : t .coefficients ≡ coefficientCount c
-    unfolding coefficientCount
-    coefficients-are = k .coefficients ∙ ap (overRun _ c) count-is
+      pub outs-are : t .outs ≡ outCount c
+      unfolding outCount
+      outs-are = k .outs ∙ ap (count isOut c) gates-are
 
-    pub words-few : t .words ≤ 1536
-    words-few = omega (arith, k .words, words-run-le c (length c / gateSize), count-few)
+      pub words-are : t .words ≡ wordCount c
+      unfolding wordCount
+      words-are = k .words ∙ ap (overRun _ c) gates-are
+
+      pub coefficients-are : t .coefficients ≡ coefficientCount c
+      unfolding coefficientCount
+      coefficients-are = k .coefficients ∙ ap (overRun _ c) gates-are
+
+      pub words-few : n ≤ mostParties → n * t .words ≤ mostParties * 1536
+      words-few few = product-few 1536 few (omega (arith, k .words, words-run-le c (f .layout .gates), gates-few))

@@ -1,21 +1,20 @@
 -- What each party is lent of the lists of all.
 -- Assumes nothing.
-use Prim.Native.Nat.{ℕ, suc, _+_, _-_, _*_, _<_, _≤_}
-use mathlib.Core.Path.{_≡_, refl, ap, _∙_}
-use mathlib.Core.List.{[]}
-use native.Mathlib.Nat.{add-sub-cancel-left}
-use native.Mathlib.Numerals.{add-one}
+use Prim.Native.Nat.{ℕ, suc, _+_, _*_, _<_, _≤_}
+use mathlib.Core.Path.{_≡_, refl}
+use mathlib.Core.List.{List, []}
 use native.Mathlib.Omega.{arith}
-use lib.ListN.{length, getD, take, drop, length-drop}
+use lib.ListN.{length, getD, drop, length-drop}
 use lib.Seq.{length-take-le}
-use Rattle.circuit.specs.Count.{prepSize, inputCount}
-use Rattle.party.specs.Party.{Party}
+use Rattle.circuit.specs.Gate.{gate, gates}
+use Rattle.circuit.specs.Kind.{shape}
+use Rattle.circuit.specs.Count.{prepAt, prepSize, inputCount}
+use Rattle.circuit.proofs.Counts.{prep-within, prep-positive}
 use Rattle.party.specs.Code.{Below}
 use Rattle.joint.specs.Joint.{Joint, band, inputsAt, party}
 use Rattle.joint.specs.declared.Frame.{Frame}
-use Rattle.joint.specs.Code.{Lent}
+use Rattle.joint.specs.Code.{jointOf, Lent, prepFrom, keyIn, Prepared, Banded}
 use Rattle.joint.proofs.Words.{length-band}
-use Rattle.joint.proofs.Bands.{band-end}
 use Rattle.joint.proofs.Said.{below-part}
 use Rattle.joint.proofs.Inputs.{inputs-all, starts-suc, starts-mono}
 
@@ -40,43 +39,12 @@ lent-undrawn h =
       inputs-low = h .inputs-low;
     }
 
--- party i with the parts of the lists that the code cuts out for it
-abbrev pub lentTo : Joint → Frame → ℕ → Party
-lentTo J f i =
-    record {
-      parties = f .parties;
-      me = i;
-      circuit = J .circuit;
-      prep = take (i * f .prep + f .prep - i * f .prep) (drop (i * f .prep) (J .preps));
-      inputs = take (getD (f .starts) (i + 1) 0 - getD (f .starts) i 0) (drop (getD (f .starts) i 0) (J .inputs));
-    }
-
 module _ {J : Joint} {f : Frame} (h : Lent J f) (i : ℕ) (l : i < J .parties) where
-  -- where party i's inputs start and end
-  pub start-is : getD (f .starts) i 0 ≡ inputsAt (J .circuit) i
-  start-is = h .framed .starts i (omega arith)
+  -- where party i's inputs end
+  pub inputs-end : inputsAt (J .circuit) i + inputCount (J .circuit) i ≤ length (J .inputs)
+  inputs-end = omega (arith, starts-suc (J .circuit) i, starts-mono (J .circuit) (suc i) (J .parties) l, inputs-all (h .valid), h .inputs-long)
 
-  pub end-is : getD (f .starts) (i + 1) 0 ≡ inputsAt (J .circuit) i + inputCount (J .circuit) i
-  end-is = h .framed .starts (i + 1) (omega arith) ∙ ap (inputsAt (J .circuit)) (add-one i) ∙ starts-suc (J .circuit) i
-
-  pub start-le : getD (f .starts) i 0 ≤ getD (f .starts) (i + 1) 0
-  start-le = omega (arith, start-is, end-is)
-
-  pub end-le : getD (f .starts) (i + 1) 0 ≤ length (J .inputs)
-  end-le = omega (arith, end-is, starts-suc (J .circuit) i, starts-mono (J .circuit) (suc i) (J .parties) l, inputs-all (h .valid), h .inputs-long)
-
-  -- where its preprocessing ends
-  pub prep-le : i * f .prep + f .prep ≤ length (J .preps)
-  prep-le = rw (h .framed .prep, h .preps-long) (band-end (J .parties) (prepSize (J .circuit)) i l)
-
-  -- the parts that the code lends are the party's
-  pub party-is : lentTo J f i ≡ party J i
-  unfolding party band
-  party-is =
-      let n : inputsAt (J .circuit) i + inputCount (J .circuit) i - inputsAt (J .circuit) i ≡ inputCount (J .circuit) i = omega arith in
-      rw (h .framed .parties, add-sub-cancel-left (i * f .prep) (f .prep), h .framed .prep, end-is, start-is, n)
-
-  -- and they are of elements, as many as there should be
+  -- a party's parts are of elements, as many as there should be
   pub party-prep : length (party J i .prep) ≡ prepSize (J .circuit)
   unfolding party
   party-prep = length-band (prepSize (J .circuit)) (J .parties) (J .preps) (omega (arith, h .preps-long)) i l
@@ -89,8 +57,33 @@ module _ {J : Joint} {f : Frame} (h : Lent J f) (i : ℕ) (l : i < J .parties) w
   unfolding party
   party-inputs =
       length-take-le (inputCount (J .circuit) i) (drop (inputsAt (J .circuit) i) (J .inputs))
-      (simp length-drop (omega (arith, end-is, end-le)))
+      (simp length-drop (omega (arith, inputs-end)))
 
   pub party-inputs-low : Below (party J i .inputs)
   unfolding party
   party-inputs-low = below-part (J .inputs) (inputCount (J .circuit) i) (inputsAt (J .circuit) i) (h .inputs-low)
+
+-- what the code cuts out of the lists of all is the party's
+module _ {f : Frame} {c preps inputs coefficients : List ℕ} (t : Lent (jointOf (f .parties) c preps inputs coefficients) f) where
+  pub lent-prepared : (a k : ℕ) → a + k ≤ f .prep → Prepared f preps a k
+  lent-prepared a k h = record { long = rw (t .framed .prep) (omega (arith, t .preps-long)); low = t .preps-low; fits = h }
+
+  pub lent-key : Prepared f preps 0 1
+  unfolding prepSize
+  lent-key = lent-prepared 0 1 (omega (arith, t .framed .prep, prep-positive c (gates c)))
+
+  pub lent-banded : {l : List ℕ} → f .parties * f .scratch ≤ length l → Banded f l
+  lent-banded h = record { size = rw (t .framed .lay) (omega (arith, t .framed .scratch)); room = h }
+
+  pub lent-keyed : (i : ℕ) → keyIn f preps i ≡ getD (party (jointOf (f .parties) c preps inputs coefficients) i .prep) 0 0
+  unfolding party
+  lent-keyed i = rw (t .framed .prep)
+
+  -- a gate's record
+  module _ {a j : ℕ} (e : a ≡ prepAt c j) (h : j < gates c) where
+    pub lent-record : a + shape (gate c j) .prep ≤ f .prep
+    lent-record = omega (arith, e, t .framed .prep, prep-within c j h)
+
+    pub lent-record-is : (i : ℕ) → prepFrom f preps a i ≡ drop a (party (jointOf (f .parties) c preps inputs coefficients) i .prep)
+    unfolding party
+    lent-record-is i = rw (t .framed .prep)

@@ -10,7 +10,7 @@ use lib.ListN.{length, getD, take, drop, length-append, length-drop}
 use lib.Seq.{length-take-le, take-at, drop-at, drop-drop}
 use borrow.Rule.Slice.PartMut.{putMid}
 use Rattle.field.specs.Prime.{p, prime, Is}
-use Rattle.circuit.specs.Gate.{gateSize, gate, gates}
+use Rattle.circuit.specs.Gate.{Gate, gateSize, gate, gates}
 use Rattle.circuit.specs.Count.{unchecked}
 use Rattle.circuit.specs.Round.{Round, Input, Multiply, CommitOpened, RevealOpened, OpenOutput, CommitOutput, RevealOutput, words, coefficientsIn}
 use Rattle.circuit.specs.Accept.{mostGates}
@@ -29,7 +29,7 @@ use Rattle.joint.specs.Joint.{Joint, joined, band, party}
 use Rattle.joint.specs.Run.{takes, said, step, released}
 use Rattle.joint.specs.declared.Frame.{Frame}
 use Rattle.joint.specs.declared.Course.{Course}
-use Rattle.joint.specs.Code.{Counted, siteOf, stateOf, Framed, Lent, saidBy, receivedBy, freed, writtenAt, Turning, Turned}
+use Rattle.joint.specs.Code.{Small, CountedOn, siteOf, stateOf, Framed, Lent, saidBy, receivedBy, freed, writtenAt, Going, Turning, Turned}
 use Rattle.joint.proofs.Words.{length-joined}
 use Rattle.joint.proofs.Bands.{band-end, band-front, band-joined}
 use Rattle.joint.proofs.Said.{length-said, below-joined, sent-low}
@@ -38,6 +38,7 @@ use Rattle.joint.proofs.Written.{written-length}
 use Rattle.joint.proofs.Going.{within, occurs, nextIn, next-there}
 use Rattle.joint.proofs.Rows.{gate-fits, each-band}
 use Rattle.joint.proofs.Later.{next-later}
+use Rattle.joint.proofs.Arrays.{placed-small, placed-on}
 
 -- a part of a list that comes back as ws holds ws, and the list is as long as before
 module _ (t ws : List ℕ) (a m : ℕ) (fits : a + m ≤ length t) (len : length ws ≡ m) where
@@ -47,6 +48,10 @@ module _ (t ws : List ℕ) (a m : ℕ) (fits : a + m ≤ length t) (len : length
 
   put-written : putMid a (a + m - a) t ws ≡ writtenAt a ws t
   put-written = rw (add-sub-cancel-left a m, drop-drop m a t, len)
+
+-- the coefficients that a round uses are there
+pub coefficients-there : {J : Joint} {f : Frame} {s : Course} {r : Round} {l : List ℕ} → Going J f s r l → {k : ℕ} → k ≡ coefficientsIn (s .tally .unchecked) r → s .used + k ≤ length (J .coefficients)
+coefficients-there {r = r} g d = omega (arith, d ∙ ap (λ (u : ℕ). coefficientsIn u r) (g .tallied .unchecked), g .coefficient-count)
 
 -- the round that releases has one word
 released-words : (c : List ℕ) (j : ℕ) (r : Round) → releases r ≡ true → words (gate c j) r ≡ 1
@@ -67,14 +72,24 @@ module _ {J : Joint} {f : Frame} {s : Course} {r : Round} {l t o : List ℕ} (u 
   pub round-gate : gateSize * (s .point .gate) + gateSize ≤ length (J .circuit)
   round-gate = gate-fits J f s r l (u .going)
 
-  module _ {k : ℕ} (k-is : k ≡ words (gate (J .circuit) (s .point .gate)) r) where
+  -- the gate is decoded, and its words are counted
+  module _ {g : Gate} (g-is : g ≡ gate (J .circuit) (s .point .gate)) {k : ℕ} (k-of : k ≡ words g r) where
+    k-is : k ≡ words (gate (J .circuit) (s .point .gate)) r
+    k-is = k-of ∙ ap (λ (x : Gate). words x r) g-is
+
     pub round-end : s .written + J .parties * k ≤ length t
     round-end = rw k-is (u .words-fit)
 
-    pub round-room : length (take (s .written + J .parties * k - s .written) (drop (s .written) t)) ≡ J .parties * words (gate (J .circuit) (s .point .gate)) r
-    round-room =
+    room : length (take (s .written + J .parties * k - s .written) (drop (s .written) t)) ≡ J .parties * words (gate (J .circuit) (s .point .gate)) r
+    room =
         rw (add-sub-cancel-left (s .written) (J .parties * k))
         (length-take-le (J .parties * k) (drop (s .written) t) (simp length-drop (omega (arith, round-end))) ∙ ap (λ (x : ℕ). J .parties * x) k-is)
+
+    -- what sending asks
+    pub round-sends : Going J f s r l
+        × (g ≡ gate (J .circuit) (s .point .gate))
+        × (length (take (s .written + J .parties * k - s .written) (drop (s .written) t)) ≡ J .parties * words (gate (J .circuit) (s .point .gate)) r)
+    round-sends = (u .going, g-is, room)
 
     said-long : length saidHere ≡ J .parties * k
     unfolding stateOf pointOf
@@ -84,7 +99,7 @@ module _ {J : Joint} {f : Frame} {s : Course} {r : Round} {l t o : List ℕ} (u 
     unfolding said stateOf siteOf pointOf
     said-low =
         below-joined (J .parties) (saidBy J (stateOf f s l) r)
-        (λ i h. sent-low (party J i) (band (f .scratch) l i) (f .layout) (siteOf s i) (getD (s .held) i 0) r (u .going .ready i h) (u .going .held-low i h))
+        (λ i h. sent-low (party J i) (band (f .scratch) l i) (f .layout) (siteOf (J .circuit) s i) (getD (s .held) i 0) r (u .going .ready i h) (u .going .held-low i h))
 
     -- the parties have sent: ws came back
     module _ {ws : List ℕ} (d : ws ≡ saidHere) where
@@ -121,20 +136,22 @@ module _ {J : Joint} {f : Frame} {s : Course} {r : Round} {l t o : List ℕ} (u 
       )
 
       -- what receiving asks
-      receives : (i : ℕ) → i < J .parties → Receives (party (undrawn J) i) (band (f .scratch) l i) (f .layout) (siteOf s i) r heardOf
+      receives : (i : ℕ) → i < J .parties → Receives (party (undrawn J) i) (band (f .scratch) l i) (f .layout) (siteOf (J .circuit) s i) r heardOf
       unfolding siteOf party
       receives i h =
           rw heard-is
           (record {
-            ready = subst (λ (P : Party). Ready P (band (f .scratch) l i) (f .layout) (siteOf s i) r) (party-undrawn J i) (u .going .ready i h);
+            ready = subst (λ (P : Party). Ready P (band (f .scratch) l i) (f .layout) (siteOf (J .circuit) s i) r) (party-undrawn J i) (u .going .ready i h);
             whole = said-long ∙ ap (λ (x : ℕ). J .parties * x) k-is;
             heard-low = said-low;
           })
 
       pub round-receives : Lent (undrawn J) f
           × (J .parties * f .scratch ≤ length l)
-          × ((i : ℕ) → i < J .parties → Receives (party (undrawn J) i) (band (f .scratch) l i) (f .layout) (siteOf s i) r heardOf)
-      round-receives = (lent-undrawn (u .going .lent), u .going .room, receives)
+          × ((i : ℕ) → i < J .parties → Receives (party (undrawn J) i) (band (f .scratch) l i) (f .layout) (siteOf (J .circuit) s i) r heardOf)
+          × (g ≡ gate (J .circuit) (s .point .gate))
+          × (k ≡ words g r)
+      round-receives = (lent-undrawn (u .going .lent), u .going .room, receives, g-is, k-of)
 
       -- the parties have received: they came to the point x
       module _ (x : Point) (ex : pointOf x ≡ next prime (J .parties) (J .circuit) (s .point .gate) r heardOf) where
@@ -155,13 +172,13 @@ module _ {J : Joint} {f : Frame} {s : Course} {r : Round} {l t o : List ℕ} (u 
         pub round-tallies : (s .point .gate ≤ x .gate) × (gateSize * (x .gate) ≤ length (J .circuit)) × (x .gate ≤ mostGates) × Tallied (J .circuit) 0 (s .point .gate) (s .tally)
         round-tallies = (later, omega (arith, there, u .going .lent .valid .whole), omega (arith, there, u .going .lent .valid .few), u .going .tallied)
 
-        pub round-counts : Valid (J .parties) p (J .circuit) × (J .parties ≤ mostParties) × (s .point .gate ≤ x .gate) × (x .gate ≤ gates (J .circuit)) × Counted (J .parties) (J .circuit) (s .point .gate) (s .inputs)
-        round-counts = (u .going .lent .valid, u .going .lent .few, later, omega (arith, there), u .going .counted)
+        pub round-counts : Valid (J .parties) p (J .circuit) × (J .parties ≤ mostParties) × (s .point .gate ≤ x .gate) × (x .gate ≤ gates (J .circuit)) × Small (J .parties) (s .inputs)
+        round-counts = (u .going .lent .valid, u .going .lent .few, later, omega (arith, there), placed-small (u .going .placed) (u .going .lent .valid) (omega (arith, within J f s r l (u .going))))
 
         module _ (held : List ℕ) (eh : (i : ℕ) → i < J .parties → Is (step prime J (stateOf f s l) r .held i) (getD held i 0))
             {l′ : List ℕ} (el : l′ ≡ joined (J .parties) (receivedBy (undrawn J) (stateOf f s l) r heardOf) ++ drop (J .parties * f .scratch) l)
             (tally : Tally) (et : Tallied (J .circuit) 0 (x .gate) tally)
-            (counts : List ℕ) (ec : Counted (J .parties) (J .circuit) (x .gate) counts)
+            (places : List ℕ) (ec : CountedOn (J .parties) (J .circuit) (s .point .gate) (x .gate) (s .inputs) places)
             {kd : ℕ} (ed : kd ≡ coefficientsIn (s .tally .unchecked) r)
             {ko : ℕ} {o′ : List ℕ}
             (eo : (ko ≡ s .released + length (freed (J .parties) (J .circuit) r (band (f .scratch) l 0) heardOf))
@@ -188,7 +205,7 @@ module _ {J : Joint} {f : Frame} {s : Course} {r : Round} {l t o : List ℕ} (u 
 
           -- what the round leaves
           pub round-turned : Turned J f s r l t o
-              (record { point = x; tally = tally; inputs = counts; held = held; used = s .used + kd; written = s .written + J .parties * k; released = ko; rounds = s .rounds + 1 })
+              (record { point = x; tally = tally; inputs = places; held = held; used = s .used + kd; written = s .written + J .parties * k; released = ko; rounds = s .rounds + 1 })
               l′ sentTo o′
           unfolding stateOf
           round-turned =
@@ -201,7 +218,7 @@ module _ {J : Joint} {f : Frame} {s : Course} {r : Round} {l t o : List ℕ} (u 
                       used = unfold step in ap (λ (v : ℕ). s .used + v) drawn-is;
                     };
                 tallied = et;
-                counted = ec;
+                placed = placed-on (u .going .placed) ec;
                 held-low = λ i h. eh i h .below;
                 long = ap length el ∙ rw (length-append, front, length-drop) (omega (arith, u .going .room));
                 excess = ap (drop (J .parties * f .scratch)) el ∙ drop-at (joined (J .parties) (receivedBy (undrawn J) (stateOf f s l) r heardOf)) (drop (J .parties * f .scratch) l) (J .parties * f .scratch) front;

@@ -24,7 +24,7 @@ use Rattle.joint.specs.Entry as E
 use Rattle.joint.specs.declared.JointAnswer.{JointAnswer}
 use Rattle.joint.specs.declared.Frame.{Frame}
 use Rattle.joint.specs.declared.Course.{Course}
-use Rattle.joint.specs.Code.{jointAnswerOf, stateOf, writtenAt, Going, Turning, Alike, Turned, Started, Runnable, Ran, siteOf}
+use Rattle.joint.specs.Code.{jointAnswerOf, Placed, siteOf, stateOf, writtenAt, Going, Turning, Alike, Turned, Started, Runnable, Ran}
 use Rattle.joint.proofs.Words.{length-band, joined-ext}
 use Rattle.joint.proofs.Written.{Written, written-more, written-le, written-length, written-done}
 use Rattle.joint.proofs.Bands.{joined-bands}
@@ -354,7 +354,7 @@ module _ (J : Joint) (f : Frame) where
     running-ended able inv none {a} e = running-over able inv (over-of _ none) a e
 
 -- Before the first round.
-module _ (J : Joint) (f : Frame) (l t o : List ℕ) (able : Runnable J f l t o) (s : Course) (b : Started s) where
+module _ (J : Joint) (f : Frame) (l t o : List ℕ) (able : Runnable J f l t o) {starts : List ℕ} (places : Placed (J .parties) (J .circuit) 0 starts) (s : Course) (b : Started starts s) where
   gate-zero : s .point .gate ≡ 0
   unfolding pointOf
   gate-zero = ap (λ (x : Point). x .gate) (b .point)
@@ -377,7 +377,7 @@ module _ (J : Joint) (f : Frame) (l t o : List ℕ) (able : Runnable J f l t o) 
   unfolding openedIn unchecked
   none-opened = refl
 
-  ready-first : (i : ℕ) → i < J .parties → Ready (party J i) (band (f .scratch) l i) (f .layout) (siteOf s i) Input
+  ready-first : (i : ℕ) → i < J .parties → Ready (party J i) (band (f .scratch) l i) (f .layout) (siteOf (J .circuit) s i) Input
   unfolding siteOf party
   ready-first i h =
       let k = b .tallied (J .circuit) in
@@ -390,7 +390,7 @@ module _ (J : Joint) (f : Frame) (l t o : List ℕ) (able : Runnable J f l t o) 
         inputs-low = party-inputs-low (able .lent) i h;
         lay = able .lent .framed .lay;
         room = omega (arith, able .lent .framed .scratch, length-band (f .scratch) (J .parties) l (able .room) i h);
-        sited = record { within = goes .fits .0; prep = k .prep; unchecked = k .unchecked; input = b .counted (J .parties) (J .circuit) .each i h };
+        sited = record { within = goes .fits .0; prep = k .prep; unchecked = k .unchecked; input = refl };
         occurs = goes .fits .1;
         worked = λ x z. absurd (omega arith);
         opened = λ x z. absurd (omega (arith, none-opened));
@@ -429,7 +429,7 @@ module _ (J : Joint) (f : Frame) (l t o : List ℕ) (able : Runnable J f l t o) 
                     lent = able .lent;
                     room = able .room;
                     tallied = rw gate-zero (b .tallied (J .circuit));
-                    counted = rw gate-zero (b .counted (J .parties) (J .circuit));
+                    placed = rw (gate-zero, b .inputs) places;
                     held-low = λ i h. rw (b .held i) (omega arith);
                     ready = ready-first;
                     coefficient-count = omega (arith, nothing-drawn, b .used);

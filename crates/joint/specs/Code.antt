@@ -5,15 +5,16 @@ use mathlib.Core.Path.{_≡_}
 use mathlib.Core.Bool.{true, cond, _&&_}
 use mathlib.Core.List.{List, [], _∷_, _++_}
 use lib.ListN.{length, getD, take, drop}
-use Rattle.field.specs.Prime.{p, prime}
+use lib.Dec.{leb, eqb}
+use Rattle.field.specs.Prime.{p, prime, Is}
+use Rattle.circuit.specs.Verdict.{Verdict, ask, _then_, elements}
 use Rattle.circuit.specs.Gate.{gate, gates}
 use Rattle.circuit.specs.Count.{prepSize, inputAt, inCount, outCount, unchecked}
 use Rattle.circuit.specs.Round.{Round, Input, words, coefficientsIn, wordCount, coefficientCount}
+use Rattle.circuit.specs.Accept.{mostGates}
 use Rattle.circuit.specs.Valid.{Valid}
 use Rattle.circuit.specs.Code.{roundOf, Tallied}
-use Rattle.circuit.specs.declared.Tally.{Tally}
 use Rattle.party.specs.Scratch.{layout, scratchSize, Value, read}
-use Rattle.party.specs.Party.{Party}
 use Rattle.party.specs.Position.{Stage, Send}
 use Rattle.party.specs.Send.{sent}
 use Rattle.party.specs.Receive.{passes, received}
@@ -46,16 +47,25 @@ abbrev pub jointOf : ℕ → List ℕ → List ℕ → List ℕ → List ℕ →
 jointOf n c preps inputs coefficients =
     record { parties = n; circuit = c; preps = preps; inputs = inputs; coefficients = coefficients }
 
--- how many inputs each of n parties had before gate j
-pub record Counted (n : ℕ) (c : List ℕ) (j : ℕ) (counts : List ℕ) : Type 0 where
+-- an array with a small number for each of n parties
+pub record Small (n : ℕ) (counts : List ℕ) : Type 0 where
   pub eight : length counts ≡ mostParties
-  pub each : (i : ℕ) → i < n → getD counts i 0 ≡ inputAt c i j
+  pub each : (i : ℕ) → i < n → getD counts i 0 ≤ mostGates
 
-abbrev pub siteAt : ℕ → Tally → ℕ → Site
-siteAt gate t input = record { gate = gate; prep = t .prep; unchecked = t .unchecked; input = input }
+-- to each party's number in before its inputs from gate a up to gate b are added
+pub record CountedOn (n : ℕ) (c : List ℕ) (a b : ℕ) (before counts : List ℕ) : Type 0 where
+  pub eight : length counts ≡ mostParties
+  pub each : (i : ℕ) → i < n → getD counts i 0 + inputAt c i a ≡ getD before i 0 + inputAt c i b
 
-unfoldable pub siteOf : Course → ℕ → Site
-siteOf s i = siteAt (s .point .gate) (s .tally) (getD (s .inputs) i 0)
+-- where in the joined inputs each of n parties stands before gate j
+pub record Placed (n : ℕ) (c : List ℕ) (j : ℕ) (places : List ℕ) : Type 0 where
+  pub eight : length places ≡ mostParties
+  pub each : (i : ℕ) → i < n → getD places i 0 ≡ inputsAt c i + inputAt c i j
+
+-- where the numbers of the gate stand for party i
+unfoldable pub siteOf : List ℕ → Course → ℕ → Site
+siteOf c s i =
+    record { gate = s .point .gate; prep = s .tally .prep; unchecked = s .tally .unchecked; input = inputAt c i (s .point .gate) }
 
 -- all parties between two rounds, where l is the scratch of all
 unfoldable pub stateOf : Frame → Course → List ℕ → State
@@ -73,7 +83,6 @@ pub record Framed (n : ℕ) (c : List ℕ) (f : Frame) : Type 0 where
   pub lay : layoutOf (f .layout) ≡ layout c
   pub scratch : f .scratch ≡ scratchSize (layout c)
   pub prep : f .prep ≡ prepSize c
-  pub starts : (i : ℕ) → i ≤ n → getD (f .starts) i 0 ≡ inputsAt c i
 
 -- what questions 1 to 11 make sure of, and the frame
 pub record Lent (J : Joint) (f : Frame) : Type 0 where
@@ -86,14 +95,55 @@ pub record Lent (J : Joint) (f : Frame) : Type 0 where
   pub inputs-long : length (J .inputs) ≡ inCount (J .circuit)
   pub inputs-low : Below (J .inputs)
 
+-- questions 8 to 12 of the joint run, of the lengths wanted
+abbrev pub listsOf : List ℕ → ℕ → List ℕ → ℕ → ℕ → ℕ → Verdict
+listsOf preps prep inputs ins room size =
+    ask 8 0 (eqb (length preps) prep)
+    then elements 9 p preps
+    then ask 10 0 (eqb (length inputs) ins)
+    then elements 11 p inputs
+    then ask 12 0 (leb size room)
+
+-- and 16 to 18, of the lengths wanted
+abbrev pub roomsOf : List ℕ → ℕ → ℕ → ℕ → ℕ → ℕ → Verdict
+roomsOf coefficients coefficient-count words transcript outs outputs =
+    ask 16 0 (eqb (length coefficients) coefficient-count)
+    then elements 17 p coefficients
+    then ask 18 0 (leb words transcript && leb outs outputs)
+
 -- the part of a list from a up to b
 abbrev pub part : ℕ → ℕ → List ℕ → List ℕ
 part a b xs = take (b - a) (drop a xs)
 
--- party i of n with the parts that the code cuts out for it: each party has prep numbers of the preprocessing, and this one's inputs stand from a to b
-abbrev pub lentFrom : ℕ → ℕ → List ℕ → ℕ → List ℕ → ℕ → ℕ → List ℕ → Party
-lentFrom n i c prep preps a b inputs =
-    record { parties = n; me = i; circuit = c; prep = part (i * prep) (i * prep + prep) preps; inputs = part a b inputs }
+-- party i's preprocessing from number a on, and its key share
+abbrev pub prepFrom : Frame → List ℕ → ℕ → ℕ → List ℕ
+prepFrom f preps a i = drop a (band (f .prep) preps i)
+
+abbrev pub keyIn : Frame → List ℕ → ℕ → ℕ
+keyIn f preps i = getD (band (f .prep) preps i) 0 0
+
+-- what reading k numbers from number a on of each party's preprocessing asks
+pub record Prepared (f : Frame) (preps : List ℕ) (a k : ℕ) : Type 0 where
+  pub long : f .parties * f .prep ≤ length preps
+  pub low : Below preps
+  pub fits : a + k ≤ f .prep
+
+-- and lending each party its band of the scratch
+pub record Banded (f : Frame) (l : List ℕ) : Type 0 where
+  pub size : scratchSize (layoutOf (f .layout)) ≤ f .scratch
+  pub room : f .parties * f .scratch ≤ length l
+
+-- what holds of each party's band
+abbrev pub EachBand : Frame → List ℕ → (ℕ → List ℕ → Type 0) → Type 0
+EachBand f l P = (i : ℕ) → i < f .parties → P i (band (f .scratch) l i)
+
+-- an array holds w i for each party i
+abbrev pub EachIs : Frame → (ℕ → ℕ) → List ℕ → Type 0
+EachIs f w xs = (i : ℕ) → i < f .parties → Is (w i) (getD xs i 0)
+
+-- the bands of the scratch are F i, and the excess is that of l
+abbrev pub rebanded : Frame → (ℕ → List ℕ) → List ℕ → List ℕ
+rebanded f F l = joined (f .parties) F ++ drop (f .parties * f .scratch) l
 
 -- what the words of party i in round r are, and what its scratch is once it has received the words of all
 abbrev pub saidBy : Joint → State → Round → ℕ → List ℕ
@@ -115,9 +165,9 @@ pub record Going (J : Joint) (f : Frame) (s : Course) (r : Round) (l : List ℕ)
   pub lent : Lent J f
   pub room : J .parties * f .scratch ≤ length l
   pub tallied : Tallied (J .circuit) 0 (s .point .gate) (s .tally)
-  pub counted : Counted (J .parties) (J .circuit) (s .point .gate) (s .inputs)
+  pub placed : Placed (J .parties) (J .circuit) (s .point .gate) (s .inputs)
   pub held-low : (i : ℕ) → i < J .parties → getD (s .held) i 0 < p
-  pub ready : (i : ℕ) → i < J .parties → Ready (party J i) (band (f .scratch) l i) (f .layout) (siteOf s i) r
+  pub ready : (i : ℕ) → i < J .parties → Ready (party J i) (band (f .scratch) l i) (f .layout) (siteOf (J .circuit) s i) r
   pub coefficient-count : s .used + coefficientsIn (unchecked (J .circuit) (s .point .gate)) r ≤ length (J .coefficients)
   pub coefficients-low : Below (J .coefficients)
 
@@ -140,7 +190,7 @@ pub record Alike (n : ℕ) (s s′ : State) : Type 0 where
 pub record Turned (J : Joint) (f : Frame) (s : Course) (r : Round) (l t o : List ℕ) (s′ : Course) (l′ t′ o′ : List ℕ) : Type 0 where
   pub alike : Alike (J .parties) (stateOf f s′ l′) (step prime J (stateOf f s l) r)
   pub tallied : Tallied (J .circuit) 0 (s′ .point .gate) (s′ .tally)
-  pub counted : Counted (J .parties) (J .circuit) (s′ .point .gate) (s′ .inputs)
+  pub placed : Placed (J .parties) (J .circuit) (s′ .point .gate) (s′ .inputs)
   pub held-low : (i : ℕ) → i < J .parties → getD (s′ .held) i 0 < p
   pub long : length l′ ≡ length l
   pub excess : drop (J .parties * f .scratch) l′ ≡ drop (J .parties * f .scratch) l
@@ -150,11 +200,11 @@ pub record Turned (J : Joint) (f : Frame) (s : Course) (r : Round) (l t o : List
   pub given : s′ .released ≡ s .released + length (released prime J (stateOf f s l) r)
   pub rounds : s′ .rounds ≡ s .rounds + 1
 
--- before the first round, which is an in gate's
-pub record Started (s : Course) : Type 0 where
+-- before the first round, which is an in gate's; each party's inputs start where starts says
+pub record Started (starts : List ℕ) (s : Course) : Type 0 where
   pub point : pointOf (s .point) ≡ record { gate = 0; stage = Send Input }
   pub tallied : (c : List ℕ) → Tallied c 0 0 (s .tally)
-  pub counted : (n : ℕ) (c : List ℕ) → Counted n c 0 (s .inputs)
+  pub inputs : s .inputs ≡ starts
   pub held : (i : ℕ) → getD (s .held) i 0 ≡ 0
   pub used : s .used ≡ 0
   pub written : s .written ≡ 0

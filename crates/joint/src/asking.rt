@@ -1,19 +1,22 @@
 // The questions of the joint run.
+use crate::Frame;
+use circuit::Totals;
 use circuit::Verdict;
-use party::Layout;
 ghost use mathlib.Core.Path.{_≡_};
-ghost use mathlib.Core.Bool.{_&&_};
-ghost use lib.ListN.{length};
-ghost use lib.Dec.{leb, eqb};
+ghost use Prim.Native.Nat.{_*_, _≤_};
 ghost use Rattle.field.specs.Prime.{p};
-ghost use Rattle.circuit.specs.Verdict.{ask, _then_, elements};
+ghost use Rattle.circuit.specs.Verdict.{_then_};
 ghost use Rattle.circuit.specs.Accept.{askCircuit};
-ghost use Rattle.circuit.specs.Code.{verdictOf};
-ghost use Rattle.party.specs.Ask.{askParties};
-ghost use Rattle.joint.specs.Ask.{askJoint};
+ghost use Rattle.circuit.specs.Code.{verdictOf, Totalled};
+ghost use Rattle.circuit.specs.Count.{prepSize, inCount, outCount};
+ghost use Rattle.circuit.specs.Round.{wordCount, coefficientCount};
+ghost use Rattle.circuit.specs.Valid.{Valid};
+ghost use Rattle.party.specs.Scratch.{layout, scratchSize};
+ghost use Rattle.party.specs.Ask.{askParties, mostParties};
+ghost use Rattle.joint.specs.Code.{Framed, listsOf, roomsOf};
 
 // Questions 1 and 3 to 7.
-fn ask_setting(parties: usize, c: &[u32]) -> Verdict
+pub fn ask_setting(parties: usize, c: &[u32]) -> Verdict
     ensures { λ r. ⌜ verdictOf r ≡ (askParties parties then askCircuit parties p (now (c .entry))) ⌝ }
 {
     match party::asking::ask_parties(parties) {
@@ -34,7 +37,7 @@ fn ask_rooms(
     outs: usize,
     outputs: usize,
 ) -> Verdict
-    ensures { λ r. ⌜ verdictOf r ≡ (ask 16 0 (eqb (length (now (coefficients .entry))) due) then elements 17 p (now (coefficients .entry)) then ask 18 0 (leb words transcript && leb outs outputs)) ⌝ }
+    ensures { λ r. ⌜ verdictOf r ≡ roomsOf (now (coefficients .entry)) due words transcript outs outputs ⌝ }
 {
     if coefficients.len() != due {
         return Verdict::Refused {
@@ -63,40 +66,28 @@ fn ask_rooms(
     Verdict::Accepted
 }
 
-// All questions, of a transcript and a list of outputs of those lengths.
-pub fn ask_joint(
-    parties: usize,
+// The questions after 7, of a scratch, a transcript and a list of outputs of those lengths.
+pub fn ask_lent(
+    f: Frame,
+    totals: Totals,
     c: &[u32],
     preps: &[u32],
     inputs: &[u32],
-    scratch: &[u32],
+    room: usize,
     coefficients: &[u32],
     transcript: usize,
     outputs: usize,
 ) -> Verdict
-    ensures { λ r. ⌜ verdictOf r ≡ askJoint p (record { parties = parties; circuit = now (c .entry); preps = now (preps .entry); inputs = now (inputs .entry); coefficients = now (coefficients .entry) }) (now (scratch .entry)) transcript outputs ⌝ }
+    requires { ⌜ Valid (f .parties) p (now c) × (f .parties ≤ mostParties) × Framed (f .parties) (now c) f × Totalled (now c) (f .layout .gates) totals ⌝ }
+    ensures { λ r. ⌜ verdictOf r ≡ (listsOf (now (preps .entry)) (f .parties * prepSize (now (c .entry))) (now (inputs .entry)) (inCount (now (c .entry))) room (f .parties * scratchSize (layout (now (c .entry)))) then roomsOf (now (coefficients .entry)) (coefficientCount (now (c .entry))) (f .parties * wordCount (now (c .entry))) transcript (outCount (now (c .entry))) outputs) ⌝ }
 {
-    match ask_setting(parties, c) {
-        Verdict::Refused { number, index } => {
-            return Verdict::Refused { number, index };
-        }
-        Verdict::Accepted => {}
-    }
-    let count = c.len() / circuit::GATE_SIZE;
-    let all = circuit::tally_between(c, 0, 0, count, circuit::no_tally());
-    let totals = circuit::totals_before(c, count);
-    let y = Layout {
-        gates: count,
-        capacity: all.openings + 1,
-    };
-    let size = party::scratch::size_of(y);
     match party::asking::ask_lists(
         preps,
-        parties * all.prep,
+        f.parties * f.prep,
         inputs,
         totals.ins,
-        scratch.len(),
-        parties * size,
+        room,
+        f.parties * f.scratch,
     ) {
         Verdict::Refused { number, index } => {
             return Verdict::Refused { number, index };
@@ -106,7 +97,7 @@ pub fn ask_joint(
     ask_rooms(
         coefficients,
         totals.coefficients,
-        parties * totals.words,
+        f.parties * totals.words,
         transcript,
         totals.outs,
         outputs,

@@ -1,7 +1,9 @@
 // All parties of the online phase in one run.
 mod asking;
 mod framing;
+mod receiving;
 mod rounds;
+mod sending;
 
 use circuit::Round;
 use circuit::Tally;
@@ -20,19 +22,18 @@ pub enum JointAnswer {
     Stopped { gate: usize, rounds: usize },
 }
 
-// What stays the same from round to round: the number of parties, the layout and the length of a party's scratch, the length of its
-// preprocessing, and where each party's inputs start, with where the last party's end.
+// What stays the same from round to round: the number of parties, the layout and the length of a party's scratch, and the length of its
+// preprocessing.
 pub struct Frame {
     pub parties: usize,
     pub layout: Layout,
     pub scratch: usize,
     pub prep: usize,
-    pub starts: [usize; 9],
 }
 
 // What goes on from round to round: the point; what is counted of the gates before it, where the inputs alone differ by party, so that
-// the tally is party 0's and the inputs are counted for each; the check share that each party holds; and how many coefficients are
-// used, words written, outputs released and rounds made.
+// the tally is party 0's; where in the joined inputs each party stands; the check share that each party holds; and how many coefficients
+// are used, words written, outputs released and rounds made.
 pub struct Course {
     pub point: Point,
     pub tally: Tally,
@@ -65,12 +66,22 @@ pub fn joint_run(
     ensures transcript { λ r. ⌜ now (transcript .exit) ≡ jointTranscript prime (record { parties = parties; circuit = now (c .entry); preps = now (preps .entry); inputs = now (inputs .entry); coefficients = now (coefficients .entry) }) (now (scratch .entry)) (now (transcript .entry)) (now (outputs .entry)) ⌝ }
     ensures outputs { λ r. ⌜ now (outputs .exit) ≡ jointOutputs prime (record { parties = parties; circuit = now (c .entry); preps = now (preps .entry); inputs = now (inputs .entry); coefficients = now (coefficients .entry) }) (now (scratch .entry)) (now (transcript .entry)) (now (outputs .entry)) ⌝ }
 {
-    match asking::ask_joint(
-        parties,
+    match asking::ask_setting(parties, c) {
+        Verdict::Refused { number, index } => {
+            return JointAnswer::Refusal { number, index };
+        }
+        Verdict::Accepted => {}
+    }
+    let count = c.len() / circuit::GATE_SIZE;
+    let totals = circuit::totals_before(c, count);
+    let f = framing::frame_of(parties, c, count, totals);
+    match asking::ask_lent(
+        f,
+        totals,
         c,
         preps,
         inputs,
-        scratch,
+        scratch.len(),
         coefficients,
         transcript.len(),
         outputs.len(),
@@ -80,9 +91,10 @@ pub fn joint_run(
         }
         Verdict::Accepted => {}
     }
-    let f = framing::frame_of(parties, c);
+    let starts = framing::starts_of(parties, c, count);
     rounds::run(
         f,
+        starts,
         c,
         preps,
         inputs,

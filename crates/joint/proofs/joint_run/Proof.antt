@@ -4,34 +4,57 @@ use mathlib.Core.Path.{sym, ap, _∙_}
 use borrow.Author.Needs.{needs}
 use Rattle.circuit.specs.Code.{verdictOf}
 use Rattle.joint.specs.Code.{jointAnswerOf}
-use Rattle.joint.proofs.Accepting.{accepted-setting}
-use Rattle.joint.proofs.Entering.{entry-refused, entry-runnable, entry-left}
+use Rattle.joint.proofs.Measures.{count-is, count-fits, count-few}
+use Rattle.joint.proofs.Accepting.{settled}
+use Rattle.joint.proofs.Entering.{setting-refused, frame-asked, lent-refused, entry-runs, entry-left}
 use Rattle.joint.proofs.joint_run.Statement.{statement}
 use Rattle.joint.proofs.joint_run.Tie as tie
 
-ask-joint-requires : tie.Need-ask-joint-requires
-ask-joint-requires c κs = search needs
+ask-setting-requires : tie.Need-ask-setting-requires
+ask-setting-requires c κs = search needs
 
 enum-known-number : tie.Need-enum-known-number
 enum-known-number c = search needs
 
-same-length : tie.Need-same-length
-same-length c = search needs
-
 returns : tie.Need-returns
 unfolding verdictOf jointAnswerOf
-returns c = entry-refused _ _ _ _ (sym (c .before .before .before .ask-joint .ensures) ∙ ap verdictOf (c .before .number .given .1))
+returns c = setting-refused _ _ _ _ (sym (c .before .before .before .ask-setting .ensures) ∙ ap verdictOf (c .before .number .given .1))
 
 enum-told : tie.Need-enum-told
 enum-told c = search needs
 
+totals-before-requires : tie.Need-totals-before-requires
+unfolding verdictOf
+totals-before-requires c κs = let s = settled _ _ (sym (c .before .before .ask-setting .ensures) ∙ ap verdictOf (c .enum-told .given .1)) in (count-fits (s .valid), count-few (s .valid))
+
 frame-of-requires : tie.Need-frame-of-requires
 unfolding verdictOf
-frame-of-requires c κs = (accepted-setting _ _ _ _ (sym (c .before .before .ask-joint .ensures) ∙ ap verdictOf (c .enum-told .given .1)) .valid, accepted-setting _ _ _ _ (sym (c .before .before .ask-joint .ensures) ∙ ap verdictOf (c .enum-told .given .1)) .few)
+frame-of-requires c κs = let s = settled _ _ (sym (c .before .before .before .ask-setting .ensures) ∙ ap verdictOf (c .before .enum-told .given .1)) in (s .valid, count-is (s .valid), c .totals-before .ensures)
+
+ask-lent-requires : tie.Need-ask-lent-requires
+unfolding verdictOf
+ask-lent-requires c κs = let s = settled _ _ (sym (c .before .before .before .before .ask-setting .ensures) ∙ ap verdictOf (c .before .before .enum-told .given .1)) in frame-asked s (c .frame-of .ensures) (count-is (s .valid)) (c .before .totals-before .ensures)
+
+enum-known-number-2 : tie.Need-enum-known-number-2
+enum-known-number-2 c = search needs
+
+returns-2 : tie.Need-returns-2
+unfolding verdictOf jointAnswerOf
+returns-2 c = lent-refused _ _ _ _ _ _ _ _ (sym (c .before .before .before .before .before .before .before .before .ask-setting .ensures) ∙ ap verdictOf (c .before .before .before .before .before .before .enum-told .given .1)) _ (c .before .before .before .before .frame-of .ensures) (sym (c .before .before .before .ask-lent .ensures) ∙ ap verdictOf (c .before .number2 .given .1))
+
+enum-told-2 : tie.Need-enum-told-2
+enum-told-2 c = search needs
+
+starts-of-requires : tie.Need-starts-of-requires
+unfolding verdictOf
+starts-of-requires c κs = let s = settled _ _ (sym (c .before .before .before .before .before .before .before .ask-setting .ensures) ∙ ap verdictOf (c .before .before .before .before .before .enum-told .given .1)) in (s .valid, count-is (s .valid), s .few)
 
 run-requires : tie.Need-run-requires
 unfolding verdictOf
-run-requires c κs = entry-runnable _ _ _ _ _ _ _ _ _ (c .before .before .before .frame-of .ensures) (sym (c .before .before .before .before .before .before .ask-joint .ensures) ∙ ap verdictOf (c .before .before .before .before .enum-told .given .1))
+run-requires c κs = entry-runs _ _ _ _ _ _ _ _ (sym (c .before .before .before .before .before .before .before .before .before .before .before .ask-setting .ensures) ∙ ap verdictOf (c .before .before .before .before .before .before .before .before .before .enum-told .given .1)) _ (c .before .before .before .before .before .before .before .frame-of .ensures) (sym (c .before .before .before .before .before .before .ask-lent .ensures) ∙ ap verdictOf (c .before .before .before .before .enum-told2 .given .1)) (c .before .before .before .starts-of .ensures)
+
+same-length : tie.Need-same-length
+same-length c = search needs
 
 same-length-2 : tie.Need-same-length-2
 same-length-2 c = search needs
@@ -39,25 +62,27 @@ same-length-2 c = search needs
 same-length-3 : tie.Need-same-length-3
 same-length-3 c = search needs
 
-same-length-4 : tie.Need-same-length-4
-same-length-4 c = search needs
-
-returns-2 : tie.Need-returns-2
+returns-3 : tie.Need-returns-3
 unfolding verdictOf
-returns-2 c = entry-left _ _ _ _ _ _ _ _ _ (c .before .before .before .before .before .before .before .before .before .before .frame-of .ensures) (sym (c .before .before .before .before .before .before .before .before .before .before .before .before .before .ask-joint .ensures) ∙ ap verdictOf (c .before .before .before .before .before .before .before .before .before .before .before .enum-told .given .1)) (c .before .before .before .before .before .before .run .ensures)
+returns-3 c = entry-left _ _ _ _ _ _ _ _ (sym (c .before .before .before .before .before .before .before .before .before .before .before .before .before .before .before .before .before .before .ask-setting .ensures) ∙ ap verdictOf (c .before .before .before .before .before .before .before .before .before .before .before .before .before .before .before .before .enum-told .given .1)) _ (c .before .before .before .before .before .before .before .before .before .before .before .before .before .before .frame-of .ensures) (sym (c .before .before .before .before .before .before .before .before .before .before .before .before .before .ask-lent .ensures) ∙ ap verdictOf (c .before .before .before .before .before .before .before .before .before .before .before .enum-told2 .given .1)) (c .before .before .before .before .before .before .run .ensures)
 
 pub joint-run-spec : {M : Type 1} → statement M
 joint-run-spec =
     tie.close
     (tie.spec
-    ask-joint-requires
+    ask-setting-requires
     enum-known-number
-    same-length
     returns
     enum-told
+    totals-before-requires
     frame-of-requires
+    ask-lent-requires
+    enum-known-number-2
+    returns-2
+    enum-told-2
+    starts-of-requires
     run-requires
+    same-length
     same-length-2
     same-length-3
-    same-length-4
-    returns-2)
+    returns-3)

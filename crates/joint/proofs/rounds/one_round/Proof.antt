@@ -1,13 +1,8 @@
 -- `joint::rounds::one_round` meets its contract. Sending fills the part of the transcript that is then received, and what the parts leave makes up the round.
 -- Assumes nothing.
-use mathlib.Core.Path.{ap, _∙_}
 use native.Mathlib.Omega.{arith}
 use borrow.Author.Needs.{needs}
-use Rattle.circuit.specs.Round.{words}
-use Rattle.circuit.specs.Code.{roundOf}
-use Rattle.circuit.specs.Gate.{Gate}
-use Rattle.joint.proofs.Rounding.{round-gate, round-end, round-room, round-long, round-releases, round-receives, round-tallies, round-counts, round-turned}
-use Rattle.joint.proofs.Turns.{coefficients-there}
+use Rattle.joint.proofs.Rounding.{round-gate, round-end, round-sends, round-long, round-releases, round-receives, round-tallies, round-counts, round-turned, coefficients-there}
 use Rattle.joint.proofs.rounds.one_round.Statement.{statement}
 use Rattle.joint.proofs.rounds.one_round.Tie as tie
 
@@ -18,13 +13,13 @@ words-in-requires : tie.Need-words-in-requires
 words-in-requires c κs = search needs
 
 mul-end : tie.Need-mul-end
-mul-end c = omega (arith, c .before .before .before .before .before .before .before .before .before .before .before .before .before .good, round-end (c .before .before .before .before .before .before .before .before .before .before .before .before .before .pre) (c .before .words-in .ensures ∙ ap (λ (g : Gate). words g (roundOf (c .before .before .before .before .before .before .before .before .before .before .before .before .before .args .r))) (c .before .before .gate-at .ensures)))
+mul-end c = omega (arith, c .before .before .before .before .before .before .before .before .before .before .before .before .before .good, round-end (c .before .before .before .before .before .before .before .before .before .before .before .before .before .pre) (c .before .before .gate-at .ensures) (c .before .words-in .ensures))
 
 add-end : tie.Need-add-end
-add-end c = omega (arith, c .before .before .before .before .before .before .before .before .before .before .before .before .before .good, round-end (c .before .before .before .before .before .before .before .before .before .before .before .before .before .pre) (c .before .words-in .ensures ∙ ap (λ (g : Gate). words g (roundOf (c .before .before .before .before .before .before .before .before .before .before .before .before .before .args .r))) (c .before .before .gate-at .ensures)))
+add-end c = omega (arith, c .before .before .before .before .before .before .before .before .before .before .before .before .before .good, round-end (c .before .before .before .before .before .before .before .before .before .before .before .before .before .pre) (c .before .before .gate-at .ensures) (c .before .words-in .ensures))
 
 mul-send-all : tie.Need-mul-send-all
-mul-send-all c = omega (arith, c .before .before .before .before .before .before .before .before .before .before .before .before .before .before .good, round-end (c .before .before .before .before .before .before .before .before .before .before .before .before .before .before .pre) (c .before .before .words-in .ensures ∙ ap (λ (g : Gate). words g (roundOf (c .before .before .before .before .before .before .before .before .before .before .before .before .before .before .args .r))) (c .before .before .before .gate-at .ensures)))
+mul-send-all c = omega (arith, c .before .before .before .before .before .before .before .before .before .before .before .before .before .before .good, round-end (c .before .before .before .before .before .before .before .before .before .before .before .before .before .before .pre) (c .before .before .before .gate-at .ensures) (c .before .before .words-in .ensures))
 
 sub-send-all : tie.Need-sub-send-all
 sub-send-all c = search needs
@@ -33,13 +28,13 @@ part-send-all-start : tie.Need-part-send-all-start
 part-send-all-start c = search needs
 
 part-send-all-end : tie.Need-part-send-all-end
-part-send-all-end c = round-end (c .before .before .before .before .before .before .before .before .before .before .before .before .before .before .pre) (c .before .before .words-in .ensures ∙ ap (λ (g : Gate). words g (roundOf (c .before .before .before .before .before .before .before .before .before .before .before .before .before .before .args .r))) (c .before .before .before .gate-at .ensures))
+part-send-all-end c = round-end (c .before .before .before .before .before .before .before .before .before .before .before .before .before .before .pre) (c .before .before .before .gate-at .ensures) (c .before .before .words-in .ensures)
 
 send-all-requires : tie.Need-send-all-requires
-send-all-requires c κs = (c .before .before .before .before .before .before .before .before .before .before .before .before .before .before .before .pre .going, round-room (c .before .before .before .before .before .before .before .before .before .before .before .before .before .before .before .pre) (c .before .before .before .words-in .ensures ∙ ap (λ (g : Gate). words g (roundOf (c .before .before .before .before .before .before .before .before .before .before .before .before .before .before .before .args .r))) (c .before .before .before .before .gate-at .ensures)))
+send-all-requires c κs = round-sends (c .before .before .before .before .before .before .before .before .before .before .before .before .before .before .before .pre) (c .before .before .before .before .gate-at .ensures) (c .before .before .before .words-in .ensures)
 
 mul-release : tie.Need-mul-release
-mul-release c = omega (arith, c .before .before .before .before .before .before .before .before .before .before .before .before .before .before .before .before .before .before .before .good, round-end (c .before .before .before .before .before .before .before .before .before .before .before .before .before .before .before .before .before .before .before .pre) (c .before .before .before .before .before .before .before .words-in .ensures ∙ ap (λ (g : Gate). words g (roundOf (c .before .before .before .before .before .before .before .before .before .before .before .before .before .before .before .before .before .before .before .args .r))) (c .before .before .before .before .before .before .before .before .gate-at .ensures)))
+mul-release c = omega (arith, c .before .before .before .before .before .before .before .before .before .before .before .before .before .before .before .before .before .before .before .good, round-end (c .before .before .before .before .before .before .before .before .before .before .before .before .before .before .before .before .before .before .before .pre) (c .before .before .before .before .before .before .before .before .gate-at .ensures) (c .before .before .before .before .before .before .before .words-in .ensures))
 
 sub-release : tie.Need-sub-release
 sub-release c = search needs
@@ -48,13 +43,13 @@ part-release-start : tie.Need-part-release-start
 part-release-start c = search needs
 
 part-release-end : tie.Need-part-release-end
-part-release-end c = omega (arith, round-end (c .before .before .before .before .before .before .before .before .before .before .before .before .before .before .before .before .before .before .before .before .pre) (c .before .before .before .before .before .before .before .before .words-in .ensures ∙ ap (λ (g : Gate). words g (roundOf (c .before .before .before .before .before .before .before .before .before .before .before .before .before .before .before .before .before .before .before .before .args .r))) (c .before .before .before .before .before .before .before .before .before .gate-at .ensures)), round-long (c .before .before .before .before .before .before .before .before .before .before .before .before .before .before .before .before .before .before .before .before .pre) (c .before .before .before .before .before .before .before .before .words-in .ensures ∙ ap (λ (g : Gate). words g (roundOf (c .before .before .before .before .before .before .before .before .before .before .before .before .before .before .before .before .before .before .before .before .args .r))) (c .before .before .before .before .before .before .before .before .before .gate-at .ensures)) (c .before .before .before .before .send-all .ensures .1))
+part-release-end c = omega (arith, round-end (c .before .before .before .before .before .before .before .before .before .before .before .before .before .before .before .before .before .before .before .before .pre) (c .before .before .before .before .before .before .before .before .before .gate-at .ensures) (c .before .before .before .before .before .before .before .before .words-in .ensures), round-long (c .before .before .before .before .before .before .before .before .before .before .before .before .before .before .before .before .before .before .before .before .pre) (c .before .before .before .before .before .before .before .before .before .gate-at .ensures) (c .before .before .before .before .before .before .before .before .words-in .ensures) (c .before .before .before .before .send-all .ensures .1))
 
 release-requires : tie.Need-release-requires
-release-requires c κs = round-releases (c .before .before .before .before .before .before .before .before .before .before .before .before .before .before .before .before .before .before .before .before .before .before .pre) (c .before .before .before .before .before .before .before .before .before .before .words-in .ensures ∙ ap (λ (g : Gate). words g (roundOf (c .before .before .before .before .before .before .before .before .before .before .before .before .before .before .before .before .before .before .before .before .before .before .args .r))) (c .before .before .before .before .before .before .before .before .before .before .before .gate-at .ensures)) (c .before .before .before .before .before .before .send-all .ensures .1)
+release-requires c κs = round-releases (c .before .before .before .before .before .before .before .before .before .before .before .before .before .before .before .before .before .before .before .before .before .before .pre) (c .before .before .before .before .before .before .before .before .before .before .before .gate-at .ensures) (c .before .before .before .before .before .before .before .before .before .before .words-in .ensures) (c .before .before .before .before .before .before .send-all .ensures .1)
 
 mul-receive-all : tie.Need-mul-receive-all
-mul-receive-all c = omega (arith, c .before .before .before .before .before .before .before .before .before .before .before .before .before .before .before .before .before .before .before .before .before .before .before .before .before .before .good, round-end (c .before .before .before .before .before .before .before .before .before .before .before .before .before .before .before .before .before .before .before .before .before .before .before .before .before .before .pre) (c .before .before .before .before .before .before .before .before .before .before .before .before .before .before .words-in .ensures ∙ ap (λ (g : Gate). words g (roundOf (c .before .before .before .before .before .before .before .before .before .before .before .before .before .before .before .before .before .before .before .before .before .before .before .before .before .before .args .r))) (c .before .before .before .before .before .before .before .before .before .before .before .before .before .before .before .gate-at .ensures)))
+mul-receive-all c = omega (arith, c .before .before .before .before .before .before .before .before .before .before .before .before .before .before .before .before .before .before .before .before .before .before .before .before .before .before .good, round-end (c .before .before .before .before .before .before .before .before .before .before .before .before .before .before .before .before .before .before .before .before .before .before .before .before .before .before .pre) (c .before .before .before .before .before .before .before .before .before .before .before .before .before .before .before .gate-at .ensures) (c .before .before .before .before .before .before .before .before .before .before .before .before .before .before .words-in .ensures))
 
 sub-receive-all : tie.Need-sub-receive-all
 sub-receive-all c = search needs
@@ -63,16 +58,16 @@ part-receive-all-start : tie.Need-part-receive-all-start
 part-receive-all-start c = search needs
 
 part-receive-all-end : tie.Need-part-receive-all-end
-part-receive-all-end c = omega (arith, round-end (c .before .before .before .before .before .before .before .before .before .before .before .before .before .before .before .before .before .before .before .before .before .before .before .before .before .before .before .pre) (c .before .before .before .before .before .before .before .before .before .before .before .before .before .before .before .words-in .ensures ∙ ap (λ (g : Gate). words g (roundOf (c .before .before .before .before .before .before .before .before .before .before .before .before .before .before .before .before .before .before .before .before .before .before .before .before .before .before .before .args .r))) (c .before .before .before .before .before .before .before .before .before .before .before .before .before .before .before .before .gate-at .ensures)), round-long (c .before .before .before .before .before .before .before .before .before .before .before .before .before .before .before .before .before .before .before .before .before .before .before .before .before .before .before .pre) (c .before .before .before .before .before .before .before .before .before .before .before .before .before .before .before .words-in .ensures ∙ ap (λ (g : Gate). words g (roundOf (c .before .before .before .before .before .before .before .before .before .before .before .before .before .before .before .before .before .before .before .before .before .before .before .before .before .before .before .args .r))) (c .before .before .before .before .before .before .before .before .before .before .before .before .before .before .before .before .gate-at .ensures)) (c .before .before .before .before .before .before .before .before .before .before .before .send-all .ensures .1))
+part-receive-all-end c = omega (arith, round-end (c .before .before .before .before .before .before .before .before .before .before .before .before .before .before .before .before .before .before .before .before .before .before .before .before .before .before .before .pre) (c .before .before .before .before .before .before .before .before .before .before .before .before .before .before .before .before .gate-at .ensures) (c .before .before .before .before .before .before .before .before .before .before .before .before .before .before .before .words-in .ensures), round-long (c .before .before .before .before .before .before .before .before .before .before .before .before .before .before .before .before .before .before .before .before .before .before .before .before .before .before .before .pre) (c .before .before .before .before .before .before .before .before .before .before .before .before .before .before .before .before .gate-at .ensures) (c .before .before .before .before .before .before .before .before .before .before .before .before .before .before .before .words-in .ensures) (c .before .before .before .before .before .before .before .before .before .before .before .send-all .ensures .1))
 
 receive-all-requires : tie.Need-receive-all-requires
-receive-all-requires c κs = round-receives (c .before .before .before .before .before .before .before .before .before .before .before .before .before .before .before .before .before .before .before .before .before .before .before .before .before .before .before .before .pre) (c .before .before .before .before .before .before .before .before .before .before .before .before .before .before .before .before .words-in .ensures ∙ ap (λ (g : Gate). words g (roundOf (c .before .before .before .before .before .before .before .before .before .before .before .before .before .before .before .before .before .before .before .before .before .before .before .before .before .before .before .before .args .r))) (c .before .before .before .before .before .before .before .before .before .before .before .before .before .before .before .before .before .gate-at .ensures)) (c .before .before .before .before .before .before .before .before .before .before .before .before .send-all .ensures .1)
+receive-all-requires c κs = round-receives (c .before .before .before .before .before .before .before .before .before .before .before .before .before .before .before .before .before .before .before .before .before .before .before .before .before .before .before .before .pre) (c .before .before .before .before .before .before .before .before .before .before .before .before .before .before .before .before .before .gate-at .ensures) (c .before .before .before .before .before .before .before .before .before .before .before .before .before .before .before .before .words-in .ensures) (c .before .before .before .before .before .before .before .before .before .before .before .before .send-all .ensures .1)
 
 tally-between-requires : tie.Need-tally-between-requires
-tally-between-requires c κs = round-tallies (c .before .before .before .before .before .before .before .before .before .before .before .before .before .before .before .before .before .before .before .before .before .before .before .before .before .before .before .before .before .before .before .pre) (c .before .before .before .before .before .before .before .before .before .before .before .before .before .before .before .before .before .before .before .words-in .ensures ∙ ap (λ (g : Gate). words g (roundOf (c .before .before .before .before .before .before .before .before .before .before .before .before .before .before .before .before .before .before .before .before .before .before .before .before .before .before .before .before .before .before .before .args .r))) (c .before .before .before .before .before .before .before .before .before .before .before .before .before .before .before .before .before .before .before .before .gate-at .ensures)) (c .before .before .before .before .before .before .before .before .before .before .before .before .before .before .before .send-all .ensures .1) (c .before .before .receive-all .result) (c .before .before .receive-all .ensures .0)
+tally-between-requires c κs = round-tallies (c .before .before .before .before .before .before .before .before .before .before .before .before .before .before .before .before .before .before .before .before .before .before .before .before .before .before .before .before .before .before .before .pre) (c .before .before .before .before .before .before .before .before .before .before .before .before .before .before .before .before .before .before .before .before .gate-at .ensures) (c .before .before .before .before .before .before .before .before .before .before .before .before .before .before .before .before .before .before .before .words-in .ensures) (c .before .before .before .before .before .before .before .before .before .before .before .before .before .before .before .send-all .ensures .1) (c .before .before .receive-all .result) (c .before .before .receive-all .ensures .0)
 
 count-inputs-requires : tie.Need-count-inputs-requires
-count-inputs-requires c κs = round-counts (c .before .before .before .before .before .before .before .before .before .before .before .before .before .before .before .before .before .before .before .before .before .before .before .before .before .before .before .before .before .before .before .before .pre) (c .before .before .before .before .before .before .before .before .before .before .before .before .before .before .before .before .before .before .before .before .words-in .ensures ∙ ap (λ (g : Gate). words g (roundOf (c .before .before .before .before .before .before .before .before .before .before .before .before .before .before .before .before .before .before .before .before .before .before .before .before .before .before .before .before .before .before .before .before .args .r))) (c .before .before .before .before .before .before .before .before .before .before .before .before .before .before .before .before .before .before .before .before .before .gate-at .ensures)) (c .before .before .before .before .before .before .before .before .before .before .before .before .before .before .before .before .send-all .ensures .1) (c .before .before .before .receive-all .result) (c .before .before .before .receive-all .ensures .0)
+count-inputs-requires c κs = round-counts (c .before .before .before .before .before .before .before .before .before .before .before .before .before .before .before .before .before .before .before .before .before .before .before .before .before .before .before .before .before .before .before .before .pre) (c .before .before .before .before .before .before .before .before .before .before .before .before .before .before .before .before .before .before .before .before .before .gate-at .ensures) (c .before .before .before .before .before .before .before .before .before .before .before .before .before .before .before .before .before .before .before .before .words-in .ensures) (c .before .before .before .before .before .before .before .before .before .before .before .before .before .before .before .before .send-all .ensures .1) (c .before .before .before .receive-all .result) (c .before .before .before .receive-all .ensures .0)
 
 coefficients-in-requires : tie.Need-coefficients-in-requires
 coefficients-in-requires c κs = search needs
@@ -80,20 +75,20 @@ coefficients-in-requires c κs = search needs
 add-used : tie.Need-add-used
 add-used c = omega (arith, c .before .before .before .before .before .before .before .before .before .before .before .before .before .before .before .before .before .before .before .before .before .before .before .before .before .before .before .before .before .before .before .before .before .before .before .good, coefficients-there (c .before .before .before .before .before .before .before .before .before .before .before .before .before .before .before .before .before .before .before .before .before .before .before .before .before .before .before .before .before .before .before .before .before .before .before .pre .going) (c .before .coefficients-in .ensures))
 
-add-t24 : tie.Need-add-t24
-add-t24 c = omega (arith, c .before .before .before .before .before .before .before .before .before .before .before .before .before .before .before .before .before .before .before .before .before .before .before .before .before .before .before .before .before .before .before .before .before .before .before .before .pre .rounds-few, c .before .before .before .before .before .before .before .before .before .before .before .before .before .before .before .before .before .before .before .before .before .before .before .before .before .before .before .before .before .before .before .before .before .before .before .before .pre .going .lent .valid .few)
+add-t28 : tie.Need-add-t28
+add-t28 c = omega (arith, c .before .before .before .before .before .before .before .before .before .before .before .before .before .before .before .before .before .before .before .before .before .before .before .before .before .before .before .before .before .before .before .before .before .before .before .before .pre .rounds-few, c .before .before .before .before .before .before .before .before .before .before .before .before .before .before .before .before .before .before .before .before .before .before .before .before .before .before .before .before .before .before .before .before .before .before .before .before .pre .going .lent .valid .few)
 
 same-length : tie.Need-same-length
 same-length c = search needs
 
 same-length-2 : tie.Need-same-length-2
-same-length-2 c = round-long (c .before .before .before .before .before .before .before .before .before .before .before .before .before .before .before .before .before .before .before .before .before .before .before .before .before .before .before .before .before .before .before .before .before .before .before .before .pre) (c .before .before .before .before .before .before .before .before .before .before .before .before .before .before .before .before .before .before .before .before .before .before .before .before .words-in .ensures ∙ ap (λ (g : Gate). words g (roundOf (c .before .before .before .before .before .before .before .before .before .before .before .before .before .before .before .before .before .before .before .before .before .before .before .before .before .before .before .before .before .before .before .before .before .before .before .before .args .r))) (c .before .before .before .before .before .before .before .before .before .before .before .before .before .before .before .before .before .before .before .before .before .before .before .before .before .gate-at .ensures)) (c .before .before .before .before .before .before .before .before .before .before .before .before .before .before .before .before .before .before .before .before .send-all .ensures .1)
+same-length-2 c = round-long (c .before .before .before .before .before .before .before .before .before .before .before .before .before .before .before .before .before .before .before .before .before .before .before .before .before .before .before .before .before .before .before .before .before .before .before .before .pre) (c .before .before .before .before .before .before .before .before .before .before .before .before .before .before .before .before .before .before .before .before .before .before .before .before .before .gate-at .ensures) (c .before .before .before .before .before .before .before .before .before .before .before .before .before .before .before .before .before .before .before .before .before .before .before .before .words-in .ensures) (c .before .before .before .before .before .before .before .before .before .before .before .before .before .before .before .before .before .before .before .before .send-all .ensures .1)
 
 same-length-3 : tie.Need-same-length-3
 same-length-3 c = c .before .before .before .before .before .before .before .before .before .before .before .before .before .release .kept .1 .1 .1 .1 .1 .0
 
 returns : tie.Need-returns
-returns c = round-turned (c .before .before .before .before .before .before .before .before .before .before .before .before .before .before .before .before .before .before .before .before .before .before .before .before .before .before .before .before .before .before .before .before .before .before .before .before .pre) (c .before .before .before .before .before .before .before .before .before .before .before .before .before .before .before .before .before .before .before .before .before .before .before .before .words-in .ensures ∙ ap (λ (g : Gate). words g (roundOf (c .before .before .before .before .before .before .before .before .before .before .before .before .before .before .before .before .before .before .before .before .before .before .before .before .before .before .before .before .before .before .before .before .before .before .before .before .args .r))) (c .before .before .before .before .before .before .before .before .before .before .before .before .before .before .before .before .before .before .before .before .before .before .before .before .before .gate-at .ensures)) (c .before .before .before .before .before .before .before .before .before .before .before .before .before .before .before .before .before .before .before .before .send-all .ensures .1) (c .before .before .before .before .before .before .before .receive-all .result) (c .before .before .before .before .before .before .before .receive-all .ensures .0) _ (c .before .before .before .before .before .before .before .before .before .before .before .before .before .before .before .before .before .before .before .before .send-all .ensures .0) (c .before .before .before .before .before .before .before .receive-all .ensures .1) _ (c .before .before .before .before .tally-between .ensures) _ (c .before .before .before .count-inputs .ensures) (c .before .before .coefficients-in .ensures) (c .before .before .before .before .before .before .before .before .before .before .before .before .before .release .ensures)
+returns c = round-turned (c .before .before .before .before .before .before .before .before .before .before .before .before .before .before .before .before .before .before .before .before .before .before .before .before .before .before .before .before .before .before .before .before .before .before .before .before .pre) (c .before .before .before .before .before .before .before .before .before .before .before .before .before .before .before .before .before .before .before .before .before .before .before .before .before .gate-at .ensures) (c .before .before .before .before .before .before .before .before .before .before .before .before .before .before .before .before .before .before .before .before .before .before .before .before .words-in .ensures) (c .before .before .before .before .before .before .before .before .before .before .before .before .before .before .before .before .before .before .before .before .send-all .ensures .1) (c .before .before .before .before .before .before .before .receive-all .result) (c .before .before .before .before .before .before .before .receive-all .ensures .0) _ (c .before .before .before .before .before .before .before .before .before .before .before .before .before .before .before .before .before .before .before .before .send-all .ensures .0) (c .before .before .before .before .before .before .before .receive-all .ensures .1) _ (c .before .before .before .before .tally-between .ensures) _ (c .before .before .before .count-inputs .ensures) (c .before .before .coefficients-in .ensures) (c .before .before .before .before .before .before .before .before .before .before .before .before .before .release .ensures)
 
 pub one-round-spec : {M : Type 1} → statement M
 one-round-spec =
@@ -122,7 +117,7 @@ one-round-spec =
     count-inputs-requires
     coefficients-in-requires
     add-used
-    add-t24
+    add-t28
     same-length
     same-length-2
     same-length-3

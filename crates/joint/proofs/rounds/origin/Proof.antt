@@ -5,7 +5,7 @@ use borrow.Author.Needs.{needs}
 use Rattle.circuit.specs.Code.{roundOf}
 use Rattle.party.specs.Code.{pointOf, stageOf}
 use Rattle.party.specs.Ask.{mostParties}
-use Rattle.joint.proofs.Arrays.{zeros, counted-none}
+use Rattle.joint.proofs.Arrays.{zeros}
 use Rattle.joint.proofs.rounds.origin.Statement.{statement}
 use Rattle.joint.proofs.rounds.origin.Tie as tie
 
@@ -17,7 +17,7 @@ unfolding pointOf stageOf roundOf
 returns c = record {
   point = refl;
   tallied = λ cs. c .no-tally .ensures cs 0;
-  counted = counted-none;
+  inputs = refl;
   held = zeros mostParties;
   used = refl;
   written = refl;

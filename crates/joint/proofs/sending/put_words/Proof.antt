@@ -1,0 +1,65 @@
+-- `joint::sending::put_words` meets its contract. The loop's invariant: the words of the parties before i are put, and the others are as they were. The measure is the number of parties left.
+-- Assumes nothing.
+use Prim.Native.Nat.{_-_}
+use mathlib.Core.Path.{refl}
+use mathlib.Core.List.{[], _∷_}
+use native.Mathlib.Omega.{arith}
+use lib.ListN.{getD}
+use Rattle.joint.proofs.Filling.{Filled, filled-start}
+use Rattle.joint.proofs.Gathering.{put-length, put-more, put-all}
+use Rattle.joint.proofs.sending.put_words.Statement.{statement}
+use Rattle.joint.proofs.sending.put_words.Tie as tie
+
+abbrev Inv-loop : tie.InvT-loop
+Inv-loop parties out₀ words i₀ out i =
+    Filled parties 1 (λ m. getD words m 0 ∷ []) out₀ out i i
+
+abbrev μ-loop : tie.MeasureT-loop
+μ-loop parties out₀ words i₀ out i = parties - i
+
+loop-holds : tie.Need-loop-holds Inv-loop μ-loop
+loop-holds c = filled-start _ _ _ _
+
+mul-out : tie.Need-mul-out Inv-loop μ-loop
+mul-out c = omega (arith, c .loop-test .taken, c .before .before .pre .0)
+
+array-read-out : tie.Need-array-read-out Inv-loop μ-loop
+array-read-out c = omega (arith, c .loop-test .taken, c .before .before .pre .0)
+
+mul-out-2 : tie.Need-mul-out-2 Inv-loop μ-loop
+mul-out-2 c = omega (arith, c .loop-test .taken, c .before .before .pre .0)
+
+slice-write-out : tie.Need-slice-write-out Inv-loop μ-loop
+slice-write-out c = omega (arith, c .loop-test .taken, c .before .before .pre .1, put-length _ _ (c .before .before .pre .1) (λ m h. refl) (c .before .loop .inv))
+
+add-i : tie.Need-add-i Inv-loop μ-loop
+add-i c = omega (arith, c .loop-test .taken, c .before .before .pre .0)
+
+loop-less : tie.Need-loop-less Inv-loop μ-loop
+loop-less c = omega (arith, c .loop-test .taken)
+
+loop-again : tie.Need-loop-again Inv-loop μ-loop
+loop-again c = put-more _ _ (c .before .before .pre .1) (λ m h. refl) (c .before .loop .inv) (c .loop-test .taken) refl
+
+same-length : tie.Need-same-length Inv-loop μ-loop
+same-length c = put-length _ _ (c .before .before .pre .1) (λ m h. refl) (c .before .loop .inv)
+
+returns : tie.Need-returns Inv-loop μ-loop
+returns c = put-all _ _ (c .before .before .pre .1) (λ m h. refl) (c .before .loop .inv) (c .loop-test .left)
+
+pub put-words-spec : {M : Type 1} → statement M
+put-words-spec =
+    tie.close
+    (tie.spec
+    Inv-loop
+    μ-loop
+    loop-holds
+    mul-out
+    array-read-out
+    mul-out-2
+    slice-write-out
+    add-i
+    loop-less
+    loop-again
+    same-length
+    returns)
