@@ -14,8 +14,8 @@ use mathlib.Core.Path.{_≡_, refl}
 use mathlib.Core.List.{List, [], _∷_}
 use Rattle.field.specs.Prime.{modular}
 use Rattle.circuit.specs.Round.{Input, Multiply, CommitOpened, RevealOpened, OpenOutput, CommitOutput, RevealOutput}
-use Rattle.party.specs.Position.{Send, Receive, Finished, Aborted}
-use Rattle.party.specs.Party.{Party}
+use Rattle.steps.specs.Position.{Send, Receive, Finished, Aborted}
+use Rattle.steps.specs.Party.{Party}
 use Rattle.party.specs.Entry.{Refusal, Next, Output, Abort, openAnswer, sendAnswer, sendOut, receiveAnswer, receiveScratch}
 use Rattle.joint.specs.Joint.{Joint}
 use Rattle.joint.specs.Entry.{Done, Stopped, jointAnswer, jointScratch, jointTranscript, jointOutputs}

@@ -11,7 +11,7 @@ use Rattle.field.specs.Prime.Laws.{mul-lt}
 use borrow.Author.Tests.{lt-ltb, le-ltb}
 use Rattle.circuit.specs.Verdict.{Accepted, Refused, elements}
 use Rattle.circuit.proofs.Verdicts.{ask-yes, ask-no, then-refused, then-passed}
-use Rattle.party.specs.Code.{Below}
+use Rattle.steps.specs.Code.{Below}
 use Rattle.capi.specs.Scale.{scaled, askScale}
 
 -- the numbers from i on scaled

@@ -9,7 +9,7 @@ use lib.Dec.{ltb, eqb}
 use borrow.Author.Tests.{le-ltb, ne-eqb}
 use Rattle.circuit.specs.Gate.{gates}
 use Rattle.circuit.specs.Round.{Round, Input, Multiply, CommitOpened, RevealOpened, OpenOutput, CommitOutput, RevealOutput, roundNumber}
-use Rattle.party.specs.Position.{Stage, Send, Receive, Finished, Aborted, occurs, stageOccurs, mayHold}
+use Rattle.steps.specs.Position.{Stage, Send, Receive, Finished, Aborted, occurs, stageOccurs, mayHold}
 use Rattle.capi.specs.Stages.{stageNumber, roundAt, position, positionAt, finishedStage, abortedStage}
 
 -- a stage is found again by its number

@@ -6,7 +6,7 @@ use mathlib.Core.List.{List, [], _∷_}
 use native.Mathlib.Omega.{arith}
 use lib.ListN.{length, set}
 use borrow.Author.Tests.{lt-ltb, le-ltb}
-use Rattle.party.specs.Entry.{overwrite}
+use Rattle.steps.specs.Send.{overwrite}
 use Rattle.capi.specs.Numbers.{places, answered, called}
 
 pub overwrite-five : (a b c d e : ℕ) (xs : List ℕ)

@@ -5,7 +5,7 @@ use mathlib.Core.Bool.{cond}
 use mathlib.Core.List.{List, [], _∷_}
 use lib.ListN.{length}
 use lib.Dec.{ltb}
-use Rattle.party.specs.Position.{Position}
+use Rattle.steps.specs.Position.{Position}
 use Rattle.party.specs.Entry.{Answer, Refusal, Next, Output, Abort}
 use Rattle.joint.specs.Entry as J
 use Rattle.capi.specs.Stages.{stageNumber}

@@ -4,7 +4,7 @@ use Prim.Native.Nat.{ℕ, _+_, _-_}
 use mathlib.Core.Bool.{cond}
 use lib.Dec.{ltb, eqb}
 use Rattle.circuit.specs.Round.{Round, Input, Multiply, CommitOpened, RevealOpened, OpenOutput, CommitOutput, RevealOutput, roundNumber}
-use Rattle.party.specs.Position.{Stage, Send, Receive, Finished, Aborted, Position}
+use Rattle.steps.specs.Position.{Stage, Send, Receive, Finished, Aborted, Position}
 
 -- 0 to 6 send the seven rounds, and 7 to 13 receive them
 abbrev pub receiving : ℕ

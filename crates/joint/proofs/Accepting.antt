@@ -17,7 +17,7 @@ use Rattle.circuit.specs.Valid.{Valid}
 use Rattle.circuit.proofs.Tests.{both-left, both-right}
 use Rattle.circuit.proofs.Verdicts.{ask-true, then-left, then-right, elements-below}
 use Rattle.circuit.proofs.Valid.{valid}
-use Rattle.party.specs.Scratch.{layout, scratchSize}
+use Rattle.steps.specs.Scratch.{layout, scratchSize}
 use Rattle.party.specs.Ask.{askParties, fewestParties, mostParties}
 use Rattle.party.proofs.Loops.{then-assoc}
 use Rattle.joint.specs.Joint.{Joint}

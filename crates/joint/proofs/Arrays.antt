@@ -19,7 +19,7 @@ use Rattle.circuit.specs.Accept.{mostGates}
 use Rattle.circuit.specs.Valid.{Valid}
 use Rattle.circuit.proofs.Counts.{total-mono, input-more, input-le, in-count-le}
 use Rattle.party.specs.Ask.{mostParties}
-use Rattle.party.proofs.HeardWords.{owner-low}
+use Rattle.steps.proofs.HeardWords.{owner-low}
 use Rattle.joint.specs.Joint.{inputsAt}
 use Rattle.joint.specs.Code.{Small, CountedOn, Placed}
 use Rattle.joint.proofs.Inputs.{inputs-all, starts-suc, starts-mono}

@@ -8,9 +8,9 @@ use native.Mathlib.Omega.{arith}
 use lib.ListN.{length, getD, take, drop, length-drop}
 use lib.Seq.{length-take-le, take-add, drop-at, drop-drop, getD-take, getD-drop}
 use Rattle.field.specs.Prime.{p}
-use Rattle.party.specs.Scratch.{scratchSize}
-use Rattle.party.specs.Code.{layoutOf, Below}
-use Rattle.party.proofs.Readiness.{part-below}
+use Rattle.steps.specs.Scratch.{scratchSize}
+use Rattle.steps.specs.Code.{layoutOf, Below}
+use Rattle.steps.proofs.Readiness.{part-below}
 use Rattle.joint.specs.Joint.{band}
 use Rattle.joint.specs.declared.Frame.{Frame}
 use Rattle.joint.specs.Code.{prepFrom, keyIn, Prepared, Banded}

@@ -4,7 +4,7 @@ use mathlib.Core.Path.{_≡_}
 use Prim.Native.Nat.{ℕ}
 use native.Mathlib.Omega.{arith}
 use Rattle.circuit.specs.Round.{Round}
-use Rattle.party.specs.Position.{Stage, Send, Receive, Finished, Aborted}
+use Rattle.steps.specs.Position.{Stage, Send, Receive, Finished, Aborted}
 
 pub receive-none : {x : Stage} (r : Round) → x ≡ Receive r → (r′ : Round) → x ≡ Send r′ → ⊥
 receive-none r e r′ h = let z : _≡_ {A = ℕ} 0 1 = cc in omega arith

@@ -10,12 +10,12 @@ use Rattle.field.specs.Prime.{prime}
 use Rattle.circuit.specs.Gate.{gates}
 use Rattle.circuit.specs.Count.{unchecked}
 use Rattle.circuit.specs.Round.{Round, rounds, among, coefficientsIn}
-use Rattle.party.specs.Position.{Point, Send, stageOccurs}
-use Rattle.party.specs.Receive.{next, received}
-use Rattle.party.specs.Code.{pointOf, Sited, Ready}
-use Rattle.party.proofs.Following.{Possible, next-possible}
-use Rattle.party.proofs.Points.{FitsStage}
-use Rattle.party.proofs.Keeping.{received-stands, ready-next}
+use Rattle.steps.specs.Position.{Point, Send, stageOccurs}
+use Rattle.steps.specs.Receive.{next, received}
+use Rattle.steps.specs.Code.{pointOf, Sited, Ready}
+use Rattle.steps.proofs.Following.{Possible, next-possible}
+use Rattle.steps.proofs.Points.{FitsStage}
+use Rattle.steps.proofs.Keeping.{received-stands, ready-next}
 use Rattle.joint.specs.Joint.{Joint, band, party}
 use Rattle.joint.specs.Run.{said, step}
 use Rattle.joint.specs.declared.Frame.{Frame}

@@ -8,9 +8,9 @@ use Rattle.field.specs.Prime.{prime}
 use Rattle.circuit.specs.Gate.{gate, gates}
 use Rattle.circuit.specs.Kind.{isLinear}
 use Rattle.circuit.specs.Round.{Round}
-use Rattle.party.specs.Position.{Point, finished, aborted, reach, resume, follow}
-use Rattle.party.specs.Receive.{passes, next}
-use Rattle.party.proofs.Points.{Reached, reached, Entered, ended, begun, entered, Followed, stays, leaves, followed}
+use Rattle.steps.specs.Position.{Point, finished, aborted, reach, resume, follow}
+use Rattle.steps.specs.Receive.{passes, next}
+use Rattle.steps.proofs.Points.{Reached, reached, Entered, ended, begun, entered, Followed, stays, leaves, followed}
 
 module _ (c : List ℕ) where
   reach-later : (left j : ℕ) → j ≤ reach c left j

@@ -17,9 +17,9 @@ use Rattle.circuit.specs.Code.{Totalled}
 use Rattle.circuit.specs.declared.Totals.{Totals}
 use Rattle.circuit.proofs.Counts.{prep-size-le, capacity-le}
 use Rattle.circuit.proofs.Rounds.{words-run-le}
-use Rattle.party.specs.Scratch.{Layout, layout, scratchSize}
+use Rattle.steps.specs.Scratch.{Layout, layout, scratchSize}
+use Rattle.steps.specs.Code.{layoutOf}
 use Rattle.party.specs.Ask.{mostParties}
-use Rattle.party.specs.Code.{layoutOf}
 use Rattle.joint.specs.declared.Frame.{Frame}
 use Rattle.joint.specs.Code.{Framed}
 

@@ -10,7 +10,7 @@ use Rattle.circuit.specs.Gate.{gate, gates}
 use Rattle.circuit.specs.Kind.{shape}
 use Rattle.circuit.specs.Count.{prepAt, prepSize, inputCount}
 use Rattle.circuit.proofs.Counts.{prep-within, prep-positive}
-use Rattle.party.specs.Code.{Below}
+use Rattle.steps.specs.Code.{Below}
 use Rattle.joint.specs.Joint.{Joint, band, inputsAt, party}
 use Rattle.joint.specs.declared.Frame.{Frame}
 use Rattle.joint.specs.Code.{jointOf, Lent, prepFrom, keyIn, Prepared, Banded}

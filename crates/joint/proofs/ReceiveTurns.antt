@@ -12,13 +12,13 @@ use Rattle.circuit.specs.Gate.{gate, first}
 use Rattle.circuit.specs.Kind.{shape}
 use Rattle.circuit.specs.Round.{Round, Input, Multiply, OpenOutput, RevealOutput}
 use Rattle.circuit.proofs.Rounds.{gate-at-round}
-use Rattle.party.specs.Position.{reach}
-use Rattle.party.specs.Receive.{afterInput, afterMultiply, afterOpenOutput, settle, passes}
-use Rattle.party.specs.Code.{layoutOf, pointOf, Held, Multiplies, Settles, Receives, heardFirst, Named, Summed}
-use Rattle.party.proofs.Slots.{length-put, length-opened}
-use Rattle.party.proofs.Settling.{settle-keeps, settle-none}
-use Rattle.party.proofs.Readiness.{within-there, input-settles, multiply-asks, multiply-settles, output-settles}
-use Rattle.party.proofs.Received.{input-made, multiply-received, output-asks, output-received, revealed, revealed-not}
+use Rattle.steps.specs.Position.{reach}
+use Rattle.steps.specs.Receive.{afterInput, afterMultiply, afterOpenOutput, settle, passes}
+use Rattle.steps.specs.Code.{layoutOf, pointOf, Held, Multiplies, Settles, Receives, heardFirst, Named, Summed}
+use Rattle.steps.proofs.Slots.{length-put, length-opened}
+use Rattle.steps.proofs.Settling.{settle-keeps, settle-none}
+use Rattle.steps.proofs.Readiness.{within-there, input-settles, multiply-asks, multiply-settles, output-settles}
+use Rattle.steps.proofs.Received.{input-made, multiply-received, output-asks, output-received, revealed, revealed-not}
 use Rattle.joint.specs.Joint.{joined, band, party}
 use Rattle.joint.specs.declared.Frame.{Frame}
 use Rattle.joint.specs.declared.Course.{Course}

@@ -12,12 +12,12 @@ use Rattle.field.specs.Prime.{prime}
 use Rattle.circuit.specs.Count.{capacity}
 use Rattle.circuit.specs.Round.{Round, RevealOutput, Input, Multiply, CommitOpened, RevealOpened, OpenOutput, CommitOutput, isReveal, checkWords}
 use Rattle.circuit.proofs.Verdicts.{said-yes, said-no}
-use Rattle.party.specs.Scratch.{Layout, layout, Value, read}
-use Rattle.party.specs.Receive.{heardSum, passes}
+use Rattle.steps.specs.Scratch.{Layout, layout, Value, read}
+use Rattle.steps.specs.Receive.{heardSum, passes}
+use Rattle.steps.specs.declared.Layout as D
+use Rattle.steps.specs.Code.{layoutOf}
 use Rattle.party.specs.Entry.{releases}
-use Rattle.party.specs.declared.Layout as D
-use Rattle.party.specs.Code.{layoutOf}
-use Rattle.party.proofs.Following.{passes-zero, passes-not}
+use Rattle.steps.proofs.Following.{passes-zero, passes-not}
 use Rattle.joint.specs.Joint.{band}
 use Rattle.joint.specs.Code.{freed, writtenAt}
 

@@ -18,13 +18,13 @@ use Rattle.circuit.specs.Valid.{Valid}
 use Rattle.circuit.specs.Code.{Tallied}
 use Rattle.circuit.specs.declared.Tally.{Tally}
 use Rattle.circuit.proofs.Tests.{false-no}
+use Rattle.steps.specs.Position as P
+use Rattle.steps.specs.Party.{Party}
+use Rattle.steps.specs.Receive.{next, received}
+use Rattle.steps.specs.declared.Point.{Point}
+use Rattle.steps.specs.Code.{pointOf, Below, Ready, Receives}
 use Rattle.party.specs.Ask.{mostParties}
-use Rattle.party.specs.Position as P
-use Rattle.party.specs.Party.{Party}
-use Rattle.party.specs.Receive.{next, received}
 use Rattle.party.specs.Entry.{releases}
-use Rattle.party.specs.declared.Point.{Point}
-use Rattle.party.specs.Code.{pointOf, Below, Ready, Receives}
 use Rattle.joint.specs.Joint.{Joint, joined, band, party}
 use Rattle.joint.specs.Run.{takes, said, step, released}
 use Rattle.joint.specs.declared.Frame.{Frame}

@@ -7,10 +7,10 @@ use native.Mathlib.Omega.{arith}
 use lib.ListN.{length}
 use Rattle.circuit.specs.Gate.{gateSize}
 use Rattle.circuit.specs.Round.{Round}
-use Rattle.party.specs.Position.{reach}
-use Rattle.party.specs.Code.{pointOf, Stands, Receives, Hears}
-use Rattle.party.proofs.Received.{hears, reach-asks, stands}
-use Rattle.party.proofs.Keeping.{received-stands}
+use Rattle.steps.specs.Position.{reach}
+use Rattle.steps.specs.Code.{pointOf, Stands, Receives, Hears}
+use Rattle.steps.proofs.Received.{hears, reach-asks, stands}
+use Rattle.steps.proofs.Keeping.{received-stands}
 use Rattle.joint.specs.Joint.{Joint, band, party}
 use Rattle.joint.specs.declared.Frame.{Frame}
 use Rattle.joint.specs.declared.Course.{Course}

@@ -11,13 +11,14 @@ use Rattle.field.specs.Prime.{p, prime}
 use Rattle.circuit.specs.Gate.{gate, gates}
 use Rattle.circuit.specs.Count.{unchecked}
 use Rattle.circuit.specs.Round.{Round, Input, isCommit, words, openedIn, coefficientsIn, overRun, wordCount, coefficientCount}
-use Rattle.party.specs.Scratch.{layout, scratchSize}
-use Rattle.party.specs.Position.{Point, Stage, Send, Receive, Finished, Aborted, aborted, follow, start, whenSending}
-use Rattle.party.specs.Receive.{passes, next}
-use Rattle.party.specs.Entry.{releases, overwrite}
-use Rattle.party.specs.Code.{pointOf, stageOf, Ready}
-use Rattle.party.proofs.Following.{start-is}
-use Rattle.party.proofs.Points.{FitsStage, spent, sending, spent-follow, Goes, goes-start, spent-le}
+use Rattle.steps.specs.Scratch.{layout, scratchSize}
+use Rattle.steps.specs.Position.{Point, Stage, Send, Receive, Finished, Aborted, aborted, follow, start, whenSending}
+use Rattle.steps.specs.Receive.{passes, next}
+use Rattle.steps.specs.Code.{pointOf, stageOf, Ready}
+use Rattle.party.specs.Entry.{releases}
+use Rattle.steps.proofs.Following.{start-is}
+use Rattle.steps.proofs.Points.{FitsStage, spent, sending, spent-follow, Goes, goes-start, spent-le}
+use Rattle.steps.specs.Send.{overwrite}
 use Rattle.joint.specs.Joint.{Joint, joined, band, party}
 use Rattle.joint.specs.Run.{State, Run, said, step, released, takes, begun, still, ahead, run, mostRounds, whole}
 use Rattle.joint.specs.Entry as E

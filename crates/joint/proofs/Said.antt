@@ -15,14 +15,14 @@ use Rattle.circuit.specs.Gate.{gate, first}
 use Rattle.circuit.specs.Kind.{shape}
 use Rattle.circuit.specs.Round.{Round, Input, Multiply, CommitOpened, RevealOpened, OpenOutput, CommitOutput, RevealOutput, rounds, among, words}
 use Rattle.circuit.proofs.Rounds.{RoundGate, gate-at-round}
-use Rattle.party.specs.Scratch.{layout}
-use Rattle.party.specs.Party.{Party}
-use Rattle.party.specs.Send.{inputWord, maskedFirst, maskedSecond, sent}
-use Rattle.party.specs.declared.Layout.{Layout}
-use Rattle.party.specs.declared.Site.{Site}
-use Rattle.party.specs.Code.{Below, Ready}
-use Rattle.party.proofs.Writing.{minus-elements, wire-elements}
-use Rattle.party.proofs.Readiness.{output-held}
+use Rattle.steps.specs.Scratch.{layout}
+use Rattle.steps.specs.Party.{Party}
+use Rattle.steps.specs.Send.{inputWord, maskedFirst, maskedSecond, sent}
+use Rattle.steps.specs.declared.Layout.{Layout}
+use Rattle.steps.specs.declared.Site.{Site}
+use Rattle.steps.specs.Code.{Below, Ready}
+use Rattle.steps.proofs.Writing.{minus-elements, wire-elements}
+use Rattle.steps.proofs.Readiness.{output-held}
 use Rattle.joint.specs.Joint.{Joint, joined, party}
 use Rattle.joint.specs.Run.{State, said}
 use Rattle.joint.specs.Code.{saidBy}

@@ -17,15 +17,14 @@ use Rattle.circuit.specs.Count.{inputAt, inputCount, unchecked}
 use Rattle.circuit.specs.Round.{Round, Input, Multiply, OpenOutput, isCommit, words, openedIn, coefficientsIn}
 use Rattle.circuit.proofs.Counts.{input-within}
 use Rattle.circuit.proofs.Rounds.{gate-at-round}
-use Rattle.party.specs.Part as A
-use Rattle.party.specs.Scratch.{wire}
-use Rattle.party.specs.Party.{key, recordIn, recordOf, inputOf}
+use Rattle.steps.specs.Part as A
+use Rattle.steps.specs.Scratch.{wire}
+use Rattle.steps.specs.Party.{key, recordIn, recordOf, inputOf}
+use Rattle.steps.specs.Send.{inputWord, maskedFirst, maskedSecond, checkShare, sent, holds, overwrite}
+use Rattle.steps.specs.declared.Part.{Part}
+use Rattle.steps.specs.Code.{IsPart, layoutOf, pointOf, Below, Held, Opened}
 use Rattle.party.specs.Ask.{mostParties}
-use Rattle.party.specs.Send.{inputWord, maskedFirst, maskedSecond, checkShare, sent, holds}
-use Rattle.party.specs.Entry.{overwrite}
-use Rattle.party.specs.declared.Part.{Part}
-use Rattle.party.specs.Code.{IsPart, layoutOf, pointOf, Below, Held, Opened}
-use Rattle.party.proofs.Readiness.{share-is, opened-there, multiply-held, output-held}
+use Rattle.steps.proofs.Readiness.{share-is, opened-there, multiply-held, output-held}
 use Rattle.joint.specs.Joint.{Joint, joined, band, inputsAt, party}
 use Rattle.joint.specs.Run.{takes, said, step}
 use Rattle.joint.specs.declared.Frame.{Frame}

@@ -6,9 +6,9 @@ use mathlib.Core.Bool.{Bool, true, false, cond}
 use mathlib.Core.List.{List}
 use Rattle.field.specs.Prime.{prime}
 use Rattle.circuit.specs.Round.{Round, isCommit}
-use Rattle.party.specs.Position.{keep}
-use Rattle.party.specs.Party.{Party}
-use Rattle.party.specs.Send.{holds}
+use Rattle.steps.specs.Position.{keep}
+use Rattle.steps.specs.Party.{Party}
+use Rattle.steps.specs.Send.{holds}
 use Rattle.joint.specs.Joint.{Joint}
 use Rattle.joint.specs.Run.{State, takes, said, step, released}
 use Rattle.joint.specs.Code.{Alike, saidBy}

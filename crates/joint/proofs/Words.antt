@@ -12,7 +12,7 @@ use Rattle.field.specs.Ops.{Ops}
 use Rattle.field.specs.Field.{Field}
 use Rattle.field.specs.Sum.{sum}
 use Rattle.field.proofs.Sums.{sum-ext}
-use Rattle.party.specs.Receive.{heardSum}
+use Rattle.steps.specs.Receive.{heardSum}
 use Rattle.joint.specs.Joint.{joined, band}
 
 -- Each party's part of a list that is long enough has k numbers.

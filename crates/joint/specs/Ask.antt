@@ -9,7 +9,7 @@ use Rattle.circuit.specs.Verdict.{Verdict, ask, _then_, elements}
 use Rattle.circuit.specs.Count.{prepSize, inCount, outCount}
 use Rattle.circuit.specs.Round.{wordCount, coefficientCount}
 use Rattle.circuit.specs.Accept.{askCircuit}
-use Rattle.party.specs.Scratch.{layout, scratchSize}
+use Rattle.steps.specs.Scratch.{layout, scratchSize}
 use Rattle.party.specs.Ask.{askParties}
 use Rattle.joint.specs.Joint.{Joint}
 

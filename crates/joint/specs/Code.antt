@@ -14,14 +14,14 @@ use Rattle.circuit.specs.Round.{Round, Input, words, coefficientsIn, wordCount,
 use Rattle.circuit.specs.Accept.{mostGates}
 use Rattle.circuit.specs.Valid.{Valid}
 use Rattle.circuit.specs.Code.{roundOf, Tallied}
-use Rattle.party.specs.Scratch.{layout, scratchSize, Value, read}
-use Rattle.party.specs.Position.{Stage, Send}
-use Rattle.party.specs.Send.{sent}
-use Rattle.party.specs.Receive.{passes, received}
-use Rattle.party.specs.Entry.{releases, overwrite}
+use Rattle.steps.specs.Scratch.{layout, scratchSize, Value, read}
+use Rattle.steps.specs.Position.{Stage, Send}
+use Rattle.steps.specs.Send.{sent, overwrite}
+use Rattle.steps.specs.Receive.{passes, received}
+use Rattle.steps.specs.Code.{layoutOf, pointOf, Below, Ready}
+use Rattle.steps.specs.declared.Site.{Site}
+use Rattle.party.specs.Entry.{releases}
 use Rattle.party.specs.Ask.{fewestParties, mostParties}
-use Rattle.party.specs.Code.{layoutOf, pointOf, Below, Ready}
-use Rattle.party.specs.declared.Site.{Site}
 use Rattle.joint.specs.Joint.{Joint, joined, band, inputsAt, party}
 use Rattle.joint.specs.Run.{State, said, step, released, mostRounds, whole}
 use Rattle.joint.specs.Entry as E

@@ -8,10 +8,10 @@ use Rattle.field.specs.Ops.{Ops}
 use Rattle.circuit.specs.Verdict.{Verdict, Accepted, Refused}
 use Rattle.circuit.specs.Round.{Round, Input, Multiply, CommitOpened, RevealOpened, OpenOutput, CommitOutput, RevealOutput}
 use Rattle.circuit.specs.Accept.{askCircuit}
-use Rattle.party.specs.Part.{Part}
-use Rattle.party.specs.Scratch.{layout, scratchSize, wire, read, Value, ValueMac}
-use Rattle.party.specs.Position.{Position, Send, Receive, Finished, Aborted}
-use Rattle.party.specs.Party.{Party}
+use Rattle.steps.specs.Part.{Part}
+use Rattle.steps.specs.Scratch.{layout, scratchSize, wire, read, Value, ValueMac}
+use Rattle.steps.specs.Position.{Position, Send, Receive, Finished, Aborted}
+use Rattle.steps.specs.Party.{Party}
 use Rattle.party.specs.Entry.{Answer, Refusal, Next, Output, Abort, openAnswer, sendAnswer, sendOut, receiveAnswer, receiveScratch}
 use Rattle.joint.specs.Joint.{Joint, joined, party}
 use Rattle.joint.specs.Run.{State, Run, begun, step, said, whole}

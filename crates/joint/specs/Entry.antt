@@ -5,9 +5,10 @@ use mathlib.Core.List.{List, _++_}
 use lib.ListN.{length, drop}
 use Rattle.field.specs.Ops.{Ops}
 use Rattle.circuit.specs.Verdict.{Verdict, Accepted, Refused}
-use Rattle.party.specs.Scratch.{layout, scratchSize}
-use Rattle.party.specs.Position.{Stage, Send, Receive, Finished, Aborted}
-use Rattle.party.specs.Entry.{leave, overwrite}
+use Rattle.steps.specs.Scratch.{layout, scratchSize}
+use Rattle.steps.specs.Position.{Stage, Send, Receive, Finished, Aborted}
+use Rattle.steps.specs.Send.{overwrite}
+use Rattle.party.specs.Entry.{leave}
 use Rattle.joint.specs.Joint.{Joint, joined}
 use Rattle.joint.specs.Run.{Run, whole}
 use Rattle.joint.specs.Ask.{askJoint}

@@ -8,8 +8,8 @@ use Rattle.field.specs.Ops.{Ops}
 use Rattle.field.specs.Sum.{sum}
 use Rattle.circuit.specs.Gate.{Gate, In, Add, Sub, Plus, Times, Mul, Out, gate, gates}
 use Rattle.circuit.specs.Count.{prepSize}
-use Rattle.party.specs.Part.{Part, partAt}
-use Rattle.party.specs.Party.{recordIn, maskAt, wholeMaskAt, aAt, bAt, cAt}
+use Rattle.steps.specs.Part.{Part, partAt}
+use Rattle.steps.specs.Party.{recordIn, maskAt, wholeMaskAt, aAt, bAt, cAt}
 use Rattle.joint.specs.Joint.{band}
 
 -- the preprocessing of n parties for circuit c, joined in party order

@@ -4,7 +4,7 @@ use Prim.Native.Nat.{ℕ, zero, suc, _+_, _*_}
 use mathlib.Core.List.{List, [], _++_}
 use lib.ListN.{take, drop}
 use Rattle.circuit.specs.Count.{prepSize, inputCount}
-use Rattle.party.specs.Party.{Party}
+use Rattle.steps.specs.Party.{Party}
 
 -- "The joint run takes materials, inputs and scratch joined in seat order and all draws in order of use"; the scratch stands apart
 pub record Joint : Type 0 where

@@ -5,7 +5,7 @@ use mathlib.Core.List.{List, [], _∷_, _++_}
 use lib.ListN.{getD}
 use Rattle.field.specs.Ops.{Ops}
 use Rattle.circuit.specs.Gate.{Gate, In, Add, Sub, Plus, Times, Mul, Out, gate, gates, first}
-use Rattle.party.specs.Party.{inputOf}
+use Rattle.steps.specs.Party.{inputOf}
 use Rattle.joint.specs.Joint.{Joint, party}
 
 module _ (O : Ops) where

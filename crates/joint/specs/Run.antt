@@ -8,10 +8,10 @@ use Rattle.field.specs.Ops.{Ops}
 use Rattle.circuit.specs.Gate.{gates}
 use Rattle.circuit.specs.Count.{unchecked}
 use Rattle.circuit.specs.Round.{Round, coefficientsIn}
-use Rattle.party.specs.Scratch.{layout, scratchSize, Value, read}
-use Rattle.party.specs.Position.{Point, start, keep, whenSending}
-use Rattle.party.specs.Send.{sent, holds}
-use Rattle.party.specs.Receive.{passes, next, received}
+use Rattle.steps.specs.Scratch.{layout, scratchSize, Value, read}
+use Rattle.steps.specs.Position.{Point, start, keep, whenSending}
+use Rattle.steps.specs.Send.{sent, holds}
+use Rattle.steps.specs.Receive.{passes, next, received}
 use Rattle.party.specs.Entry.{releases}
 use Rattle.joint.specs.Joint.{Joint, joined, band, party}
 

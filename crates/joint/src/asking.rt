@@ -11,7 +11,7 @@ ghost use Rattle.circuit.specs.Code.{verdictOf, Totalled};
 ghost use Rattle.circuit.specs.Count.{prepSize, inCount, outCount};
 ghost use Rattle.circuit.specs.Round.{wordCount, coefficientCount};
 ghost use Rattle.circuit.specs.Valid.{Valid};
-ghost use Rattle.party.specs.Scratch.{layout, scratchSize};
+ghost use Rattle.steps.specs.Scratch.{layout, scratchSize};
 ghost use Rattle.party.specs.Ask.{askParties, mostParties};
 ghost use Rattle.joint.specs.Code.{Framed, listsOf, roomsOf};
 

@@ -1,7 +1,7 @@
 // What stays the same from round to round.
 use crate::Frame;
 use circuit::Totals;
-use party::Layout;
+use steps::Layout;
 ghost use mathlib.Core.Path.{_≡_};
 ghost use Prim.Native.Nat.{_≤_};
 ghost use Rattle.field.specs.Prime.{p};
@@ -64,7 +64,7 @@ pub fn frame_of(parties: usize, c: &[u32], count: usize, totals: Totals) -> Fram
     Frame {
         parties,
         layout,
-        scratch: party::scratch::size_of(layout),
+        scratch: steps::scratch::size_of(layout),
         prep: totals.prep,
     }
 }

@@ -4,7 +4,7 @@ use crate::Course;
 use crate::Frame;
 use circuit::Gate;
 use circuit::Round;
-use party::Point;
+use steps::Point;
 ghost use mathlib.Core.Path.{_≡_};
 ghost use mathlib.Core.List.{[]};
 ghost use Prim.Native.Nat.{ℕ, _+_, _-_, _*_, _<_, _≤_};
@@ -13,9 +13,9 @@ ghost use Rattle.field.specs.Prime.{p, prime};
 ghost use Rattle.circuit.specs.Gate.{gate};
 ghost use Rattle.circuit.specs.Round.{words};
 ghost use Rattle.circuit.specs.Code.{gateOf, roundOf};
-ghost use Rattle.party.specs.Position.{reach};
-ghost use Rattle.party.specs.Receive.{afterInput, afterMultiply, afterOpenOutput, settle, next};
-ghost use Rattle.party.specs.Code.{layoutOf, pointOf, Held, Multiplies, Settles, Receives};
+ghost use Rattle.steps.specs.Position.{reach};
+ghost use Rattle.steps.specs.Receive.{afterInput, afterMultiply, afterOpenOutput, settle, next};
+ghost use Rattle.steps.specs.Code.{layoutOf, pointOf, Held, Multiplies, Settles, Receives};
 ghost use Rattle.joint.specs.Joint.{band, party};
 ghost use Rattle.joint.specs.Code.{jointOf, siteOf, stateOf, Lent, prepFrom, keyIn, Prepared, Banded, EachBand, rebanded, receivedBy};
 
@@ -31,7 +31,7 @@ fn receive_inputs(f: Frame, j: usize, at: usize, preps: &[u32], scratch: &mut [u
         let key = i * f.prep;
         let first = key + at;
         let last = key + f.prep;
-        party::receiving::after_input(
+        steps::receiving::after_input(
             i,
             preps[key],
             f.layout,
@@ -68,7 +68,7 @@ fn receive_products(
         let key = i * f.prep;
         let first = key + at;
         let last = key + f.prep;
-        party::receiving::after_multiply(
+        steps::receiving::after_multiply(
             i,
             preps[key],
             f.layout,
@@ -95,7 +95,7 @@ fn receive_outputs(f: Frame, x: usize, scratch: &mut [u32], e: u32)
     let mut i = 0;
     while i < f.parties {
         let end = start + f.scratch;
-        party::receiving::after_open_output(f.layout, &mut scratch[start..end], x, e);
+        steps::receiving::after_open_output(f.layout, &mut scratch[start..end], x, e);
         start = end;
         i += 1;
     }
@@ -114,7 +114,7 @@ fn settle_all(f: Frame, c: &[u32], from: usize, stop: usize, preps: &[u32], scra
     while i < f.parties {
         let end = start + f.scratch;
         let key = i * f.prep;
-        party::receiving::settle(
+        steps::receiving::settle(
             i,
             preps[key],
             c,
@@ -148,9 +148,9 @@ pub fn receive_all(
     let j = from.gate;
     let t = s.tally;
     let y = f.layout;
-    let e = party::receiving::heard_first(f.parties, g, k, heard);
-    let stop = party::receiving::reach(c, y.gates, j + 1);
-    let point = party::receiving::next_point(
+    let e = steps::receiving::heard_first(f.parties, g, k, heard);
+    let stop = steps::receiving::reach(c, y.gates, j + 1);
+    let point = steps::receiving::next_point(
         f.parties,
         c,
         y.gates,
@@ -169,7 +169,7 @@ pub fn receive_all(
         Round::Multiply => {
             let x = circuit::first_of(g);
             let z = circuit::second_of(g);
-            let d = party::receiving::heard_second(f.parties, g, k, heard);
+            let d = steps::receiving::heard_second(f.parties, g, k, heard);
             receive_products(f, j, x, z, t.prep, t.unchecked, preps, scratch, e, d);
             settle_all(f, c, j + 1, stop, preps, scratch);
         }

@@ -8,16 +8,16 @@ use crate::framing;
 use crate::receiving;
 use crate::sending;
 use circuit::Round;
-use party::Point;
-use party::Slot;
-use party::Stage;
+use steps::Point;
+use steps::Slot;
+use steps::Stage;
 ghost use mathlib.Core.Path.{_≡_};
 ghost use mathlib.Core.Bool.{true};
 ghost use Prim.Native.Nat.{_+_, _<_, _≤_};
 ghost use lib.ListN.{length};
 ghost use Rattle.circuit.specs.Code.{roundOf};
+ghost use Rattle.steps.specs.Code.{stageOf, Below};
 ghost use Rattle.party.specs.Entry.{releases};
-ghost use Rattle.party.specs.Code.{stageOf, Below};
 ghost use Rattle.joint.specs.Joint.{band};
 ghost use Rattle.joint.specs.Entry.{ended};
 ghost use Rattle.joint.specs.Code.{jointAnswerOf, IsDue, jointOf, Placed, Framed, freed, writtenAt, Turning, Turned, Started, Runnable, Ran};
@@ -56,11 +56,11 @@ fn release(
     if !is_release(r) {
         return at;
     }
-    if party::receiving::heard_sum(f.parties, CHECK_WORDS, 0, heard) != 0 {
+    if steps::receiving::heard_sum(f.parties, CHECK_WORDS, 0, heard) != 0 {
         return at;
     }
     let w = f.scratch;
-    outputs[at] = party::scratch::read_slot(&scratch[..w], f.layout, Slot::Value(0));
+    outputs[at] = steps::scratch::read_slot(&scratch[..w], f.layout, Slot::Value(0));
     at + 1
 }
 

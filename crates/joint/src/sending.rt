@@ -12,10 +12,10 @@ ghost use Rattle.field.specs.Prime.{prime, Is};
 ghost use Rattle.circuit.specs.Gate.{gate};
 ghost use Rattle.circuit.specs.Round.{words};
 ghost use Rattle.circuit.specs.Code.{gateOf, roundOf};
+ghost use Rattle.steps.specs.Scratch.{wire};
+ghost use Rattle.steps.specs.Send.{mark, inputWord, maskedFirst, maskedSecond, checkShare};
+ghost use Rattle.steps.specs.Code.{layoutOf, Below, Held, Opened};
 ghost use Rattle.party.specs.Ask.{mostParties};
-ghost use Rattle.party.specs.Scratch.{wire};
-ghost use Rattle.party.specs.Send.{mark, inputWord, maskedFirst, maskedSecond, checkShare};
-ghost use Rattle.party.specs.Code.{layoutOf, Below, Held, Opened};
 ghost use Rattle.joint.specs.Joint.{joined, band};
 ghost use Rattle.joint.specs.Run.{said, step};
 ghost use Rattle.joint.specs.Code.{jointOf, stateOf, part, prepFrom, keyIn, Prepared, Banded, EachBand, EachIs, Going};
@@ -37,7 +37,7 @@ fn input_words(
     while i < f.parties {
         let start = i * f.prep + at;
         let end = i * f.prep + f.prep;
-        let w = party::sending::input_word(i, owner, &preps[start..end], inputs, places[i]);
+        let w = steps::sending::input_word(i, owner, &preps[start..end], inputs, places[i]);
         words[i] = w;
         i += 1;
     }
@@ -54,7 +54,7 @@ fn output_words(f: Frame, x: usize, scratch: &[u32]) -> [u32; 8]
     while i < f.parties {
         let start = i * f.scratch;
         let end = start + f.scratch;
-        let shown = party::scratch::wire_at(&scratch[start..end], f.layout, x);
+        let shown = steps::scratch::wire_at(&scratch[start..end], f.layout, x);
         words[i] = shown.share;
         i += 1;
     }
@@ -80,7 +80,7 @@ fn check_shares(
         let key = i * f.prep;
         let start = i * f.scratch;
         let end = start + f.scratch;
-        let h = party::sending::check_share(
+        let h = steps::sending::check_share(
             &scratch[start..end],
             f.layout,
             k,
@@ -135,7 +135,7 @@ fn multiply_words(
         let last = i * f.prep + f.prep;
         let start = i * f.scratch;
         let end = start + f.scratch;
-        party::sending::multiply_words(
+        steps::sending::multiply_words(
             &scratch[start..end],
             f.layout,
             x,

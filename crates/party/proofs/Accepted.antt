@@ -18,13 +18,13 @@ use Rattle.circuit.specs.Valid.{Valid}
 use Rattle.circuit.proofs.Tests.{both-left, both-right}
 use Rattle.circuit.proofs.Verdicts.{ask-true, then-left, then-right, each-below, elements-below}
 use Rattle.circuit.proofs.Counts.{unchecked-fits}
-use Rattle.party.specs.Scratch.{Slot, Share, Mac, Value, ValueMac, layout, scratchSize, read}
-use Rattle.party.specs.Position.{Position, Stage, Send, Receive, stageOccurs, mayHold, occurs}
-use Rattle.party.specs.Party.{Party}
+use Rattle.steps.specs.Scratch.{Slot, Share, Mac, Value, ValueMac, layout, scratchSize, read}
+use Rattle.steps.specs.Position.{Position, Stage, Send, Receive, stageOccurs, mayHold, occurs}
+use Rattle.steps.specs.Party.{Party}
+use Rattle.steps.specs.Code.{Below, Worked, Opened, Sited, Ready, Sends, Receives, layoutOf}
+use Rattle.steps.specs.declared.Layout.{Layout}
+use Rattle.steps.specs.declared.Site.{Site}
 use Rattle.party.specs.Ask.{fewestParties, mostParties, askParties, slotQuestion, askSlots, askWorked, askSendRound, askReceiveRound, askLent}
-use Rattle.party.specs.Code.{Below, Worked, Opened, Sited, Ready, Sends, Receives, layoutOf}
-use Rattle.party.specs.declared.Layout.{Layout}
-use Rattle.party.specs.declared.Site.{Site}
 use Rattle.party.proofs.Lending.{lent-split, setting-valid}
 
 -- what 1 to 12 make sure of

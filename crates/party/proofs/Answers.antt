@@ -14,11 +14,11 @@ use Rattle.field.specs.Prime.Laws.{sub-lt}
 use Rattle.circuit.specs.Verdict.{Verdict, Accepted, Refused, _then_}
 use Rattle.circuit.specs.Round.{Round, Input, Multiply, CommitOpened, RevealOpened, OpenOutput, CommitOutput, RevealOutput, isCommit, isReveal, checkWords, rounds, among}
 use Rattle.circuit.proofs.Verdicts.{refused-no, then-right}
-use Rattle.party.specs.Scratch.{layout, read, Value}
-use Rattle.party.specs.Position.{Position, Stage, Send, Receive, Finished, Aborted, holding, start, keep, occurs, stageOccurs, mayHold, whenSending, whenReceiving}
-use Rattle.party.specs.Party.{Party}
-use Rattle.party.specs.Send.{checkShare, holds}
-use Rattle.party.specs.Receive.{heardSum, passes, next}
+use Rattle.steps.specs.Scratch.{layout, read, Value}
+use Rattle.steps.specs.Position.{Position, Stage, Send, Receive, Finished, Aborted, holding, start, keep, occurs, stageOccurs, mayHold, whenSending, whenReceiving}
+use Rattle.steps.specs.Party.{Party}
+use Rattle.steps.specs.Send.{checkShare, holds}
+use Rattle.steps.specs.Receive.{heardSum, passes, next}
 use Rattle.party.specs.Ask.{askLent, askSend, askReceive}
 use Rattle.party.specs.Entry.{Answer, Refusal, Next, Output, Abort, answer, releases, openAnswer, sendAnswer, receiveAnswer, outcome, nextPosition}
 

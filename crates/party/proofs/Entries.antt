@@ -10,13 +10,13 @@ use Rattle.circuit.specs.Gate.{gates}
 use Rattle.field.specs.Prime.{p, prime}
 use Rattle.circuit.specs.Verdict.{Verdict, Accepted, Refused, ask, _then_}
 use Rattle.circuit.specs.Round.{Round, rounds, following}
-use Rattle.party.specs.Scratch.{layout, read, Value}
-use Rattle.party.specs.Position.{Position, Point, Stage, Send, Receive, Finished, Aborted, holding, start, keep, occurs, whenSending, whenReceiving, finished, aborted, begin, reach, enter, resume, proceed, follow}
-use Rattle.party.specs.Party.{Party}
-use Rattle.party.specs.Send.{sent, holds}
-use Rattle.party.specs.Receive.{passes, next, received}
+use Rattle.steps.specs.Scratch.{layout, read, Value}
+use Rattle.steps.specs.Position.{Position, Point, Stage, Send, Receive, Finished, Aborted, holding, start, keep, occurs, whenSending, whenReceiving, finished, aborted, begin, reach, enter, resume, proceed, follow}
+use Rattle.steps.specs.Party.{Party}
+use Rattle.steps.specs.Send.{sent, holds, overwrite}
+use Rattle.steps.specs.Receive.{passes, next, received}
 use Rattle.party.specs.Ask.{askLent, askSendRound, askReceiveRound, askSend, askReceive}
-use Rattle.party.specs.Entry.{Answer, Refusal, Next, Output, Abort, answer, leave, overwrite, releases, openAnswer, sendAnswer, sendOut, nextPosition, outcome, receiveAnswer, receiveScratch}
+use Rattle.party.specs.Entry.{Answer, Refusal, Next, Output, Abort, answer, leave, releases, openAnswer, sendAnswer, sendOut, nextPosition, outcome, receiveAnswer, receiveScratch}
 use Rattle.party.specs.Code.{leadsBy, leadsTo}
 
 -- a refusal is the answer, and nothing is written

@@ -11,16 +11,17 @@ use Rattle.circuit.specs.Verdict.{Verdict, Accepted, Refused}
 use Rattle.circuit.specs.Gate.{gateSize, gates}
 use Rattle.circuit.specs.Count.{capacity, unchecked}
 use Rattle.circuit.specs.Round.{Round, rounds, among}
-use Rattle.party.specs.Scratch.{layout, scratchSize, read, Value}
-use Rattle.party.specs.Position as At
-use Rattle.party.specs.Party.{Party}
-use Rattle.party.specs.Send.{sent, holds}
-use Rattle.party.specs.Receive.{next, received}
+use Rattle.steps.specs.Scratch.{layout, scratchSize, read, Value}
+use Rattle.steps.specs.Position as At
+use Rattle.steps.specs.Party.{Party}
+use Rattle.steps.specs.Send.{overwrite, sent, holds}
+use Rattle.steps.specs.Receive.{next, received}
+use Rattle.steps.specs.Code.{layoutOf, stageOf, Sited, Ready, Sends, Receives}
+use Rattle.steps.specs.declared.Layout.{Layout}
+use Rattle.steps.specs.declared.Site.{Site}
 use Rattle.party.specs.Ask.{askLent, askSendRound, askReceiveRound}
 use Rattle.party.specs.Entry as E
-use Rattle.party.specs.Code.{layoutOf, positionOf, stageOf, Sited, Ready, Sends, Receives, Laid, Asked, LentTo, RoundAt, leadsTo}
-use Rattle.party.specs.declared.Layout.{Layout}
-use Rattle.party.specs.declared.Site.{Site}
+use Rattle.party.specs.Code.{positionOf, Laid, Asked, LentTo, RoundAt, leadsTo}
 use Rattle.party.specs.declared.Position.{Position}
 use Rattle.circuit.proofs.Counts.{unchecked-fits}
 use Rattle.party.specs.Ask.{mostParties}
@@ -98,13 +99,13 @@ module _ (P : Party) (l : List ℕ) (y : Layout) (site : Site) where
 
         pub sent-done : {held : ℕ} {later : List ℕ} → askSendRound p (P .circuit) l (site .gate) coefficients (length out) r ≡ Accepted
             → held ≡ holds prime P l (site .gate) r coefficients
-            → later ≡ E.overwrite (sent prime P l (site .gate) (at .held) r) out
+            → later ≡ overwrite (sent prime P l (site .gate) (at .held) r) out
             → Sending P l (positionOf at) coefficients out (E.Next (record { gate = at .gate; stage = At.Receive r; held = held })) later
         unfolding positionOf
         sent-done e i j =
             send-done P l (positionOf at) coefficients out (h .lent .accepted) (h .can) r g (rw (h .lent .here) at e)
             (rw (i ∙ ap (λ (k : ℕ). holds prime P l k r coefficients) (h .lent .here)) refl)
-            (j ∙ ap (λ (k : ℕ). E.overwrite (sent prime P l k (at .held) r) out) (h .lent .here))
+            (j ∙ ap (λ (k : ℕ). overwrite (sent prime P l k (at .held) r) out) (h .lent .here))
 
       module _ (g : stageOf (at .stage) ≡ At.Receive r) (heard : List ℕ) where
         pub half-receives : askReceiveRound p (P .circuit) (P .parties) l (site .gate) heard r ≡ Accepted → Receives P l y site r heard

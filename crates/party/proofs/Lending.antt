@@ -18,12 +18,12 @@ use Rattle.circuit.specs.declared.Tally.{Tally}
 use Rattle.circuit.proofs.Verdicts.{then-left, then-right}
 use Rattle.circuit.proofs.Valid.{valid}
 use Rattle.circuit.proofs.Tallies.{tally-low}
-use Rattle.party.specs.Scratch as S
-use Rattle.party.specs.Party.{Party}
+use Rattle.steps.specs.Scratch as S
+use Rattle.steps.specs.Party.{Party}
+use Rattle.steps.specs.Code.{layoutOf, Sited}
+use Rattle.steps.specs.declared.Layout.{Layout}
+use Rattle.steps.specs.declared.Site.{Site}
 use Rattle.party.specs.Ask.{askParties, askLent}
-use Rattle.party.specs.Code.{layoutOf, Sited}
-use Rattle.party.specs.declared.Layout.{Layout}
-use Rattle.party.specs.declared.Site.{Site}
 use Rattle.party.proofs.Loops.{then-assoc}
 
 module _ (n i : ℕ) (c : List ℕ) where

@@ -1,17 +1,5 @@
 -- What is proved of one party's definitions.
 pub mod Computing
-pub mod Wires
-pub mod Slots
-pub mod Following
-pub mod Writing
-pub mod Settling
-pub mod Summing
-pub mod Steps
-pub mod Readiness
-pub mod HeardWords
-pub mod Sent
-pub mod Received
-pub mod Keeping
 pub mod Order
 pub mod Loops
 pub mod SlotQuestions
@@ -22,5 +10,3 @@ pub mod Accepted
 pub mod Halves
 pub mod Answers
 pub mod Returned
-pub mod InOrder
-pub mod Points

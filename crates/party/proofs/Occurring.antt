@@ -12,7 +12,7 @@ use Rattle.circuit.specs.Count.{unchecked}
 use native.Mathlib.Omega.{arith}
 use Rattle.circuit.specs.Round.{Round, Input, Multiply, CommitOpened, RevealOpened, OpenOutput, CommitOutput, RevealOutput, rounds, roundsOf, among, words}
 use Rattle.circuit.proofs.KindLaws.{shape-low}
-use Rattle.party.specs.Position.{Position, Finished, stageOccurs, mayHold, occurs}
+use Rattle.steps.specs.Position.{Position, Finished, stageOccurs, mayHold, occurs}
 
 module _ (c : List ℕ) (j : ℕ) where
   -- a round of the gate, told by the gate and the unchecked entries before it

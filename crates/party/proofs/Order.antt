@@ -11,8 +11,8 @@ use Rattle.field.specs.Ops.{Ops}
 use Rattle.field.specs.Prime.{p, prime, modular}
 use Rattle.field.specs.Prime.Laws.{prime-is-modular}
 use Rattle.circuit.specs.Round.{CommitOpened, RevealOpened}
-use Rattle.party.specs.Position.{Position, Send, Receive}
-use Rattle.party.specs.Party.{Party}
+use Rattle.steps.specs.Position.{Position, Send, Receive}
+use Rattle.steps.specs.Party.{Party}
 use Rattle.party.specs.Entry.{Answer, Refusal, Next, sendAnswer, receiveAnswer}
 use Rattle.party.proofs.Computing.{computing}
 

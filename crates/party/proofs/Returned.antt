@@ -14,16 +14,16 @@ use Rattle.circuit.specs.Gate.{gates}
 use Rattle.circuit.specs.Round.{Round, Input, isCommit, rounds, among}
 use Rattle.circuit.proofs.Tests.{by-cases, both-right}
 use Rattle.circuit.proofs.Verdicts.{refused-no, then-left, then-right, ask-true}
-use Rattle.party.specs.Scratch.{layout, read, Value}
-use Rattle.party.specs.Position.{Position, Point, Stage, Send, Receive, Finished, Aborted, holding, keep, occurs, stageOccurs, mayHold, whenSending, whenReceiving}
-use Rattle.party.specs.Party.{Party, key}
-use Rattle.party.specs.Send.{checkShare, holds}
-use Rattle.party.specs.Receive.{next, passes}
+use Rattle.steps.specs.Scratch.{layout, read, Value}
+use Rattle.steps.specs.Position.{Position, Point, Stage, Send, Receive, Finished, Aborted, holding, keep, occurs, stageOccurs, mayHold, whenSending, whenReceiving}
+use Rattle.steps.specs.Party.{Party, key}
+use Rattle.steps.specs.Send.{checkShare, holds}
+use Rattle.steps.specs.Receive.{next, passes}
 use Rattle.party.specs.Ask.{askLent, askSendRound, askReceiveRound, askSend, askReceive}
 use Rattle.party.specs.Entry.{Answer, Refusal, Next, Output, Abort, answer, releases, sendAnswer, receiveAnswer, nextPosition, outcome}
+use Rattle.steps.proofs.Following.{next-possible, next-holds}
 use Rattle.party.proofs.Occurring.{held-some, held-none}
 use Rattle.party.proofs.Accepted.{gate-occurs, stage-occurs}
-use Rattle.party.proofs.Following.{next-possible, next-holds}
 
 -- a position can occur where its gate and its stage do, and its check share is an element where one is held and else 0
 can-occur : (q : ℕ) (c : List ℕ) (at : Position) → at .gate < gates c → stageOccurs c (at .gate) (at .stage) ≡ true

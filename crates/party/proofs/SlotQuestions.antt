@@ -9,7 +9,7 @@ use borrow.Author.Tests.{lt-ltb, le-ltb}
 use Rattle.field.specs.Prime.{p}
 use Rattle.circuit.specs.Verdict.{Verdict, Accepted, Refused, ask}
 use Rattle.circuit.proofs.Verdicts.{ask-yes, ask-no}
-use Rattle.party.specs.Scratch.{Slot, layout, offset, read}
+use Rattle.steps.specs.Scratch.{Slot, layout, offset, read}
 use Rattle.party.specs.Ask.{slotQuestion}
 
 either : (b : Bool) → (not b || true) ≡ true

@@ -11,10 +11,10 @@ use Rattle.circuit.specs.Kind.{hasValue}
 use Rattle.circuit.specs.Count.{prepSize, inputCount, unchecked}
 use Rattle.circuit.specs.Round.{Round, isCommit, words, openedIn, coefficientsIn}
 use Rattle.circuit.specs.Accept.{askCircuit}
-use Rattle.party.specs.Scratch.{Slot, Share, Mac, Value, ValueMac, layout, offset, scratchSize, read}
-use Rattle.party.specs.Position.{Position, occurs, whenSending, whenReceiving}
-use Rattle.party.specs.Party.{Party}
-use Rattle.party.specs.Send.{mark}
+use Rattle.steps.specs.Scratch.{Slot, Share, Mac, Value, ValueMac, layout, offset, scratchSize, read}
+use Rattle.steps.specs.Position.{Position, occurs, whenSending, whenReceiving}
+use Rattle.steps.specs.Party.{Party}
+use Rattle.steps.specs.Send.{mark}
 
 -- "Are there 2 to 8 seats? 1."
 abbrev pub fewestParties : ℕ

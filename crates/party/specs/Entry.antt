@@ -2,16 +2,16 @@
 -- Assumes nothing.
 use Prim.Native.Nat.{ℕ}
 use mathlib.Core.Bool.{Bool, true, false, cond}
-use mathlib.Core.List.{List, [], _++_}
-use lib.ListN.{length, drop}
+use mathlib.Core.List.{List, []}
+use lib.ListN.{length}
 use Rattle.field.specs.Ops.{Ops}
 use Rattle.circuit.specs.Verdict.{Verdict, Accepted, Refused}
 use Rattle.circuit.specs.Round.{Round, Input, Multiply, CommitOpened, RevealOpened, OpenOutput, CommitOutput, RevealOutput}
-use Rattle.party.specs.Scratch.{layout, Value, read}
-use Rattle.party.specs.Position.{Position, holding, Receive, start, keep, whenSending, whenReceiving}
-use Rattle.party.specs.Party.{Party}
-use Rattle.party.specs.Send.{sent, holds}
-use Rattle.party.specs.Receive.{passes, next, received}
+use Rattle.steps.specs.Scratch.{layout, Value, read}
+use Rattle.steps.specs.Position.{Position, holding, Receive, start, keep, whenSending, whenReceiving}
+use Rattle.steps.specs.Party.{Party}
+use Rattle.steps.specs.Send.{overwrite, sent, holds}
+use Rattle.steps.specs.Receive.{passes, next, received}
 use Rattle.party.specs.Ask.{askLent, askSend, askReceive}
 
 -- what an entry answers
@@ -34,10 +34,6 @@ answer (Refused number index) a = Refusal number index
 unfoldable pub leave : Verdict → List ℕ → List ℕ → List ℕ
 leave Accepted later before = later
 leave (Refused number index) later before = before
-
--- words written at the start of a list. "Longer is allowed and the excess untouched; so with every list written to."
-unfoldable pub overwrite : List ℕ → List ℕ → List ℕ
-overwrite ws out = ws ++ drop (length ws) out
 
 -- the second check's reveal releases an output
 unfoldable pub releases : Round → Bool

@@ -1,10 +1,4 @@
--- One party of document 01: what it holds, its positions, what it sends and receives, and the questions at its three entries.
-pub mod Part
-pub mod Scratch
-pub mod Position
-pub mod Party
-pub mod Send
-pub mod Receive
+-- One party of document 01: the questions at its three entries, their answers, and what the lent lists hold afterwards.
 pub mod Ask
 pub mod Entry
 pub mod Code

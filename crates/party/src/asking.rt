@@ -1,14 +1,14 @@
 // The questions at a party's entries.
-use crate::Layout;
 use crate::Lent;
 use crate::Position;
-use crate::Site;
-use crate::Slot;
 use crate::Sort;
-use crate::Stage;
-use crate::scratch;
 use circuit::Round;
 use circuit::Verdict;
+use steps::Layout;
+use steps::Site;
+use steps::Slot;
+use steps::Stage;
+use steps::scratch;
 ghost use mathlib.Core.Path.{_≡_};
 ghost use mathlib.Core.Logic.{_↔_};
 ghost use mathlib.Core.Bool.{true};
@@ -21,11 +21,12 @@ ghost use Rattle.circuit.specs.Gate.{gateSize, gates};
 ghost use Rattle.circuit.specs.Count.{unchecked};
 ghost use Rattle.circuit.specs.Accept.{askCircuit};
 ghost use Rattle.circuit.specs.Code.{verdictOf, roundOf};
-ghost use Rattle.party.specs.Scratch.{layout};
-ghost use Rattle.party.specs.Position.{mayHold, stageOccurs, occurs};
-ghost use Rattle.party.specs.Send.{mark};
+ghost use Rattle.steps.specs.Scratch.{layout};
+ghost use Rattle.steps.specs.Position.{mayHold, stageOccurs, occurs};
+ghost use Rattle.steps.specs.Send.{mark};
+ghost use Rattle.steps.specs.Code.{slotOf, stageOf, Within};
 ghost use Rattle.party.specs.Ask.{askParties, slotQuestion, askSlots, askWorked, askSendRound, askReceiveRound, askLent};
-ghost use Rattle.party.specs.Code.{slotOf, sortOf, wantedOf, stageOf, positionOf, Within, Laid, Asked, lentOf, LentOk};
+ghost use Rattle.party.specs.Code.{sortOf, wantedOf, positionOf, Laid, Asked, lentOf, LentOk};
 
 const FEWEST_PARTIES: usize = 2;
 

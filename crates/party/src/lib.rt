@@ -1,40 +1,25 @@
-// One party of the online phase.
+// One party: its questions and its three entries.
 pub mod asking;
-mod parts;
-pub mod receiving;
-pub mod scratch;
-pub mod sending;
 
 use circuit::Round;
 use circuit::Verdict;
+use steps::Layout;
+use steps::Point;
+use steps::Site;
+use steps::Slot;
+use steps::Stage;
+use steps::receiving;
+use steps::scratch;
+use steps::sending;
 ghost use mathlib.Core.Path.{_≡_};
 ghost use mathlib.Core.Bool.{cond};
 ghost use lib.ListN.{length};
 ghost use Rattle.field.specs.Prime.{prime};
 ghost use Rattle.circuit.specs.Code.{roundOf};
-ghost use Rattle.party.specs.Position.{Send, Receive, keep};
+ghost use Rattle.steps.specs.Position.{Send, Receive, keep};
+ghost use Rattle.steps.specs.Code.{stageOf, pointOf};
 ghost use Rattle.party.specs.Entry.{Next, Output, releases, openAnswer, sendAnswer, sendOut, receiveAnswer, receiveScratch};
-ghost use Rattle.party.specs.Code.{stageOf, pointOf, positionOf, answerOf, LentTo, RoundAt, leadsTo};
-
-// A party's share of a value, and its MAC share.
-pub struct Part {
-    pub share: u32,
-    pub mac: u32,
-}
-
-// How many gates there are, and how many opened entries there is room for.
-pub struct Layout {
-    pub gates: usize,
-    pub capacity: usize,
-}
-
-// A place of the scratch.
-pub enum Slot {
-    Share(usize),
-    Mac(usize),
-    Value(usize),
-    ValueMac(usize),
-}
+ghost use Rattle.party.specs.Code.{positionOf, answerOf, LentTo, RoundAt, leadsTo};
 
 // The slots of one sort.
 pub enum Sort {
@@ -42,20 +27,6 @@ pub enum Sort {
     Macs,
     Values,
     ValueMacs,
-}
-
-// The sending or the receiving half of a round, or an end.
-pub enum Stage {
-    Send(Round),
-    Receive(Round),
-    Finished,
-    Aborted,
-}
-
-// A gate and a stage.
-pub struct Point {
-    pub gate: usize,
-    pub stage: Stage,
 }
 
 // Where a party stands: the check share is 0 unless a commitment is sent and its reveal is not.
@@ -71,14 +42,6 @@ pub enum Answer {
     Next(Position),
     Output(u32, Position),
     Abort(Position),
-}
-
-// Where a gate's numbers stand, for one party: its record in the preprocessing, the unchecked entries before it, the input for it.
-pub struct Site {
-    pub gate: usize,
-    pub prep: usize,
-    pub unchecked: usize,
-    pub input: usize,
 }
 
 // What questions 1 to 12 come to: where they accept, the layout of the scratch and the site of a gate.

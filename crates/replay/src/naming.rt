@@ -1,6 +1,6 @@
 // The names of entries, of what they are lent, and of stages.
 use circuit::Round;
-use party::Stage;
+use steps::Stage;
 
 // None where a word names no entry.
 pub enum Entry {

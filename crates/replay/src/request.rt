@@ -3,7 +3,7 @@ use crate::naming::Entry;
 use crate::naming::Field;
 use circuit::Round;
 use party::Position;
-use party::Stage;
+use steps::Stage;
 ghost use Prim.Native.Nat.{_≤_};
 ghost use Rattle.io.specs.Counts.{Counts};
 

@@ -17,15 +17,15 @@ use Rattle.circuit.specs.Round.{Round, Input, Multiply, CommitOpened, RevealOpe
 use Rattle.circuit.specs.Round.{checkWords, rounds, overRun}
 use Rattle.circuit.specs.Valid.{Valid}
 use Rattle.circuit.proofs.Valid.{valid}
-use Rattle.party.specs.Position.{Point, Stage, Send, Receive, Finished, Aborted, finished, aborted, follow}
-use Rattle.party.specs.Receive.{heardSum, passes, next, received}
+use Rattle.steps.specs.Position.{Point, Stage, Send, Receive, Finished, Aborted, finished, aborted, follow}
+use Rattle.steps.specs.Receive.{heardSum, passes, next, received}
 use Rattle.party.specs.Entry.{releases}
 use Rattle.joint.specs.Joint.{Joint, party}
 use Rattle.joint.specs.Run.{State, Run, begun, said, step, released, run, whole, mostRounds}
 use Rattle.theorems.specs.Premises.{Accepts, after}
 use Rattle.theorems.specs.Abort.{Fails, StopsAt, Stops}
-use Rattle.party.proofs.InOrder.{differ}
-use Rattle.party.proofs.Points.{Fits, FitsStage, spentStage, spent, goes-start, fits-follow, spent-follow, spent-le}
+use Rattle.steps.proofs.InOrder.{differ}
+use Rattle.steps.proofs.Points.{Fits, FitsStage, spentStage, spent, goes-start, fits-follow, spent-follow, spent-le}
 use Rattle.joint.proofs.Spending.{rounds-le}
 use Rattle.theorems.proofs.Rounds.{ones}
 use Rattle.theorems.proofs.Runs.{Idle, longer, run-ended, first, last-first, first-longer, after-step, after-idle, rounds-first}

@@ -17,10 +17,10 @@ use Rattle.circuit.specs.Kind.{hasValue, isLinear}
 use Rattle.circuit.specs.Count.{unchecked}
 use Rattle.circuit.specs.Round.{Round, Input, Multiply, CommitOpened, RevealOpened, OpenOutput, CommitOutput, RevealOutput, rounds}
 use Rattle.circuit.specs.Round.{following, words, openedIn, overRun, roundCount, wordCount}
-use Rattle.party.specs.Part.{Part}
-use Rattle.party.specs.Scratch.{layout, wire, read, Value, ValueMac}
-use Rattle.party.specs.Position.{Point, Stage, Send, Receive, Finished, Aborted, finished, follow, whenSending}
-use Rattle.party.specs.Party.{key}
+use Rattle.steps.specs.Part.{Part}
+use Rattle.steps.specs.Scratch.{layout, wire, read, Value, ValueMac}
+use Rattle.steps.specs.Position.{Point, Stage, Send, Receive, Finished, Aborted, finished, follow, whenSending}
+use Rattle.steps.specs.Party.{key}
 use Rattle.party.specs.Entry.{releases}
 use Rattle.joint.specs.Joint.{Joint, party}
 use Rattle.joint.specs.Run.{State, Run, begun, said, released, still, run, whole, mostRounds}
@@ -30,13 +30,13 @@ use Rattle.joint.specs.Formula.{roundFormula}
 use Rattle.theorems.specs.Premises.{Honest, after}
 use Rattle.theorems.specs.Accuracy.{Accurate, theKey, openAfter}
 use Rattle.theorems.specs.Abort.{Fails}
-use Rattle.party.proofs.InOrder.{differ}
+use Rattle.steps.proofs.InOrder.{differ}
 use Rattle.theorems.proofs.Given.{Given, given-honest}
 use Rattle.theorems.proofs.Closed.{Opening, Shown, every-at, keys, sumOf, wires, opened, openedValue, accurate, CarriesOpened}
 use Rattle.theorems.proofs.Closed.{carries-shown}
 use Rattle.theorems.proofs.Holds.{Holds}
-use Rattle.party.proofs.Points.{FitsStage, sending, spentStage, spent, doneStage, done, goes-start, goes-resume, follow-stays}
-use Rattle.party.proofs.Points.{follow-leaves, spent-follow}
+use Rattle.steps.proofs.Points.{FitsStage, sending, spentStage, spent, doneStage, done, goes-start, goes-resume, follow-stays}
+use Rattle.steps.proofs.Points.{follow-leaves, spent-follow}
 use Rattle.theorems.proofs.Sent.{gate-at, length-said, revealed-sum}
 use Rattle.theorems.proofs.Honest.{pending, length-pending, Inv, HoldsAt, fits-at, holds-at, checks-at, afterOut, following-input}
 use Rattle.theorems.proofs.Honest.{following-multiply, following-out, carries-pending, passing, point-step, inv-step, inv-begun}

@@ -16,13 +16,13 @@ use Rattle.circuit.specs.Gate.{Gate, In, Add, Sub, Plus, Times, Mul, Out, gate,
 use Rattle.circuit.specs.Kind.{hasValue, shape}
 use Rattle.circuit.specs.Count.{unchecked, uncheckedAfter}
 use Rattle.circuit.specs.Valid.{Ref, Names, Valid}
-use Rattle.party.specs.Part.{Part, partAt, plus, minus, scale, shift, product}
-use Rattle.party.specs.Party.{key, recordOf, inputOf, maskAt, wholeMaskAt, aAt, bAt, cAt}
-use Rattle.party.proofs.Wires.{Carries, carries-plus, carries-minus, carries-scale, carries-shift, carries-product}
+use Rattle.steps.specs.Part.{Part, partAt, plus, minus, scale, shift, product}
+use Rattle.steps.specs.Party.{key, recordOf, inputOf, maskAt, wholeMaskAt, aAt, bAt, cAt}
+use Rattle.steps.proofs.Wires.{Carries, carries-plus, carries-minus, carries-scale, carries-shift, carries-product}
 use Rattle.joint.specs.Joint.{Joint, party}
 use Rattle.joint.specs.Plain.{plainInput, value}
 use Rattle.joint.specs.Good.{recordAt, wholeKey, shareSum, macSum, Authentic, GoodRecord, GoodMask, GoodTriple}
-use Rattle.party.proofs.InOrder.{differ}
+use Rattle.steps.proofs.InOrder.{differ}
 use Rattle.theorems.proofs.Course.{course, course-is, strong}
 use Rattle.theorems.proofs.Given.{Given}
 use Rattle.theorems.proofs.Values.{valueBy, value-is}

@@ -19,8 +19,8 @@ use Rattle.circuit.specs.Gate.{Gate, In, Add, Sub, Plus, Times, Mul, Out, gate,
 use Rattle.circuit.specs.Count.{inputAt, inCount, outCount}
 use Rattle.circuit.specs.Round.{wordCount, coefficientCount}
 use Rattle.circuit.proofs.Verdicts.{ask-true, ask-yes, then-left, then-right, then-passed, elements-all}
-use Rattle.party.specs.Party.{inputOf}
-use Rattle.party.specs.Scratch.{layout, scratchSize}
+use Rattle.steps.specs.Party.{inputOf}
+use Rattle.steps.specs.Scratch.{layout, scratchSize}
 use Rattle.joint.specs.Joint.{party}
 use Rattle.joint.specs.Plain.{plainInput, value, scoreOf, scores}
 use Rattle.joint.specs.Ask.{askJoint}

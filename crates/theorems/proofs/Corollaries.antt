@@ -9,8 +9,9 @@ use Rattle.field.specs.Prime.{prime}
 use Rattle.field.proofs.PrimeField.{primeField}
 use Rattle.circuit.specs.Verdict.{Verdict, Accepted}
 use Rattle.circuit.specs.Gate.{gates}
-use Rattle.party.specs.Position.{Point, finished}
-use Rattle.party.specs.Entry.{leave, overwrite}
+use Rattle.steps.specs.Position.{Point, finished}
+use Rattle.steps.specs.Send.{overwrite}
+use Rattle.party.specs.Entry.{leave}
 use Rattle.joint.specs.Joint.{Joint}
 use Rattle.joint.specs.Run.{Run, whole}
 use Rattle.joint.specs.Entry.{JointAnswer, Done, ended, jointly, verdict, jointAnswer, jointOutputs}

@@ -17,7 +17,7 @@ use Rattle.circuit.specs.Valid.{Valid}
 use Rattle.circuit.proofs.Tests.{by-cases, both-left}
 use Rattle.circuit.proofs.Verdicts.{ask-true, then-right, elements-below}
 use Rattle.circuit.proofs.Valid.{valid}
-use Rattle.party.specs.Party.{inputOf}
+use Rattle.steps.specs.Party.{inputOf}
 use Rattle.party.specs.Ask.{askParties, fewestParties}
 use Rattle.joint.specs.Joint.{Joint, inputsAt, party}
 use Rattle.joint.specs.Plain.{plainInput}

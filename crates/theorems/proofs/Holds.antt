@@ -13,20 +13,20 @@ use Rattle.circuit.specs.Gate.{Gate, In, Add, Sub, Plus, Times, Mul, Out, gate,
 use Rattle.circuit.specs.Kind.{hasValue, isLinear, shape}
 use Rattle.circuit.specs.Count.{total, capacity, unchecked, uncheckedAfter}
 use Rattle.circuit.specs.Valid.{Ref, Names, Valid}
-use Rattle.party.specs.Part.{Part, partAt, plus, minus, scale, shift, product}
-use Rattle.party.specs.Scratch.{layout, scratchSize, Value, ValueMac, read, wire, putWire, putOpened}
-use Rattle.party.specs.Position.{reach}
-use Rattle.party.specs.Party.{recordOf, maskAt, aAt, bAt, cAt}
-use Rattle.party.specs.Send.{maskedFirst, maskedSecond}
-use Rattle.party.specs.Receive.{afterInput, afterMultiply, afterOpenOutput, afterLinear, settle}
+use Rattle.steps.specs.Part.{Part, partAt, plus, minus, scale, shift, product}
+use Rattle.steps.specs.Scratch.{layout, scratchSize, Value, ValueMac, read, wire, putWire, putOpened}
+use Rattle.steps.specs.Position.{reach}
+use Rattle.steps.specs.Party.{recordOf, maskAt, aAt, bAt, cAt}
+use Rattle.steps.specs.Send.{maskedFirst, maskedSecond}
+use Rattle.steps.specs.Receive.{afterInput, afterMultiply, afterOpenOutput, afterLinear, settle}
 use Rattle.joint.specs.Joint.{Joint, party}
-use Rattle.party.proofs.InOrder.{differ}
-use Rattle.party.proofs.Points.{rising}
+use Rattle.steps.proofs.InOrder.{differ}
+use Rattle.steps.proofs.Points.{rising}
 use Rattle.theorems.proofs.Closed.{Opening, Masked, Shown, openingsAfter, openings, length-openings, keys, prepared, ownerWord}
 use Rattle.theorems.proofs.Closed.{masked, sumOf, wireBy, wires, opened, wires-are}
-use Rattle.party.proofs.Slots.{length-put, length-opened, wire-put-same, wire-put-other, value-put}
-use Rattle.party.proofs.Slots.{value-mac-put, wire-opened}
-use Rattle.party.proofs.Slots.{value-opened-same, value-mac-opened-same, value-opened-other, value-mac-opened-other}
+use Rattle.steps.proofs.Slots.{length-put, length-opened, wire-put-same, wire-put-other, value-put}
+use Rattle.steps.proofs.Slots.{value-mac-put, wire-opened}
+use Rattle.steps.proofs.Slots.{value-opened-same, value-mac-opened-same, value-opened-other, value-mac-opened-other}
 
 -- A sum over more gates is no less.
 total-rises : (f : Gate → ℕ) (c : List ℕ) (j m : ℕ) → j ≤ m → total f c j ≤ total f c m

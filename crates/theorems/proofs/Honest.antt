@@ -19,24 +19,24 @@ use Rattle.circuit.specs.Count.{unchecked}
 use Rattle.circuit.specs.Round.{Round, Input, Multiply, CommitOpened, RevealOpened, OpenOutput, CommitOutput, RevealOutput, roundNumber}
 use Rattle.circuit.specs.Round.{isCommit, isReveal, outRounds, roundsOf, rounds, among, following, words, checkWords, openedIn}
 use Rattle.circuit.specs.Valid.{Ref}
-use Rattle.party.specs.Part.{Part}
-use Rattle.party.specs.Scratch.{layout, scratchSize}
-use Rattle.party.specs.Position.{Point, Stage, Send, Receive, Finished, Aborted, finished, reach, resume, start, follow, keep}
-use Rattle.party.specs.Party.{aAt, bAt}
-use Rattle.party.specs.Send.{inputWord, checkShare, sent, holds}
-use Rattle.party.specs.Receive.{heardSum, onward, received, passes, next}
+use Rattle.steps.specs.Part.{Part}
+use Rattle.steps.specs.Scratch.{layout, scratchSize}
+use Rattle.steps.specs.Position.{Point, Stage, Send, Receive, Finished, Aborted, finished, reach, resume, start, follow, keep}
+use Rattle.steps.specs.Party.{aAt, bAt}
+use Rattle.steps.specs.Send.{inputWord, checkShare, sent, holds}
+use Rattle.steps.specs.Receive.{heardSum, onward, received, passes, next}
 use Rattle.joint.specs.Joint.{Joint, party}
 use Rattle.joint.specs.Run.{State, begun, takes, said, step}
-use Rattle.party.proofs.InOrder.{differ}
+use Rattle.steps.proofs.InOrder.{differ}
 use Rattle.theorems.proofs.Given.{Given}
 use Rattle.theorems.proofs.Closed.{Opening, Masked, Shown, openingsAfter, openings, length-openings, Every, every-at, keys}
 use Rattle.theorems.proofs.Closed.{ownerWord, sumOf, opened, names, CarriesOpened, carries-shown, carries-openings, check-zero}
 use Rattle.joint.proofs.Words.{length-band, getD-joined, heard-sum}
 use Rattle.theorems.proofs.Holds.{Holds, holds-pass, holds-checked, own-first, own-second, own-shown, holds-input, holds-multiply}
 use Rattle.theorems.proofs.Holds.{holds-shown, holds-settle}
-use Rattle.party.proofs.InOrder.{outs, begins}
-use Rattle.party.proofs.Points.{Reached, reached, Entered, ended, begun as beginning, entered, Fits, FitsStage, goes-entered}
-use Rattle.party.proofs.Points.{sending, follow-stays, follow-leaves, fits-follow, entered-start}
+use Rattle.steps.proofs.InOrder.{outs, begins}
+use Rattle.steps.proofs.Points.{Reached, reached, Entered, ended, begun as beginning, entered, Fits, FitsStage, goes-entered}
+use Rattle.steps.proofs.Points.{sending, follow-stays, follow-leaves, fits-follow, entered-start}
 use Rattle.theorems.proofs.Sent.{gate-at, saidBy, revealed-sum}
 
 -- what is opened and unchecked in round r of gate j

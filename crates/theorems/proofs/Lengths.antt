@@ -10,15 +10,15 @@ use Rattle.circuit.specs.Verdict.{Accepted}
 use Rattle.circuit.specs.Gate.{Gate, In, Add, Sub, Plus, Times, Mul, Out, gate}
 use Rattle.circuit.specs.Kind.{isLinear}
 use Rattle.circuit.specs.Round.{Round, Input, Multiply, CommitOpened, RevealOpened, OpenOutput, CommitOutput, RevealOutput}
-use Rattle.party.specs.Scratch.{Layout, layout, scratchSize}
-use Rattle.party.specs.Position.{Stage, Send, Receive, Finished, Aborted, whenSending}
-use Rattle.party.specs.Party.{Party}
-use Rattle.party.specs.Receive.{afterInput, afterMultiply, afterOpenOutput, afterLinear, settle, passes, onward, received}
+use Rattle.steps.specs.Scratch.{Layout, layout, scratchSize}
+use Rattle.steps.specs.Position.{Stage, Send, Receive, Finished, Aborted, whenSending}
+use Rattle.steps.specs.Party.{Party}
+use Rattle.steps.specs.Receive.{afterInput, afterMultiply, afterOpenOutput, afterLinear, settle, passes, onward, received}
 use Rattle.party.specs.Entry.{leave}
 use Rattle.joint.specs.Joint.{Joint, joined, band}
 use Rattle.joint.specs.Run.{State, begun, step, still, ahead, run, whole}
 use Rattle.joint.specs.Entry.{verdict, jointScratch}
-use Rattle.party.proofs.Slots.{length-put, length-opened}
+use Rattle.steps.proofs.Slots.{length-put, length-opened}
 use Rattle.joint.proofs.Words.{length-band, length-joined}
 use Rattle.joint.proofs.Bands.{band-front, band-joined}
 

@@ -20,8 +20,8 @@ use Rattle.circuit.specs.Gate.{Gate, In, Add, Sub, Plus, Times, Mul, Out, gate,
 use Rattle.circuit.specs.Kind.{shape}
 use Rattle.circuit.specs.Count.{total, prepAt, prepSize}
 use Rattle.circuit.specs.Valid.{Valid, Names}
-use Rattle.party.specs.Part.{partAt}
-use Rattle.party.specs.Party.{recordIn, maskAt, wholeMaskAt, aAt, bAt, cAt}
+use Rattle.steps.specs.Part.{partAt}
+use Rattle.steps.specs.Party.{recordIn, maskAt, wholeMaskAt, aAt, bAt, cAt}
 use Rattle.joint.specs.Joint.{joined, band}
 use Rattle.joint.specs.Good.{Good, GoodRecord, GoodMask, GoodTriple, recordAt, wholeKey, shareSum, macSum}
 use Rattle.theorems.specs.Matching.{only, addLists, inputMove, valueMove, moved, productMove, recordMove, prepMove, match}

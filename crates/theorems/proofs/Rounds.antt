@@ -20,8 +20,8 @@ use Rattle.circuit.specs.Accept.{fewestGates, mostGates, askCircuit}
 use Rattle.circuit.specs.Valid.{Names, Valid}
 use Rattle.joint.specs.Formula.{mulCount, bareOuts, roundFormula, mostRoundsOfAll}
 use Rattle.joint.proofs.Computing.{computing}
-use Rattle.party.proofs.InOrder.{differ}
-use Rattle.party.proofs.InOrder.{outs}
+use Rattle.steps.proofs.InOrder.{differ}
+use Rattle.steps.proofs.InOrder.{outs}
 
 -- one for each round
 abbrev pub ones : ℕ → Round → ℕ

@@ -6,7 +6,7 @@ use mathlib.Core.List.{List, _++_, append-assoc, append-nil}
 use native.Mathlib.Nat.{add-zero, add-suc}
 use Rattle.field.specs.Ops.{Ops}
 use Rattle.circuit.specs.Round.{Round}
-use Rattle.party.specs.Position.{Stage, Send, Receive, Finished, Aborted, whenSending}
+use Rattle.steps.specs.Position.{Stage, Send, Receive, Finished, Aborted, whenSending}
 use Rattle.joint.specs.Joint.{Joint}
 use Rattle.joint.specs.Run.{State, Run, begun, said, step, released, still, ahead, run}
 use Rattle.theorems.specs.Premises.{after}

@@ -15,10 +15,10 @@ use Rattle.field.proofs.Sums.{sum-ext}
 use Rattle.circuit.specs.Gate.{In, Mul, Out, gate, gates, first, second}
 use Rattle.circuit.specs.Round.{Input, Multiply, OpenOutput}
 use Rattle.circuit.specs.Valid.{Ref}
-use Rattle.party.specs.Part.{Part}
-use Rattle.party.specs.Scratch.{layout}
-use Rattle.party.specs.Party.{key, recordOf, inputOf, wholeMaskAt, aAt, bAt}
-use Rattle.party.specs.Send.{inputWord, checkShare, sent}
+use Rattle.steps.specs.Part.{Part}
+use Rattle.steps.specs.Scratch.{layout}
+use Rattle.steps.specs.Party.{key, recordOf, inputOf, wholeMaskAt, aAt, bAt}
+use Rattle.steps.specs.Send.{inputWord, checkShare, sent}
 use Rattle.joint.specs.Joint.{Joint, party}
 use Rattle.theorems.proofs.Closed.{Opening, Masked, Shown, Every, keys, ownerWord, opened, names}
 use Rattle.theorems.proofs.Holds.{Holds, own-first, own-second, own-shown}

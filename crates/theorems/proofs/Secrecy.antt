@@ -17,7 +17,7 @@ use Rattle.circuit.specs.Gate.{gates}
 use Rattle.circuit.specs.Count.{prepSize}
 use Rattle.circuit.specs.Valid.{Valid}
 use Rattle.circuit.proofs.Valid.{valid}
-use Rattle.party.specs.Scratch.{layout, scratchSize}
+use Rattle.steps.specs.Scratch.{layout, scratchSize}
 use Rattle.joint.specs.Joint.{Joint, band, party}
 use Rattle.joint.specs.Run.{whole}
 use Rattle.joint.specs.Entry.{verdict, jointAnswer, jointScratch}

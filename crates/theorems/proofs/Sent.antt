@@ -15,14 +15,14 @@ use Rattle.circuit.specs.Kind.{shape}
 use Rattle.circuit.specs.Count.{unchecked}
 use Rattle.circuit.specs.Round.{Round, Input, Multiply, CommitOpened, RevealOpened, OpenOutput, CommitOutput, RevealOutput, roundNumber}
 use Rattle.circuit.specs.Round.{isReveal, outRounds, roundsOf, rounds, among, words, checkWords}
-use Rattle.party.specs.Party.{Party}
-use Rattle.party.specs.Send.{sent}
-use Rattle.party.specs.Receive.{heardSum}
+use Rattle.steps.specs.Party.{Party}
+use Rattle.steps.specs.Send.{sent}
+use Rattle.steps.specs.Receive.{heardSum}
 use Rattle.joint.specs.Joint.{Joint, party}
 use Rattle.joint.specs.Run.{State, said}
-use Rattle.party.proofs.InOrder.{differ}
+use Rattle.steps.proofs.InOrder.{differ}
 use Rattle.joint.proofs.Words.{length-joined, heard-sum}
-use Rattle.party.proofs.InOrder.{same-round, outs}
+use Rattle.steps.proofs.InOrder.{same-round, outs}
 
 -- the kind of a gate that has round r
 abbrev pub Wants : Round → Gate → Type 0

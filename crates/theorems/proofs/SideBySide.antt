@@ -17,8 +17,8 @@ use Rattle.field.proofs.Sums.{sum-ext, sum-pin}
 use Rattle.circuit.specs.Gate.{Gate, In, Add, Sub, Plus, Times, Mul, Out, gate, gates, first}
 use Rattle.circuit.specs.Kind.{hasValue}
 use Rattle.circuit.specs.Valid.{Valid, Ref}
-use Rattle.party.specs.Part.{Part, plus, minus, scale, shift, product}
-use Rattle.party.specs.Party.{key, recordOf, inputOf, maskAt, wholeMaskAt, aAt, bAt, cAt}
+use Rattle.steps.specs.Part.{Part, plus, minus, scale, shift, product}
+use Rattle.steps.specs.Party.{key, recordOf, inputOf, maskAt, wholeMaskAt, aAt, bAt, cAt}
 use Rattle.joint.specs.Joint.{Joint, party}
 use Rattle.joint.specs.Plain.{plainInput, values, value}
 use Rattle.joint.specs.Good.{Good, recordAt, shareSum}

@@ -11,9 +11,9 @@ use Rattle.field.specs.Ops.{Ops}
 use Rattle.field.specs.Field.{Field}
 use Rattle.circuit.specs.Gate.{gate, gates, first}
 use Rattle.circuit.specs.Round.{Round, Input, Multiply, CommitOpened, RevealOpened, OpenOutput, CommitOutput, RevealOutput, isCommit}
-use Rattle.party.specs.Scratch.{layout, scratchSize}
-use Rattle.party.specs.Position.{Stage, Send, Receive, Finished, Aborted, Point, keep, whenSending}
-use Rattle.party.specs.Send.{sent, holds}
+use Rattle.steps.specs.Scratch.{layout, scratchSize}
+use Rattle.steps.specs.Position.{Stage, Send, Receive, Finished, Aborted, Point, keep, whenSending}
+use Rattle.steps.specs.Send.{sent, holds}
 use Rattle.joint.specs.Joint.{Joint, party}
 use Rattle.joint.specs.Run.{State, Run, said, takes, step, still, ahead, run, begun, whole}
 use Rattle.joint.proofs.Words.{joined-ext}

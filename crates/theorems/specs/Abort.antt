@@ -6,8 +6,8 @@ use mathlib.Core.Bool.{true}
 use mathlib.Core.List.{List, _++_}
 use Rattle.field.specs.Ops.{Ops}
 use Rattle.circuit.specs.Round.{Round, isReveal, checkWords}
-use Rattle.party.specs.Position.{Send, finished, aborted}
-use Rattle.party.specs.Receive.{heardSum}
+use Rattle.steps.specs.Position.{Send, finished, aborted}
+use Rattle.steps.specs.Receive.{heardSum}
 use Rattle.joint.specs.Joint.{Joint}
 use Rattle.joint.specs.Run.{State, Run, said, run, begun, whole}
 use Rattle.theorems.specs.Premises.{after}

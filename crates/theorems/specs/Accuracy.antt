@@ -11,8 +11,8 @@ use Rattle.circuit.specs.Gate.{gate, gates}
 use Rattle.circuit.specs.Kind.{hasValue}
 use Rattle.circuit.specs.Count.{unchecked}
 use Rattle.circuit.specs.Round.{openedIn, wordCount}
-use Rattle.party.specs.Scratch.{layout, wire, read, Value, ValueMac}
-use Rattle.party.specs.Position.{finished, whenSending}
+use Rattle.steps.specs.Scratch.{layout, wire, read, Value, ValueMac}
+use Rattle.steps.specs.Position.{finished, whenSending}
 use Rattle.joint.specs.Joint.{Joint}
 use Rattle.joint.specs.Run.{State, Run, whole}
 use Rattle.joint.specs.Plain.{value, scores}

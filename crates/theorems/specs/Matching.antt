@@ -7,7 +7,7 @@ use lib.ListN.{getD}
 use lib.Dec.{eqb}
 use Rattle.field.specs.Ops.{Ops}
 use Rattle.circuit.specs.Gate.{Gate, In, Add, Sub, Plus, Times, Mul, Out, gate, gates}
-use Rattle.party.specs.Party.{aAt, bAt}
+use Rattle.steps.specs.Party.{aAt, bAt}
 use Rattle.joint.specs.Joint.{Joint, joined}
 use Rattle.joint.specs.Plain.{plainInput, value}
 use Rattle.joint.specs.Good.{wholeKey, shareSum}

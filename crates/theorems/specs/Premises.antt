@@ -9,8 +9,8 @@ use Rattle.field.specs.Ops.{Ops}
 use Rattle.circuit.specs.Verdict.{Accepted, ask, _then_, elements}
 use Rattle.circuit.specs.Count.{inCount}
 use Rattle.circuit.specs.Accept.{askCircuit}
-use Rattle.party.specs.Position.{whenSending}
-use Rattle.party.specs.Scratch.{layout, scratchSize}
+use Rattle.steps.specs.Position.{whenSending}
+use Rattle.steps.specs.Scratch.{layout, scratchSize}
 use Rattle.party.specs.Ask.{askParties}
 use Rattle.joint.specs.Joint.{Joint}
 use Rattle.joint.specs.Run.{State, begun, step}

@@ -10,8 +10,8 @@ use Rattle.field.specs.Field.{Field}
 use Rattle.circuit.specs.Verdict.{Accepted}
 use Rattle.circuit.specs.Gate.{gates}
 use Rattle.circuit.specs.Count.{prepSize}
-use Rattle.party.specs.Party.{Party}
-use Rattle.party.specs.Scratch.{layout, scratchSize}
+use Rattle.steps.specs.Party.{Party}
+use Rattle.steps.specs.Scratch.{layout, scratchSize}
 use Rattle.joint.specs.Joint.{Joint, band, party}
 use Rattle.joint.specs.Run.{Run, whole}
 use Rattle.joint.specs.Entry.{verdict, jointAnswer, jointScratch}

@@ -2,7 +2,8 @@
 -- Assumes nothing.
 use native.Mathlib.Omega.{arith}
 use borrow.Author.Tests.{lt-ltb, le-ltb, eq-eqb, ne-eqb}
-use Rattle.party.specs.Code.{positionOf, stageOf}
+use Rattle.steps.specs.Code.{stageOf}
+use Rattle.party.specs.Code.{positionOf}
 use Rattle.capi.specs.Stages.{position, positionAt}
 use borrow.Author.Needs.{needs}
 use Rattle.capi.proofs.position_at.Statement.{statement}

@@ -1,6 +1,6 @@
 -- `capi::stage_number` meets its contract: one number for each stage.
 -- Assumes nothing.
-use Rattle.party.specs.Code.{stageOf}
+use Rattle.steps.specs.Code.{stageOf}
 use Rattle.capi.specs.Stages.{stageNumber}
 use borrow.Author.Needs.{needs}
 use Rattle.capi.proofs.stage_number.Statement.{statement}

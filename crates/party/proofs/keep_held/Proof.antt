@@ -1,7 +1,7 @@
 -- `party::keep_held` meets its contract: a check share stays held after a commitment only.
 -- Assumes nothing.
 use mathlib.Core.Path.{sym, _∙_}
-use Rattle.party.specs.Position.{keep}
+use Rattle.steps.specs.Position.{keep}
 use borrow.Author.Needs.{needs}
 use Rattle.party.proofs.keep_held.Statement.{statement}
 use Rattle.party.proofs.keep_held.Tie as tie

@@ -3,10 +3,11 @@
 use mathlib.Core.Path.{sym, ap, _∙_}
 use Rattle.field.specs.Prime.{p}
 use Rattle.circuit.specs.Code.{roundOf}
-use Rattle.party.specs.Position.{holding}
+use Rattle.steps.specs.Position.{holding}
+use Rattle.steps.specs.Code.{stageOf}
 use Rattle.party.specs.Entry.{Next}
-use Rattle.party.specs.Code.{answerOf, positionOf, stageOf, lentOf}
-use Rattle.party.proofs.Following.{start-is}
+use Rattle.party.specs.Code.{answerOf, positionOf, lentOf}
+use Rattle.steps.proofs.Following.{start-is}
 use Rattle.party.proofs.Accepted.{lends}
 use Rattle.party.proofs.Entries.{open-refused, open-accepted}
 use borrow.Author.Needs.{needs}

@@ -1,8 +1,9 @@
 -- `party::outcome_of` meets its contract: an aborted point is an abort, any other the next position.
 -- Assumes nothing.
 use mathlib.Core.Path.{_≡_, refl, sym, ap, _∙_}
-use Rattle.party.specs.Position.{holding}
-use Rattle.party.specs.Code.{answerOf, leadsTo, leadsBy, pointOf, stageOf, positionOf}
+use Rattle.steps.specs.Position.{holding}
+use Rattle.steps.specs.Code.{pointOf, stageOf}
+use Rattle.party.specs.Code.{answerOf, leadsTo, leadsBy, positionOf}
 use borrow.Author.Needs.{needs}
 use Rattle.party.proofs.outcome_of.Statement.{statement}
 use Rattle.party.proofs.outcome_of.Tie as tie

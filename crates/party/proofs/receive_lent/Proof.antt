@@ -2,8 +2,9 @@
 -- Assumes nothing.
 use mathlib.Core.Path.{_≡_, refl, sym, ap, _∙_}
 use borrow.Author.Tests.{not-true, not-false}
-use Rattle.party.specs.Position.{whenReceiving}
-use Rattle.party.specs.Code.{answerOf, positionOf, stageOf}
+use Rattle.steps.specs.Position.{whenReceiving}
+use Rattle.steps.specs.Code.{stageOf}
+use Rattle.party.specs.Code.{answerOf, positionOf}
 use Rattle.party.proofs.Halves.{can-asks}
 use Rattle.party.proofs.Entries.{receive-nowhere, receive-not-receiving}
 use borrow.Author.Needs.{needs}

@@ -1,23 +1,24 @@
-use Rattle.party.specs.Code.{layoutOf}
+use Rattle.steps.specs.Code.{layoutOf}
 use Rattle.party.proofs.Halves.{few-parties, output-slot}
 -- `party::receive_round` meets its contract: what 15 and 19 to 21 accept, the step receives, and the point that follows tells the answer.
 -- Assumes nothing.
 use mathlib.Core.Path.{_≡_, refl, sym, ap, _∙_}
 use borrow.Author.Tests.{not-true, not-false}
 use Rattle.circuit.specs.Code.{verdictOf, roundOf}
-use Rattle.party.specs.Position.{whenSending, whenReceiving}
-use Rattle.party.specs.Code.{answerOf, lentOf, positionOf, stageOf}
-use Rattle.party.specs.Code.{slotOf}
+use Rattle.steps.specs.Position.{whenSending, whenReceiving}
+use Rattle.steps.specs.Code.{stageOf}
+use Rattle.steps.specs.Code.{slotOf}
+use Rattle.party.specs.Code.{answerOf, lentOf, positionOf}
 use Rattle.party.proofs.Halves.{round-asks, half-receives, received-refused, received-done}
 use borrow.Author.Needs.{needs}
+use Rattle.steps.proofs.receiving.receive_step.Reads as receive-step-reads
+use Rattle.steps.proofs.scratch.read_slot.Reads as read-slot-reads
 use Rattle.party.proofs.receive_round.Statement.{statement}
 use Rattle.party.proofs.receive_round.Tie as tie
 use Rattle.party.proofs.receive_round.Reads as reads
 use Rattle.party.proofs.receive_round.Lts as lts
 use Rattle.party.proofs.asking.ask_receive_round.Reads as ask-receive-round-reads
 use Rattle.party.proofs.outcome_of.Reads as outcome-of-reads
-use Rattle.party.proofs.receiving.receive_step.Reads as receive-step-reads
-use Rattle.party.proofs.scratch.read_slot.Reads as read-slot-reads
 
 -- src/lib.rt:252:11
 ask-receive-round-requires : tie.Need-ask-receive-round-requires

@@ -2,8 +2,9 @@
 -- Assumes nothing.
 use mathlib.Core.Path.{_≡_, refl, sym, ap, _∙_}
 use borrow.Author.Tests.{not-true, not-false}
-use Rattle.party.specs.Position.{whenSending}
-use Rattle.party.specs.Code.{answerOf, positionOf, stageOf}
+use Rattle.steps.specs.Position.{whenSending}
+use Rattle.steps.specs.Code.{stageOf}
+use Rattle.party.specs.Code.{answerOf, positionOf}
 use Rattle.party.proofs.Halves.{can-asks}
 use Rattle.party.proofs.Entries.{send-nowhere, send-not-sending}
 use borrow.Author.Needs.{needs}

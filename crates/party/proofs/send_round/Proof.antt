@@ -3,16 +3,17 @@
 use mathlib.Core.Path.{_≡_, refl, sym, ap, _∙_}
 use borrow.Author.Tests.{not-true, not-false}
 use Rattle.circuit.specs.Code.{verdictOf, roundOf}
-use Rattle.party.specs.Position.{whenSending, whenReceiving}
-use Rattle.party.specs.Code.{answerOf, lentOf, positionOf, stageOf}
+use Rattle.steps.specs.Position.{whenSending, whenReceiving}
+use Rattle.steps.specs.Code.{stageOf}
+use Rattle.party.specs.Code.{answerOf, lentOf, positionOf}
 use Rattle.party.proofs.Halves.{round-asks, half-sends, sent-refused, sent-done}
 use borrow.Author.Needs.{needs}
+use Rattle.steps.proofs.sending.send_step.Reads as send-step-reads
 use Rattle.party.proofs.send_round.Statement.{statement}
 use Rattle.party.proofs.send_round.Tie as tie
 use Rattle.party.proofs.send_round.Reads as reads
 use Rattle.party.proofs.send_round.Lts as lts
 use Rattle.party.proofs.asking.ask_send_round.Reads as ask-send-round-reads
-use Rattle.party.proofs.sending.send_step.Reads as send-step-reads
 
 -- src/lib.rt:173:11
 ask-send-round-requires : tie.Need-ask-send-round-requires

@@ -8,9 +8,9 @@ use Rattle.field.specs.Prime.{prime}
 use Rattle.circuit.specs.Gate.{first, second}
 use Rattle.circuit.specs.Round.{CommitOpened, RevealOpened, CommitOutput, RevealOutput, isReveal}
 use Rattle.circuit.specs.Code.{roundOf}
-use Rattle.party.specs.Receive.{received}
-use Rattle.party.proofs.Following.{passes-zero, passes-not}
-use Rattle.party.proofs.HeardWords.{first-asks, second-asks, first-found, second-found, revealed-output}
+use Rattle.steps.specs.Receive.{received}
+use Rattle.steps.proofs.Following.{passes-zero, passes-not}
+use Rattle.steps.proofs.HeardWords.{first-asks, second-asks, first-found, second-found, revealed-output}
 use Rattle.joint.specs.Code.{stateOf}
 use Rattle.joint.proofs.Rows.{all-hear, all-reach, all-stand}
 use Rattle.joint.proofs.ReceiveTurns.{inputs-ask, inputs-settle, inputs-received, products-ask, products-settle, products-received, outputs-ask, outputs-received, reveal-settles, reveal-received, left-alone, aborted-left}

@@ -1,7 +1,7 @@
 -- `joint::rounds::ending` meets its contract. One answer for each stage.
 -- Assumes nothing.
 use borrow.Author.Needs.{needs}
-use Rattle.party.specs.Code.{stageOf}
+use Rattle.steps.specs.Code.{stageOf}
 use Rattle.joint.specs.Code.{jointAnswerOf}
 use Rattle.joint.specs.Entry.{ended}
 use Rattle.joint.proofs.rounds.ending.Statement.{statement}

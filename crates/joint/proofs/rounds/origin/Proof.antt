@@ -3,7 +3,7 @@
 use mathlib.Core.Path.{refl}
 use borrow.Author.Needs.{needs}
 use Rattle.circuit.specs.Code.{roundOf}
-use Rattle.party.specs.Code.{pointOf, stageOf}
+use Rattle.steps.specs.Code.{pointOf, stageOf}
 use Rattle.party.specs.Ask.{mostParties}
 use Rattle.joint.proofs.Arrays.{zeros}
 use Rattle.joint.proofs.rounds.origin.Statement.{statement}

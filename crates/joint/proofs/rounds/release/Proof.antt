@@ -5,7 +5,7 @@ use native.Mathlib.Omega.{arith}
 use lib.Seq.{length-take-le}
 use borrow.Author.Needs.{needs}
 use Rattle.circuit.proofs.Verdicts.{said-yes}
-use Rattle.party.specs.Code.{slotOf}
+use Rattle.steps.specs.Code.{slotOf}
 use Rattle.joint.proofs.Releasing.{entry-read, entry-zero, freed-none, freed-stopped, freed-one}
 use Rattle.joint.proofs.rounds.release.Statement.{statement}
 use Rattle.joint.proofs.rounds.release.Tie as tie

@@ -5,8 +5,8 @@ use mathlib.Core.Path.{refl}
 use native.Mathlib.Omega.{arith}
 use denote.Ref.{now}
 use Rattle.field.specs.Prime.{prime}
-use Rattle.party.specs.Send.{checkShare}
-use Rattle.party.specs.Code.{layoutOf}
+use Rattle.steps.specs.Send.{checkShare}
+use Rattle.steps.specs.Code.{layoutOf}
 use Rattle.joint.specs.Joint.{band}
 use Rattle.joint.specs.Code.{part, keyIn}
 use Rattle.joint.proofs.Said.{below-part}

@@ -5,7 +5,7 @@ use mathlib.Core.Path.{refl}
 use native.Mathlib.Omega.{arith}
 use lib.ListN.{getD}
 use Rattle.field.specs.Prime.{prime}
-use Rattle.party.specs.Send.{inputWord}
+use Rattle.steps.specs.Send.{inputWord}
 use Rattle.joint.specs.Code.{prepFrom}
 use Rattle.joint.proofs.Cutting.{prep-end, cut-is, cut-long, cut-low}
 use Rattle.joint.proofs.Gathering.{Gathered, gathered-none, gathered-more, gathered-all}

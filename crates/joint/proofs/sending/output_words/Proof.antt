@@ -3,8 +3,8 @@
 use Prim.Native.Nat.{_-_}
 use mathlib.Core.Path.{refl}
 use native.Mathlib.Omega.{arith}
-use Rattle.party.specs.Scratch.{wire}
-use Rattle.party.specs.Code.{layoutOf}
+use Rattle.steps.specs.Scratch.{wire}
+use Rattle.steps.specs.Code.{layoutOf}
 use Rattle.joint.specs.Joint.{band}
 use Rattle.joint.proofs.Cutting.{band-fits, band-is, band-room}
 use Rattle.joint.proofs.SendTurns.{share-of}

@@ -8,7 +8,7 @@ use borrow.Author.Needs.{needs}
 use Rattle.circuit.specs.Gate.{first, second}
 use Rattle.circuit.specs.Round.{isCommit, words, openedIn}
 use Rattle.circuit.specs.Code.{roundOf}
-use Rattle.party.specs.Send.{mark, sent}
+use Rattle.steps.specs.Send.{mark, sent}
 use Rattle.joint.specs.Code.{stateOf}
 use Rattle.joint.proofs.SendTurns.{put-asks, held-none, check-asks, held-made, input-asks, input-one, said-input, multiply-asks, said-multiply, output-asks, output-one, said-output, said-by}
 use Rattle.joint.proofs.sending.send_all.Statement.{statement}

@@ -6,8 +6,9 @@ use mathlib.Core.Path.{_≡_, refl, sym, ap, _∙_}
 use native.Mathlib.Omega.{arith}
 use Rattle.circuit.specs.Count.{prepSize, inputCount}
 use Rattle.circuit.specs.Code.{verdictOf}
-use Rattle.party.specs.Scratch as S
-use Rattle.party.specs.Code.{lentOf, layoutOf}
+use Rattle.steps.specs.Scratch as S
+use Rattle.steps.specs.Code.{layoutOf}
+use Rattle.party.specs.Code.{lentOf}
 use Rattle.party.proofs.Loops.{call-then, refused-then}
 use Rattle.party.proofs.Lending.{setting-valid, lent-split, lists-are, gates-are, layout-is, capacity-low, site-is}
 use borrow.Author.Needs.{needs}
@@ -17,10 +18,10 @@ use Rattle.party.proofs.asking.ask_lent.Reads as reads
 use Rattle.party.proofs.asking.ask_lent.Lts as lts
 use Rattle.circuit.proofs.no_tally.Reads as no-tally-reads
 use Rattle.circuit.proofs.tally_between.Reads as tally-between-reads
+use Rattle.steps.proofs.scratch.size_of.Reads as size-of-reads
 use Rattle.party.proofs.asking.ask_lists.Reads as ask-lists-reads
 use Rattle.party.proofs.asking.ask_setting.Reads as ask-setting-reads
 use Rattle.party.proofs.asking.least.Reads as least-reads
-use Rattle.party.proofs.scratch.size_of.Reads as size-of-reads
 
 -- src/asking.rt:311:11
 ask-setting-requires : tie.Need-ask-setting-requires

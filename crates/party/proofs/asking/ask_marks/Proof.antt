@@ -8,7 +8,7 @@ use lib.ListN.{length, getD}
 use lib.Dec.{eqb}
 use Rattle.circuit.specs.Verdict.{ask}
 use Rattle.circuit.specs.Code.{verdictOf}
-use Rattle.party.specs.Send.{mark}
+use Rattle.steps.specs.Send.{mark}
 use Rattle.circuit.proofs.Verdicts.{ask-yes, ask-no}
 use Rattle.party.proofs.Loops.{Asking, asking-starts, asking-goes-on, asking-refuses, asking-ends}
 use Rattle.party.proofs.asking.ask_marks.Statement.{statement}

@@ -3,18 +3,18 @@
 use mathlib.Core.Path.{sym, ap₂, _∙_}
 use native.Mathlib.Omega.{arith}
 use Rattle.circuit.specs.Code.{verdictOf}
-use Rattle.party.specs.Scratch.{offset, read}
+use Rattle.steps.specs.Scratch.{offset, read}
 use Rattle.party.specs.Code.{sortOf}
-use Rattle.party.proofs.Slots.{slot-fits}
+use Rattle.steps.proofs.Slots.{slot-fits}
 use Rattle.party.proofs.SlotQuestions.{unwanted, fine, too-large}
 use borrow.Author.Needs.{needs}
+use Rattle.steps.proofs.scratch.offset_of.Reads as offset-of-reads
 use Rattle.party.proofs.asking.ask_slot.Statement.{statement}
 use Rattle.party.proofs.asking.ask_slot.Tie as tie
 use Rattle.party.proofs.asking.ask_slot.Reads as reads
 use Rattle.party.proofs.asking.ask_slot.Lts as lts
 use Rattle.party.proofs.asking.is_wanted.Reads as is-wanted-reads
 use Rattle.party.proofs.asking.slot_at.Reads as slot-at-reads
-use Rattle.party.proofs.scratch.offset_of.Reads as offset-of-reads
 
 slot-at-requires : tie.Need-slot-at-requires
 slot-at-requires c κs = search needs

@@ -5,7 +5,7 @@ use mathlib.Core.Path.{_≡_, sym, ap, _∙_}
 use native.Mathlib.Omega.{arith}
 use Rattle.circuit.specs.Round.{openedIn}
 use Rattle.circuit.specs.Code.{verdictOf, roundOf}
-use Rattle.party.specs.Scratch.{layout}
+use Rattle.steps.specs.Scratch.{layout}
 use Rattle.party.specs.Ask.{askSlots, askWorked}
 use Rattle.party.specs.Code.{sortOf, wantedOf}
 use Rattle.party.proofs.Loops.{call-then, refused-then}

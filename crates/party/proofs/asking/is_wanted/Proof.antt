@@ -3,7 +3,7 @@
 use mathlib.Core.Path.{_∙_, ap}
 use native.Mathlib.Omega.{arith}
 use Rattle.circuit.specs.Kind.{hasValue}
-use Rattle.party.specs.Scratch.{layout}
+use Rattle.steps.specs.Scratch.{layout}
 use Rattle.party.specs.Code.{wantedOf, sortOf}
 use borrow.Author.Needs.{needs}
 use Rattle.party.proofs.asking.is_wanted.Statement.{statement}

@@ -1,8 +1,8 @@
 -- `party::asking::may_hold` meets its contract, stage by stage.
 -- Assumes nothing.
 use mathlib.Core.Path.{_∙_}
-use Rattle.party.specs.Position.{mayHold}
-use Rattle.party.specs.Code.{stageOf}
+use Rattle.steps.specs.Position.{mayHold}
+use Rattle.steps.specs.Code.{stageOf}
 use borrow.Author.Needs.{needs}
 use Rattle.party.proofs.asking.may_hold.Statement.{statement}
 use Rattle.party.proofs.asking.may_hold.Tie as tie

@@ -1,6 +1,7 @@
 -- `party::asking::slot_at` meets its contract, sort by sort.
 -- Assumes nothing.
-use Rattle.party.specs.Code.{sortOf, slotOf}
+use Rattle.steps.specs.Code.{slotOf}
+use Rattle.party.specs.Code.{sortOf}
 use borrow.Author.Needs.{needs}
 use Rattle.party.proofs.asking.slot_at.Statement.{statement}
 use Rattle.party.proofs.asking.slot_at.Tie as tie

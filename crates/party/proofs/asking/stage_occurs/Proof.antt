@@ -3,8 +3,8 @@ use Rattle.party.proofs.Occurring.{round-occurs, last-occurs}
 use mathlib.Core.Path.{refl}
 -- `party::asking::stage_occurs` meets its contract, stage by stage.
 -- Assumes nothing.
-use Rattle.party.specs.Position.{stageOccurs}
-use Rattle.party.specs.Code.{stageOf}
+use Rattle.steps.specs.Position.{stageOccurs}
+use Rattle.steps.specs.Code.{stageOf}
 use borrow.Author.Needs.{needs}
 use Rattle.party.proofs.asking.stage_occurs.Statement.{statement}
 use Rattle.party.proofs.asking.stage_occurs.Tie as tie

@@ -1,0 +1,195 @@
+-- The linear gates after a gate: what they ask, what they keep, and how the loop over them goes on.
+-- Assumes nothing.
+use Prim.Native.Nat.{ℕ, zero, suc, _+_, _-_, _<_, _≤_}
+use mathlib.Core.Path.{_≡_, refl, sym, _∙_}
+use mathlib.Core.Bool.{Bool, true, false, cond}
+use mathlib.Core.List.{List}
+use native.Mathlib.Omega.{arith}
+use native.Mathlib.Numerals.{add-one}
+use lib.ListN.{length}
+use Rattle.field.specs.Prime.{p, prime}
+use Rattle.circuit.specs.Gate.{Gate, In, Add, Sub, Plus, Times, Mul, Out, gate}
+use Rattle.circuit.specs.Kind.{isLinear}
+use Rattle.circuit.specs.Valid.{Names}
+use Rattle.circuit.proofs.Tests.{false-no}
+use Rattle.steps.specs.Part.{Part}
+use Rattle.steps.specs.Scratch.{Layout, scratchSize, putWire}
+use Rattle.steps.specs.Position.{reach}
+use Rattle.steps.specs.Receive.{afterLinear, settle}
+use Rattle.steps.specs.Code.{Reads, Worked, Settles}
+use Rattle.steps.proofs.Slots.{length-put}
+use Rattle.steps.proofs.Writing.{Elements, OpenedTo, worked-put, opened-put, plus-elements, minus-elements, scale-elements, shift-elements}
+
+-- a wire of elements is written at gate j
+pub record Written (y : Layout) (l : List ℕ) (j : ℕ) (l′ : List ℕ) : Type 0 where
+  pub part : Part
+  pub low : Elements part
+  pub is : l′ ≡ putWire y l j part
+
+-- what a linear gate leaves
+pub linear-written : (i key : ℕ) (y : Layout) (l : List ℕ) (j : ℕ) (g : Gate)
+    → isLinear g ≡ true
+    → Written y l j (afterLinear prime i key y l j g)
+unfolding afterLinear isLinear
+linear-written i key y l j (In s) e = false-no e
+linear-written i key y l j (Add x z) e = record { part = _; low = plus-elements _ _; is = refl }
+linear-written i key y l j (Sub x z) e = record { part = _; low = minus-elements _ _; is = refl }
+linear-written i key y l j (Plus x k) e = record { part = _; low = shift-elements _ _ _ _; is = refl }
+linear-written i key y l j (Times x k) e = record { part = _; low = scale-elements _ _; is = refl }
+linear-written i key y l j (Mul x z) e = false-no e
+linear-written i key y l j (Out x) e = false-no e
+
+-- what a gate names can be read
+pub reads : (n : ℕ) (c : List ℕ) (y : Layout) (l : List ℕ) (j : ℕ) (g : Gate) → Names n p c j g → Worked c y l j → Reads y l g
+reads n c y l j (In s) m w = tt
+reads n c y l j (Add x z) m w = (w x (m .0 .earlier) (m .0 .valued), w z (m .1 .earlier) (m .1 .valued))
+reads n c y l j (Sub x z) m w = (w x (m .0 .earlier) (m .0 .valued), w z (m .1 .earlier) (m .1 .valued))
+reads n c y l j (Plus x k) m w = (w x (m .0 .earlier) (m .0 .valued), m .1)
+reads n c y l j (Times x k) m w = (w x (m .0 .earlier) (m .0 .valued), m .1)
+reads n c y l j (Mul x z) m w = tt
+reads n c y l j (Out x) m w = tt
+
+module _ (c : List ℕ) (y : Layout) where
+  -- what a gate or several leave: as many numbers, what was worked out and the first u opened entries
+  pub record Keeps (u : ℕ) (l₀ : List ℕ) (j : ℕ) (l : List ℕ) : Type 0 where
+    pub len : length l ≡ length l₀
+    pub worked : Worked c y l j
+    pub opened : OpenedTo y l u
+
+  pub written-keeps : (u : ℕ) (l : List ℕ) (j : ℕ) (l′ : List ℕ)
+      → Written y l j l′
+      → scratchSize y ≤ length l
+      → j < y .gates
+      → Worked c y l j
+      → OpenedTo y l u
+      → Keeps u l (suc j) l′
+  written-keeps u l j l′ w room h k o =
+      rw (w .is)
+      (record {
+        len = length-put y l j (w .part);
+        worked = worked-put y l j (w .part) room h (w .low) c k;
+        opened = opened-put y l j (w .part) h u o;
+      })
+
+-- a stop is no earlier gate, and what lies before it is linear
+at-stop : (c : List ℕ) (left j : ℕ) → j ≤ reach c left j
+unfolding reach
+at-stop c zero j = omega arith
+at-stop c (suc left) j = go (isLinear (gate c j)) (at-stop c left (suc j))
+  where
+    go : (b : Bool) → suc j ≤ reach c left (suc j) → j ≤ cond b (reach c left (suc j)) j
+    go true h = omega arith
+    go false h = omega arith
+
+before-stop : (c : List ℕ) (left j : ℕ) → j < reach c left j → (0 < left) × (isLinear (gate c j) ≡ true)
+unfolding reach
+before-stop c zero j h = absurd (omega arith)
+before-stop c (suc left) j h = (omega arith, go (isLinear (gate c j)) refl h)
+  where
+    go : (b : Bool) → isLinear (gate c j) ≡ b → j < cond b (reach c left (suc j)) j → isLinear (gate c j) ≡ true
+    go true e l = e
+    go false e l = absurd (omega arith)
+
+-- the linear gates began at gate b of the first n, and gate j is next
+pub record Reaching (c : List ℕ) (n b j : ℕ) : Type 0 where
+  pub upto : j ≤ n
+  pub place : reach c (n - b) b ≡ reach c (n - j) j
+
+module _ (c : List ℕ) (n b : ℕ) where
+  pub reaching-start : b ≤ n → Reaching c n b b
+  reaching-start h = record { upto = h; place = refl }
+
+  module _ (j : ℕ) (inv : Reaching c n b j) where
+    remain : j < n → n - j ≡ suc (n - (j + 1))
+    remain h = omega arith
+
+    pub reaching-again : j < n → isLinear (gate c j) ≡ true → Reaching c n b (j + 1)
+    unfolding reach
+    reaching-again h e = record { upto = omega arith; place = inv .place ∙ rw (remain h, e, add-one) }
+
+    pub reaching-stop : j < n → isLinear (gate c j) ≡ false → j ≡ reach c (n - b) b
+    unfolding reach
+    reaching-stop h e = rw (inv .place, remain h, e)
+
+    pub reaching-done : n ≤ j → j ≡ reach c (n - b) b
+    unfolding reach
+    reaching-done h = let z : n - j ≡ 0 = omega arith in rw (inv .place, z)
+
+    -- the gates before the stop are linear
+    pub reaching-linear : j < reach c (n - b) b → (j < n) × (isLinear (gate c j) ≡ true)
+    reaching-linear h = let k = before-stop c (n - j) j (omega (arith, h, inv .place)) in (omega (arith, k .0), k .1)
+
+module _ (c : List ℕ) (y : Layout) (i key : ℕ) where
+  -- the linear gates keep what was worked out and opened
+  pub settle-keeps : (u left j : ℕ) (l : List ℕ)
+      → j + left ≤ y .gates
+      → scratchSize y ≤ length l
+      → Worked c y l j
+      → OpenedTo y l u
+      → Keeps c y u l (reach c left j) (settle prime i key c y left j l)
+  unfolding settle reach
+  settle-keeps u zero j l e room w o = record { len = refl; worked = w; opened = o }
+  settle-keeps u (suc left) j l e room w o =
+      go (isLinear (gate c j)) refl (settle-keeps u left (suc j) (afterLinear prime i key y l j (gate c j)))
+    where
+      l′ : List ℕ
+      l′ = afterLinear prime i key y l j (gate c j)
+
+      go : (b : Bool)
+          → isLinear (gate c j) ≡ b
+          → (suc j + left ≤ y .gates → scratchSize y ≤ length l′ → Worked c y l′ (suc j) → OpenedTo y l′ u → Keeps c y u l′ (reach c left (suc j)) (settle prime i key c y left (suc j) l′))
+          → Keeps c y u l (cond b (reach c left (suc j)) j) (cond b (settle prime i key c y left (suc j) l′) l)
+      go true q ih =
+          let k = written-keeps c y u l j l′ (linear-written i key y l j (gate c j) q) room (omega arith) w o in
+          let r = ih (omega arith) (rw (k .len) room) (k .worked) (k .opened) in
+          record { len = r .len ∙ k .len; worked = r .worked; opened = r .opened }
+      go false q ih = record { len = refl; worked = w; opened = o }
+
+  -- at the stop nothing is left to do
+  pub settle-none : (left j : ℕ) (l : List ℕ) → reach c left j ≤ j → settle prime i key c y left j l ≡ l
+  unfolding settle reach
+  settle-none zero j l h = refl
+  settle-none (suc left) j l h = go (isLinear (gate c j)) h
+    where
+      go : (b : Bool) → cond b (reach c left (suc j)) j ≤ j → cond b (settle prime i key c y left (suc j) (afterLinear prime i key y l j (gate c j))) l ≡ l
+      go true h = absurd (omega (arith, h, at-stop c left (suc j)))
+      go false h = refl
+
+  -- the linear gates began at gate b with the scratch l₀, and gate j is next with the scratch l
+  pub record Settling (b : ℕ) (l₀ : List ℕ) (j : ℕ) (l : List ℕ) : Type 0 where
+    pub upto : j ≤ y .gates
+    pub len : length l ≡ length l₀
+    pub worked : Worked c y l j
+    pub same : settle prime i key c y (y .gates - b) b l₀ ≡ settle prime i key c y (y .gates - j) j l
+
+  module _ (b : ℕ) (l₀ : List ℕ) where
+    pub settling-start : Settles c y key l₀ b → Settling b l₀ b l₀
+    settling-start s = record { upto = s .upto; len = refl; worked = s .worked; same = refl }
+
+    module _ (j : ℕ) (l : List ℕ) (inv : Settling b l₀ j l) where
+      left : j < y .gates → y .gates - j ≡ suc (y .gates - (j + 1))
+      left h = omega arith
+
+      -- gate j can be read off the circuit, and what it reads off the scratch
+      pub settling-asks : Settles c y key l₀ b → j < y .gates → {g : Gate} → g ≡ gate c j → (scratchSize y ≤ length l) × Reads y l g
+      settling-asks s h e =
+          (rw (inv .len) (s .room), rw e (reads (s .parties) c y l j (gate c j) (s .valid .each j (omega (arith, s .count)) .names) (inv .worked)))
+
+      pub settling-again : scratchSize y ≤ length l₀
+          → j < y .gates
+          → isLinear (gate c j) ≡ true
+          → {l′ : List ℕ}
+          → l′ ≡ afterLinear prime i key y l j (gate c j)
+          → Settling b l₀ (j + 1) l′
+      unfolding settle
+      settling-again room h e f =
+          let k = written-keeps c y 0 l j _ (linear-written i key y l j (gate c j) e) (rw (inv .len) room) h (inv .worked) (λ t z. absurd (omega arith)) in
+          record {
+            upto = omega arith;
+            len = rw f (k .len ∙ inv .len);
+            worked = rw (add-one, f) (k .worked);
+            same = inv .same ∙ rw (left h, e, f, add-one);
+          }
+
+      pub settling-end : Reaching c (y .gates) b j → reach c (y .gates - b) b ≤ j → l ≡ settle prime i key c y (y .gates - b) b l₀
+      settling-end r h = rw (inv .same) (sym (settle-none (y .gates - j) j l (omega (arith, h, r .place))))

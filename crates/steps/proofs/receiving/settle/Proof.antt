@@ -1,0 +1,63 @@
+-- `party::receiving::settle` meets its contract: what is left to do from gate j on is what was left from the first gate on, and the gates before the stop are linear.
+-- Assumes nothing.
+use Prim.Native.Nat.{_-_}
+use native.Mathlib.Omega.{arith}
+use Rattle.steps.specs.Code.{layoutOf}
+use Rattle.steps.proofs.Settling.{Settling, Reaching, settling-start, settling-asks, settling-again, settling-end, reaching-start, reaching-linear, reaching-again}
+use Rattle.steps.proofs.receiving.settle.Statement.{statement}
+use Rattle.steps.proofs.receiving.settle.Tie as tie
+
+abbrev Inv-loop : tie.InvT-loop
+Inv-loop me key c y l₀ from stop j₀ l j = Settling c (layoutOf y) me key from l₀ j l × Reaching c (y .gates) from j
+
+abbrev μ-loop : tie.MeasureT-loop
+μ-loop me key c y l₀ from stop j₀ l j = stop - j
+
+loop-holds : tie.Need-loop-holds Inv-loop μ-loop
+unfolding layoutOf
+loop-holds c = (settling-start _ _ _ _ _ _ (c .before .before .pre .0), reaching-start _ _ _ (c .before .before .pre .0 .upto))
+
+gate-at-requires : tie.Need-gate-at-requires Inv-loop μ-loop
+unfolding layoutOf
+gate-at-requires c κs = let k = reaching-linear _ _ _ _ (c .before .before .loop .inv .1) (omega (arith, c .before .before .before .before .before .pre .1, c .before .loop-test .taken)) in omega (arith, k .0, c .before .before .before .before .before .pre .0 .valid .whole, c .before .before .before .before .before .pre .0 .count)
+
+after-linear-requires : tie.Need-after-linear-requires Inv-loop μ-loop
+unfolding layoutOf
+after-linear-requires c κs =
+    let k = reaching-linear _ _ _ _ (c .before .before .before .loop .inv .1) (omega (arith, c .before .before .before .before .before .before .pre .1, c .before .before .loop-test .taken)) in
+    let a = settling-asks _ _ _ _ _ _ _ _ (c .before .before .before .loop .inv .0) (c .before .before .before .before .before .before .pre .0) (k .0) (c .gate-at .ensures) in
+    (c .before .before .before .before .before .before .pre .0 .key-low, a .0, k .0, a .1)
+
+add-j : tie.Need-add-j Inv-loop μ-loop
+add-j c = omega (arith, c .before .before .before .before .before .loop-test .taken)
+
+loop-less : tie.Need-loop-less Inv-loop μ-loop
+loop-less c = omega (arith, c .before .before .before .before .before .loop-test .taken)
+
+loop-again : tie.Need-loop-again Inv-loop μ-loop
+unfolding layoutOf
+loop-again c =
+    let k = reaching-linear _ _ _ _ (c .before .before .before .before .before .before .loop .inv .1) (omega (arith, c .before .before .before .before .before .before .before .before .before .pre .1, c .before .before .before .before .before .loop-test .taken)) in
+    (settling-again _ _ _ _ _ _ _ _ (c .before .before .before .before .before .before .loop .inv .0) (c .before .before .before .before .before .before .before .before .before .pre .0 .room) (k .0) (k .1) (rw (c .before .before .before .gate-at .ensures) at (c .before .before .after-linear .ensures)), reaching-again _ _ _ _ (c .before .before .before .before .before .before .loop .inv .1) (k .0) (k .1))
+
+same-length : tie.Need-same-length Inv-loop μ-loop
+same-length c = c .before .loop .inv .0 .len
+
+returns : tie.Need-returns Inv-loop μ-loop
+unfolding layoutOf
+returns c = settling-end _ _ _ _ _ _ _ _ (c .before .loop .inv .0) (c .before .loop .inv .1) (omega (arith, c .before .before .before .before .pre .1, c .loop-test .left))
+
+pub settle-spec : {M : Type 1} → statement M
+settle-spec =
+    tie.close
+    (tie.spec
+    Inv-loop
+    μ-loop
+    loop-holds
+    gate-at-requires
+    after-linear-requires
+    add-j
+    loop-less
+    loop-again
+    same-length
+    returns)

@@ -1,0 +1,27 @@
+-- `party::scratch::put_opened` meets its contract: it writes the two slots of the entry.
+-- Assumes nothing.
+use native.Mathlib.Omega.{arith}
+use Rattle.steps.specs.Scratch.{putOpened}
+use Rattle.steps.specs.Code.{layoutOf, slotOf}
+use borrow.Author.Needs.{needs}
+use Rattle.steps.proofs.scratch.put_opened.Statement.{statement}
+use Rattle.steps.proofs.scratch.put_opened.Tie as tie
+
+write-slot-requires : tie.Need-write-slot-requires
+unfolding slotOf layoutOf
+write-slot-requires c κs = (c .before .before .pre .0, c .before .before .pre .1)
+
+write-slot-requires-2 : tie.Need-write-slot-requires-2
+unfolding slotOf layoutOf
+write-slot-requires-2 c κs = (omega arith, c .before .before .before .before .before .before .pre .1)
+
+same-length : tie.Need-same-length
+same-length c = search needs
+
+returns : tie.Need-returns
+unfolding putOpened slotOf
+returns c = cc
+
+pub put-opened-spec : {M : Type 1} → statement M
+put-opened-spec =
+    tie.close (tie.spec write-slot-requires write-slot-requires-2 same-length returns)

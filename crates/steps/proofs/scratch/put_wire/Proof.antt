@@ -1,0 +1,26 @@
+-- `party::scratch::put_wire` meets its contract: it writes the two slots of the gate.
+-- Assumes nothing.
+use native.Mathlib.Omega.{arith}
+use Rattle.steps.specs.Scratch.{putWire}
+use Rattle.steps.specs.Code.{partOf, layoutOf, slotOf}
+use borrow.Author.Needs.{needs}
+use Rattle.steps.proofs.scratch.put_wire.Statement.{statement}
+use Rattle.steps.proofs.scratch.put_wire.Tie as tie
+
+write-slot-requires : tie.Need-write-slot-requires
+unfolding slotOf layoutOf
+write-slot-requires c κs = (c .before .before .pre .0, c .before .before .pre .1)
+
+write-slot-requires-2 : tie.Need-write-slot-requires-2
+unfolding slotOf layoutOf
+write-slot-requires-2 c κs = (omega arith, c .before .before .before .before .before .before .pre .1)
+
+same-length : tie.Need-same-length
+same-length c = search needs
+
+returns : tie.Need-returns
+unfolding putWire partOf slotOf
+returns c = cc
+
+pub put-wire-spec : {M : Type 1} → statement M
+put-wire-spec = tie.close (tie.spec write-slot-requires write-slot-requires-2 same-length returns)

@@ -1,0 +1,28 @@
+-- `party::scratch::write_slot` meets its contract: the slot's offset is below the scratch's size.
+-- Assumes nothing.
+use native.Mathlib.Omega.{arith}
+use Rattle.steps.specs.Scratch.{write}
+use Rattle.steps.specs.Code.{slotOf}
+use Rattle.steps.proofs.Slots.{slot-fits}
+use borrow.Author.Needs.{needs}
+use Rattle.steps.proofs.scratch.write_slot.Statement.{statement}
+use Rattle.steps.proofs.scratch.write_slot.Tie as tie
+
+offset-of-requires : tie.Need-offset-of-requires
+offset-of-requires c κs = search needs
+
+mul-l : tie.Need-mul-l
+mul-l c = omega (arith, slot-fits _ (slotOf (c .before .before .args .s)) (c .before .before .pre .0) (c .before .before .pre .1), c .offset-of .ensures, c .before .before .good)
+
+slice-write-l : tie.Need-slice-write-l
+slice-write-l c = rw (c .offset-of .ensures) (slot-fits _ (slotOf (c .before .before .args .s)) (c .before .before .pre .0) (c .before .before .pre .1))
+
+same-length : tie.Need-same-length
+same-length c = search needs
+
+returns : tie.Need-returns
+unfolding write
+returns c = rw (c .offset-of .ensures)
+
+pub write-slot-spec : {M : Type 1} → statement M
+write-slot-spec = tie.close (tie.spec offset-of-requires mul-l slice-write-l same-length returns)

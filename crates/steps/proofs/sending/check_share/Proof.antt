@@ -1,0 +1,95 @@
+-- `party::sending::check_share` meets its contract: after t turns the two running sums stand for those of the first t entries.
+-- Assumes nothing.
+use Prim.Native.Nat.{_≤_, _-_}
+use mathlib.Core.Path.{ap}
+use native.Mathlib.Omega.{arith}
+use borrow.Author.Needs.{needs}
+use Rattle.field.specs.Prime.{mul}
+use Rattle.steps.specs.Scratch.{Value, ValueMac}
+use Rattle.steps.specs.Code.{layoutOf}
+use Rattle.steps.proofs.Summing.{Running, weighed, running-start, running-more, check-made}
+use Rattle.steps.proofs.sending.check_share.Statement.{statement}
+use Rattle.steps.proofs.sending.check_share.Tie as tie
+
+abbrev Inv-loop : tie.InvT-loop
+Inv-loop l y k key coefficients values₀ macs₀ t₀ values macs t = (t ≤ k) × Running (weighed (layoutOf y) l coefficients Value) t values × Running (weighed (layoutOf y) l coefficients ValueMac) t macs
+
+abbrev μ-loop : tie.MeasureT-loop
+μ-loop l y k key coefficients values₀ macs₀ t₀ values macs t = k - t
+
+loop-holds : tie.Need-loop-holds Inv-loop μ-loop
+loop-holds c = (omega arith, running-start _, running-start _)
+
+mul-w : tie.Need-mul-w Inv-loop μ-loop
+mul-w c = omega arith
+
+shared-slice-read-w : tie.Need-shared-slice-read-w Inv-loop μ-loop
+shared-slice-read-w c = omega arith
+
+opened-value-requires : tie.Need-opened-value-requires Inv-loop μ-loop
+opened-value-requires c κs = (c .before .before .before .before .before .pre .0, c .before .before .before .before .before .pre .4 _ (c .before .loop-test .taken))
+
+add-product-requires : tie.Need-add-product-requires Inv-loop μ-loop
+add-product-requires c κs = (c .before .before .before .loop .inv .1 .below, c .before .before .before .before .before .before .pre .3 _, c .opened-value .ensures .below)
+
+opened-mac-requires : tie.Need-opened-mac-requires Inv-loop μ-loop
+opened-mac-requires c κs = (c .before .before .before .before .before .before .before .pre .0, c .before .before .before .before .before .before .before .pre .4 _ (c .before .before .before .loop-test .taken))
+
+add-product-requires-2 : tie.Need-add-product-requires-2 Inv-loop μ-loop
+add-product-requires-2 c κs = (c .before .before .before .before .before .loop .inv .2 .below, c .before .before .before .before .before .before .before .before .pre .3 _, c .opened-mac .ensures .below)
+
+add-t : tie.Need-add-t Inv-loop μ-loop
+add-t c = omega arith
+
+loop-less : tie.Need-loop-less Inv-loop μ-loop
+loop-less c = omega arith
+
+loop-again : tie.Need-loop-again Inv-loop μ-loop
+loop-again c = (
+  omega arith,
+  running-more _ _ _ (c .before .before .before .before .before .before .loop .inv .1) (ap (mul _) (c .before .before .before .opened-value .ensures .is)) (c .before .before .add-product .ensures),
+  running-more _ _ _ (c .before .before .before .before .before .before .loop .inv .2) (ap (mul _) (c .before .opened-mac .ensures .is)) (c .add-product2 .ensures),
+)
+
+reduce-requires : tie.Need-reduce-requires Inv-loop μ-loop
+reduce-requires c κs = search needs
+
+reduce-requires-2 : tie.Need-reduce-requires-2 Inv-loop μ-loop
+reduce-requires-2 c κs = search needs
+
+mul-requires : tie.Need-mul-requires Inv-loop μ-loop
+mul-requires c κs = (c .before .before .before .before .before .before .pre .1, c .reduce2 .ensures .below)
+
+sub-requires : tie.Need-sub-requires Inv-loop μ-loop
+sub-requires c κs = (c .before .before .reduce .ensures .below, c .mul .ensures .below)
+
+returns : tie.Need-returns Inv-loop μ-loop
+returns c =
+    record {
+      is =
+          check-made _ _ _ _ _ (omega arith) (c .before .before .before .before .before .loop .inv .1) (c .before .before .before .before .before .loop .inv .2) (c .before .before .before .reduce .ensures .is) (c .before .before .reduce2 .ensures .is)
+          (c .before .mul .ensures .is) (c .sub .ensures .is);
+      below = c .sub .ensures .below;
+    }
+
+pub check-share-spec : {M : Type 1} → statement M
+check-share-spec =
+    tie.close
+    (tie.spec
+    Inv-loop
+    μ-loop
+    loop-holds
+    mul-w
+    shared-slice-read-w
+    opened-value-requires
+    add-product-requires
+    opened-mac-requires
+    add-product-requires-2
+    add-t
+    loop-less
+    loop-again
+    reduce-requires
+    reduce-requires-2
+    mul-requires
+    sub-requires
+    returns)
