@@ -604,7 +604,7 @@ pub fn no_tally() -> Tally
 }
 
 // The count of party i goes on by gate j.
-fn tally_gate(c: &[u32], i: usize, j: usize, t: Tally) -> Tally
+pub fn tally_gate(c: &[u32], i: usize, j: usize, t: Tally) -> Tally
     requires { ⌜ (gateSize * j + gateSize ≤ length (now c)) × (j < mostGates) × Tallied (now c) i j t ⌝ }
     ensures { λ r. ⌜ Tallied (now (c .entry)) i (j + 1) r ⌝ }
 {

@@ -21,7 +21,7 @@ use Rattle.circuit.proofs.Counts.{total-mono, input-more, input-le, in-count-le
 use Rattle.party.specs.Ask.{mostParties}
 use Rattle.steps.proofs.HeardWords.{owner-low}
 use Rattle.joint.specs.Joint.{inputsAt}
-use Rattle.joint.specs.Code.{Small, CountedOn, Placed}
+use Rattle.joint.specs.Code.{Small, Counted, CountedOn, Placed}
 use Rattle.joint.proofs.Inputs.{inputs-all, starts-suc, starts-mono}
 
 module _ {A : Type 0} (d : A) (P : ℕ → A → Type 0) (xs : List A) (i : ℕ) (x : A) where
@@ -39,53 +39,61 @@ zeros zero i = refl
 zeros (suc n) zero = refl
 zeros (suc n) (suc i) = zeros n i
 
-pub zeros-small : (n : ℕ) → Small n (replicate mostParties 0)
-zeros-small n = record { eight = refl; each = λ i h. rw (zeros mostParties i) (omega arith) }
-
 -- no party had an input before the first gate
 none-yet : (c : List ℕ) (i : ℕ) → inputAt c i 0 ≡ 0
 unfolding inputAt count total
 none-yet c i = refl
 
--- the inputs of parties are counted on: what gate j adds
-pub counted-first : {n : ℕ} {c : List ℕ} {a : ℕ} {before : List ℕ} → Small n before → CountedOn n c a a before before
-counted-first small = record { eight = small .eight; each = λ i h. refl }
-
-module _ {n : ℕ} {c : List ℕ} {a j : ℕ} {before counts : List ℕ} (k : CountedOn n c a j before counts) where
-  pub counted-upto : {to : ℕ} → j ≤ to → to ≤ j → CountedOn n c a to before counts
-  counted-upto {to} h g = let e : j ≡ to = omega arith in rw e at k
-
-  pub counted-other : isIn (gate c j) ≡ false → CountedOn n c a (j + 1) before counts
+-- what gate j adds to the numbers of parties
+module _ {n : ℕ} {c : List ℕ} {j : ℕ} {before : List ℕ} (k : Small n before) where
+  pub counted-other : isIn (gate c j) ≡ false → CountedOn n c j before before
   unfolding ownedBy
   counted-other e =
-      record { eight = k .eight; each = λ i h. let z : inputAt c i (j + 1) ≡ inputAt c i j + 0 = rw e at (input-more c i j) in omega (arith, z, k .each i h) }
+      record { eight = k .eight; each = λ i h. let z : inputAt c i (j + 1) ≡ inputAt c i j + 0 = rw e at (input-more c i j) in omega (arith, z) }
 
   module _ (v : Valid n p c) (few : n ≤ mostParties) (h : j < gates c) (e : isIn (gate c j) ≡ true) {s : ℕ} (es : s ≡ first (gate c j)) where
-    pub owner-party : s < n
+    owner-party : s < n
     owner-party = rw es (owner-low v h e)
 
-    pub owner-few : Small n before → getD counts s 0 ≤ 2 * mostGates
-    owner-few small = omega (arith, k .each s owner-party, small .each s owner-party, input-le c s j, v .few)
+    pub owner-there : s < length before
+    owner-there = omega (arith, k .eight, owner-party)
 
-    pub counted-in : CountedOn n c a (j + 1) before (set counts s (getD counts s 0 + 1))
+    pub owner-few : getD before s 0 ≤ mostGates
+    owner-few = k .each s owner-party
+
+    pub counted-in : CountedOn n c j before (set before s (getD before s 0 + 1))
     unfolding ownedBy
     counted-in =
         record {
-          eight = length-set counts s (getD counts s 0 + 1) ∙ k .eight;
+          eight = length-set before s (getD before s 0 + 1) ∙ k .eight;
           each = λ i l. go i l (ℕ-discrete i s);
         }
       where
         adds : (i : ℕ) → inputAt c i (j + 1) ≡ inputAt c i j + cond (eqb s i) 1 0
         adds i = rw es (rw e at (input-more c i j))
 
-        go : (i : ℕ) → i < n → Dec (i ≡ s) → getD (set counts s (getD counts s 0 + 1)) i 0 + inputAt c i a ≡ getD before i 0 + inputAt c i (j + 1)
+        go : (i : ℕ) → i < n → Dec (i ≡ s) → getD (set before s (getD before s 0 + 1)) i 0 + inputAt c i j ≡ getD before i 0 + inputAt c i (j + 1)
         go i l (yes d) =
             let z : inputAt c i (j + 1) ≡ inputAt c i j + 1 = rw (eq-eqb s i (sym d)) at (adds i) in
-            let w : getD (set counts s (getD counts s 0 + 1)) i 0 ≡ getD counts i 0 + 1 = rw d (getD-set-same counts s (getD counts s 0 + 1) 0 (omega (arith, k .eight, owner-party))) in
-            omega (arith, k .each i l, z, w)
+            let w : getD (set before s (getD before s 0 + 1)) i 0 ≡ getD before i 0 + 1 = rw d (getD-set-same before s (getD before s 0 + 1) 0 owner-there) in
+            omega (arith, z, w)
         go i l (no d) =
             let z : inputAt c i (j + 1) ≡ inputAt c i j + 0 = rw (ne-eqb s i (λ q. d (sym q))) at (adds i) in
-            omega (arith, k .each i l, z, getD-set-other counts s i (getD counts s 0 + 1) 0 d)
+            omega (arith, z, getD-set-other before s i (getD before s 0 + 1) 0 d)
+
+-- the inputs of parties, counted gate by gate
+pub counted-none : (n : ℕ) (c : List ℕ) → Counted n c 0 (replicate mostParties 0)
+counted-none n c = record { eight = refl; each = λ i h. zeros mostParties i ∙ sym (none-yet c i) }
+
+module _ {n : ℕ} {c : List ℕ} {j : ℕ} {counts : List ℕ} (k : Counted n c j counts) where
+  pub counted-small : j ≤ mostGates → Small n counts
+  counted-small h = record { eight = k .eight; each = λ i l. omega (arith, k .each i l, input-le c i j) }
+
+  pub counted-on : {later : List ℕ} → CountedOn n c j counts later → Counted n c (j + 1) later
+  counted-on d = record { eight = d .eight; each = λ i l. omega (arith, d .each i l, k .each i l) }
+
+  pub counted-upto : {to : ℕ} → j ≤ to → to ≤ j → Counted n c to counts
+  counted-upto {to} h g = let e : j ≡ to = omega arith in rw e at k
 
 -- where the inputs of parties start
 module _ (n : ℕ) (c : List ℕ) where
@@ -99,12 +107,12 @@ module _ (n : ℕ) (c : List ℕ) where
   unfolding inputsAt
   starting h = record { upto = omega arith; eight = h; place = refl; are = λ k l. absurd (omega arith) }
 
-  module _ (v : Valid n p c) {to : ℕ} (whole : to ≡ gates c) {counts : List ℕ} (d : CountedOn n c 0 to (replicate mostParties 0) counts)
+  module _ (v : Valid n p c) {to : ℕ} (whole : to ≡ gates c) {counts : List ℕ} (d : Counted n c to counts)
       {starts : List ℕ} {at i : ℕ} (inv : Starting starts at i) (h : i < n) where
     next-start : at + getD counts i 0 ≡ inputsAt c (i + 1)
     unfolding inputCount
     next-start =
-        omega (arith, inv .place, d .each i h, none-yet c i, zeros mostParties i, ap (inputAt c i) whole, starts-suc c i, ap (inputsAt c) (add-one i))
+        omega (arith, inv .place, d .each i h, ap (inputAt c i) whole, starts-suc c i, ap (inputsAt c) (add-one i))
 
     pub starting-small : at + getD counts i 0 ≤ mostGates
     starting-small = omega (arith, next-start, starts-mono c (i + 1) n (omega arith), inputs-all v, in-count-le c, v .few)
@@ -141,5 +149,5 @@ module _ {n : ℕ} {c : List ℕ} {j : ℕ} {places : List ℕ} (k : Placed n c 
             );
       }
 
-  pub placed-on : {to : ℕ} {counts : List ℕ} → CountedOn n c j to places counts → Placed n c to counts
+  pub placed-on : {later : List ℕ} → CountedOn n c j places later → Placed n c (j + 1) later
   placed-on d = record { eight = d .eight; each = λ i l. omega (arith, d .each i l, k .each i l) }

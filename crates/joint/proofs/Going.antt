@@ -90,7 +90,6 @@ module _ (J : Joint) (f : Frame) (s : Course) (r : Round) (l : List ℕ) (g : Go
           lent = g .lent;
           room = omega (arith, g .room, d .long);
           tallied = d .tallied;
-          placed = d .placed;
           held-low = d .held-low;
           ready = ready-then r′ e;
           coefficient-count = coefficient-count;

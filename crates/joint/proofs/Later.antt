@@ -1,18 +1,52 @@
--- A run never goes back: the point after a round is at the same gate or at a later one.
+-- Where a run stands after a round: at the same gate, or where the linear gates after it lead. These count nothing.
 -- Assumes nothing.
-use Prim.Native.Nat.{ℕ, zero, suc, _-_, _<_, _≤_}
+use Prim.Native.Nat.{ℕ, zero, suc, _+_, _-_, _<_, _≤_}
+use mathlib.Core.Path.{_≡_, refl, sym, ap, _∙_}
 use mathlib.Core.Bool.{Bool, true, false, cond}
 use mathlib.Core.List.{List}
+use mathlib.Core.Logic.{inl, inr, ⊎-elim}
+use native.Mathlib.Decide.{ℕ-discrete}
+use native.Mathlib.Numerals.{add-one}
 use native.Mathlib.Omega.{arith}
 use Rattle.field.specs.Prime.{prime}
-use Rattle.circuit.specs.Gate.{gate, gates}
-use Rattle.circuit.specs.Kind.{isLinear}
+use Rattle.circuit.specs.Gate.{Gate, In, Add, Sub, Plus, Times, Mul, Out, kind, gate, gates}
+use Rattle.circuit.specs.Kind.{isIn, isOut, isLinear, ownedBy, shape}
+use Rattle.circuit.specs.Count.{total, count, prepAt, inputAt, unchecked}
 use Rattle.circuit.specs.Round.{Round}
+use Rattle.circuit.specs.Valid.{Valid}
+use Rattle.circuit.specs.Code.{Tallied}
+use Rattle.circuit.specs.declared.Tally.{Tally}
+use Rattle.circuit.proofs.Counts.{total-mono}
+use Rattle.circuit.proofs.Tests.{false-no}
 use Rattle.steps.specs.Position.{Point, finished, aborted, reach, resume, follow}
 use Rattle.steps.specs.Receive.{passes, next}
+use Rattle.steps.proofs.Following.{unchecked-reach}
 use Rattle.steps.proofs.Points.{Reached, reached, Entered, ended, begun, entered, Followed, stays, leaves, followed}
+use Rattle.joint.specs.Code.{Onward, Placed}
+
+-- A linear gate has no record, opens nothing and is nobody's.
+record Idle (g : Gate) : Type 0 where
+  pub prep : shape g .prep ≡ 0
+  pub openings : shape g .openings ≡ 0
+  pub nobody : (i : ℕ) → ownedBy i g ≡ false
+  pub no-out : isOut g ≡ false
+
+idle : (g : Gate) → isLinear g ≡ true → Idle g
+unfolding shape isLinear ownedBy isIn isOut kind
+idle (In s) e = false-no e
+idle (Add x y) e = record { prep = refl; openings = refl; nobody = λ i. refl; no-out = refl }
+idle (Sub x y) e = record { prep = refl; openings = refl; nobody = λ i. refl; no-out = refl }
+idle (Plus x k) e = record { prep = refl; openings = refl; nobody = λ i. refl; no-out = refl }
+idle (Times x k) e = record { prep = refl; openings = refl; nobody = λ i. refl; no-out = refl }
+idle (Mul x y) e = false-no e
+idle (Out x) e = false-no e
 
 module _ (c : List ℕ) where
+  -- So a sum to which such gates add nothing passes over them.
+  total-over : (f : Gate → ℕ) → ((g : Gate) → Idle g → f g ≡ 0) → (left j : ℕ) → j + left ≡ gates c → total f c (reach c left j) ≡ total f c j
+  unfolding total
+  total-over f none left j e = reached c left j e .passes (total f c) (λ x l. rw (none (gate c x) (idle (gate c x) l)) (omega arith))
+
   reach-later : (left j : ℕ) → j ≤ reach c left j
   unfolding reach
   reach-later zero j = omega arith
@@ -22,28 +56,83 @@ module _ (c : List ℕ) where
       go true h = omega arith
       go false h = omega arith
 
-  entered-later : (j k : ℕ) (x : Point) → j < gates c → j ≤ k → Entered c k x → j ≤ x .gate
-  unfolding finished
-  entered-later j k x h l (ended e q) = rw q (omega arith)
-  entered-later j k x h l (begun r rs m e b q) = rw q l
+  module _ (j : ℕ) (h : j < gates c) where
+    rest : (j + 1) + (gates c - (j + 1)) ≡ gates c
+    rest = omega arith
 
-  resume-later : (j i : ℕ) → i ≤ j → i < gates c → j ≤ gates c → i ≤ resume c j .gate
+    -- what is counted up to the next gate is counted up to the stop
+    tallied-stop : {i : ℕ} {t : Tally} → Tallied c i (j + 1) t → Tallied c i (reach c (gates c - (j + 1)) (j + 1)) t
+    unfolding prepAt inputAt count
+    tallied-stop {i} was =
+        record {
+          prep = was .prep ∙ ap (λ (k : ℕ). 1 + k) (sym (total-over (λ g. shape g .prep) (λ g q. q .prep) (gates c - (j + 1)) (j + 1) rest));
+          openings = was .openings ∙ sym (total-over (λ g. shape g .openings) (λ g q. q .openings) (gates c - (j + 1)) (j + 1) rest);
+          unchecked = was .unchecked ∙ sym (unchecked-reach c (gates c - (j + 1)) (j + 1));
+          inputs = was .inputs ∙ sym (total-over (λ g. cond (ownedBy i g) 1 0) (λ g q. rw (q .nobody i)) (gates c - (j + 1)) (j + 1) rest);
+        }
+
+    placed-stop : {n : ℕ} {places : List ℕ} → Placed n c (j + 1) places → Placed n c (reach c (gates c - (j + 1)) (j + 1)) places
+    unfolding inputAt count
+    placed-stop was =
+        record {
+          eight = was .eight;
+          each = λ i l. omega (arith, was .each i l, total-over (λ g. cond (ownedBy i g) 1 0) (λ g q. rw (q .nobody i)) (gates c - (j + 1)) (j + 1) rest);
+        }
+
+    stop-later : j < reach c (gates c - (j + 1)) (j + 1)
+    stop-later = omega (arith, reach-later (gates c - (j + 1)) (j + 1))
+
+  module _ {n i j k : ℕ} (h : j < gates c) (on : Onward c j k) where
+    -- so the counts stay as they are where the run stays, ..
+    pub stayed : k ≤ j → {t : Tally} → Tallied c i j t → {places : List ℕ} → Placed n c j places → Tallied c i k t × Placed n c k places
+    stayed l {t} tallied {places} placed =
+        let e : k ≡ j = ⊎-elim (λ e. e) (λ e. absurd (omega (arith, e, stop-later j h))) on in
+        rw e (tallied, placed)
+
+    -- .. and are those after the gate where it goes on
+    pub passed : j < k → {t : Tally} → Tallied c i (j + 1) t → {places : List ℕ} → Placed n c (j + 1) places → Tallied c i k t × Placed n c k places
+    passed l {t} tallied {places} placed =
+        let e : k ≡ reach c (gates c - (j + 1)) (j + 1) = ⊎-elim (λ e. absurd (omega (arith, e))) (λ e. e) on in
+        rw e (tallied-stop j h tallied, placed-stop j h placed)
+
+  -- The last gate is an out gate, so only that gate has none but linear gates after it.
+  last-gate : {n q : ℕ} → Valid n q c → (j : ℕ) → j < gates c → reach c (gates c - suc j) (suc j) ≡ gates c → gates c - 1 ≡ j
+  last-gate v j h e = go (ℕ-discrete (gates c - 1) j)
+    where
+      outs : ℕ → ℕ
+      outs = total (λ g. cond (isOut g) 1 0) c
+
+      none : outs (gates c) ≡ outs (suc j)
+      none = ap outs (sym e) ∙ total-over (λ g. cond (isOut g) 1 0) (λ g q. rw (q .no-out)) (gates c - suc j) (suc j) (omega arith)
+
+      one : outs (suc (gates c - 1)) ≡ outs (gates c - 1) + 1
+      one = unfold total in rw (v .last)
+
+      go : Dec (gates c - 1 ≡ j) → gates c - 1 ≡ j
+      go (yes d) = d
+      go (no d) =
+          let all : suc (gates c - 1) ≡ gates c = omega arith in
+          absurd (omega (arith, none, one, ap outs all, total-mono (λ g. cond (isOut g) 1 0) c (suc j) (gates c - 1) (omega arith)))
+
+  resumed : {n q : ℕ} → Valid n q c → (j : ℕ) → j < gates c → Onward c j (resume c (suc j) .gate)
   unfolding resume
-  resume-later j i l h m =
-      let k : Reached c j (reach c (gates c - j) j) = reached c (gates c - j) j (omega arith) in
-      entered-later i (reach c (gates c - j) j) _ h (omega (arith, reach-later (gates c - j) j)) (entered c _ (k .within) (k .stands))
-
-  follow-later : (j : ℕ) (r : Round) → j < gates c → j ≤ follow c j r .gate
-  follow-later j r h = go (follow c j r) (followed c j r)
+  resumed v j h =
+      let k : Reached c (suc j) (reach c (gates c - suc j) (suc j)) = reached c (gates c - suc j) (suc j) (omega arith) in
+      go _ (entered c (reach c (gates c - suc j) (suc j)) (k .within) (k .stands))
     where
-      go : (x : Point) → Followed c j r x → j ≤ x .gate
-      go x (stays r′ rest e q) = rw q (omega arith)
-      go x (leaves e q) = rw q (resume-later (suc j) j (omega arith) h h)
+      go : (x : Point) → Entered c (reach c (gates c - suc j) (suc j)) x → Onward c j (x .gate)
+      go x (ended e q) = rw q (unfold finished in inl (last-gate v j h e))
+      go x (begun r rs m e b q) = rw q (inr (ap (λ (m : ℕ). reach c (gates c - m) m) (sym (add-one j))))
 
-  pub next-later : (n j : ℕ) (r : Round) (heard : List ℕ) → j < gates c → j ≤ next prime n c j r heard .gate
+  -- The point after a round is at the gate or at the stop after it.
+  pub next-onward : {n q : ℕ} → Valid n q c → (m j : ℕ) (r : Round) (heard : List ℕ) → j < gates c → Onward c j (next prime m c j r heard .gate)
   unfolding next aborted
-  next-later n j r heard h = go (passes prime n r heard)
+  next-onward v m j r heard h = go (passes prime m r heard)
     where
-      go : (b : Bool) → j ≤ cond b (follow c j r) (aborted j) .gate
-      go true = follow-later j r h
-      go false = omega arith
+      from : (x : Point) → Followed c j r x → Onward c j (x .gate)
+      from x (stays r′ rest e q) = rw q (inl refl)
+      from x (leaves e q) = rw q (resumed v j h)
+
+      go : (b : Bool) → Onward c j (cond b (follow c j r) (aborted j) .gate)
+      go true = from (follow c j r) (followed c j r)
+      go false = inl refl

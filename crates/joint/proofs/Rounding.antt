@@ -13,7 +13,6 @@ use Rattle.field.specs.Prime.{p, prime, Is}
 use Rattle.circuit.specs.Gate.{Gate, gateSize, gate, gates}
 use Rattle.circuit.specs.Count.{unchecked}
 use Rattle.circuit.specs.Round.{Round, Input, Multiply, CommitOpened, RevealOpened, OpenOutput, CommitOutput, RevealOutput, words, coefficientsIn}
-use Rattle.circuit.specs.Accept.{mostGates}
 use Rattle.circuit.specs.Valid.{Valid}
 use Rattle.circuit.specs.Code.{Tallied}
 use Rattle.circuit.specs.declared.Tally.{Tally}
@@ -29,16 +28,15 @@ use Rattle.joint.specs.Joint.{Joint, joined, band, party}
 use Rattle.joint.specs.Run.{takes, said, step, released}
 use Rattle.joint.specs.declared.Frame.{Frame}
 use Rattle.joint.specs.declared.Course.{Course}
-use Rattle.joint.specs.Code.{Small, CountedOn, siteOf, stateOf, Framed, Lent, saidBy, receivedBy, freed, writtenAt, Going, Turning, Turned}
+use Rattle.joint.specs.Code.{Placed, Onward, siteOf, stateOf, Framed, Lent, saidBy, receivedBy, freed, writtenAt, Going, Turning, Turned}
 use Rattle.joint.proofs.Words.{length-joined}
 use Rattle.joint.proofs.Bands.{band-end, band-front, band-joined}
 use Rattle.joint.proofs.Said.{length-said, below-joined, sent-low}
 use Rattle.joint.proofs.Parties.{undrawn, party-undrawn, lent-undrawn}
 use Rattle.joint.proofs.Written.{written-length}
-use Rattle.joint.proofs.Going.{within, occurs, nextIn, next-there}
+use Rattle.joint.proofs.Going.{within, occurs, nextIn}
 use Rattle.joint.proofs.Rows.{gate-fits, each-band}
-use Rattle.joint.proofs.Later.{next-later}
-use Rattle.joint.proofs.Arrays.{placed-small, placed-on}
+use Rattle.joint.proofs.Later.{next-onward}
 
 -- a part of a list that comes back as ws holds ws, and the list is as long as before
 module _ (t ws : List ℕ) (a m : ℕ) (fits : a + m ≤ length t) (len : length ws ≡ m) where
@@ -64,7 +62,7 @@ released-words c j OpenOutput e = false-no e
 released-words c j CommitOutput e = refl
 released-words c j RevealOutput e = refl
 
-module _ {J : Joint} {f : Frame} {s : Course} {r : Round} {l t o : List ℕ} (u : Turning J f s r l t o) where
+module _ {J : Joint} {f : Frame} {s : Course} {r : Round} {l t o places : List ℕ} (u : Turning J f s r l t o) (placed : Placed (J .parties) (J .circuit) (s .point .gate) places) where
   -- the words of all in this round
   abbrev saidHere : List ℕ
   saidHere = said prime J (stateOf f s l) r
@@ -87,9 +85,10 @@ module _ {J : Joint} {f : Frame} {s : Course} {r : Round} {l t o : List ℕ} (u 
 
     -- what sending asks
     pub round-sends : Going J f s r l
+        × Placed (J .parties) (J .circuit) (s .point .gate) places
         × (g ≡ gate (J .circuit) (s .point .gate))
         × (length (take (s .written + J .parties * k - s .written) (drop (s .written) t)) ≡ J .parties * words (gate (J .circuit) (s .point .gate)) r)
-    round-sends = (u .going, g-is, room)
+    round-sends = (u .going, placed, g-is, room)
 
     said-long : length saidHere ≡ J .parties * k
     unfolding stateOf pointOf
@@ -162,23 +161,27 @@ module _ {J : Joint} {f : Frame} {s : Course} {r : Round} {l t o : List ℕ} (u 
         unfolding pointOf
         gate-is = ap (λ (z : P.Point). z .gate) point-is
 
-        -- what counting on asks
-        later : s .point .gate ≤ x .gate
-        later = omega (arith, gate-is, next-later (J .circuit) (J .parties) (s .point .gate) r saidHere (within J f s r l (u .going)))
-
-        there : x .gate < gates (J .circuit)
-        there = omega (arith, gate-is, next-there J f s r l (u .going) .within)
-
-        pub round-tallies : (s .point .gate ≤ x .gate) × (gateSize * (x .gate) ≤ length (J .circuit)) × (x .gate ≤ mostGates) × Tallied (J .circuit) 0 (s .point .gate) (s .tally)
-        round-tallies = (later, omega (arith, there, u .going .lent .valid .whole), omega (arith, there, u .going .lent .valid .few), u .going .tallied)
-
-        pub round-counts : Valid (J .parties) p (J .circuit) × (J .parties ≤ mostParties) × (s .point .gate ≤ x .gate) × (x .gate ≤ gates (J .circuit)) × Small (J .parties) (s .inputs)
-        round-counts = (u .going .lent .valid, u .going .lent .few, later, omega (arith, there), placed-small (u .going .placed) (u .going .lent .valid) (omega (arith, within J f s r l (u .going))))
+        -- what passing the gate asks
+        pub round-passes : Valid (J .parties) p (J .circuit)
+            × (J .parties ≤ mostParties)
+            × (s .point .gate < gates (J .circuit))
+            × (g ≡ gate (J .circuit) (s .point .gate))
+            × Tallied (J .circuit) 0 (s .point .gate) (s .tally)
+            × Placed (J .parties) (J .circuit) (s .point .gate) places
+            × Onward (J .circuit) (s .point .gate) (x .gate)
+        round-passes = (
+          u .going .lent .valid,
+          u .going .lent .few,
+          within J f s r l (u .going),
+          g-is,
+          u .going .tallied,
+          placed,
+          rw gate-is (next-onward (J .circuit) (u .going .lent .valid) (J .parties) (s .point .gate) r saidHere (within J f s r l (u .going))),
+        )
 
         module _ (held : List ℕ) (eh : (i : ℕ) → i < J .parties → Is (step prime J (stateOf f s l) r .held i) (getD held i 0))
             {l′ : List ℕ} (el : l′ ≡ joined (J .parties) (receivedBy (undrawn J) (stateOf f s l) r heardOf) ++ drop (J .parties * f .scratch) l)
             (tally : Tally) (et : Tallied (J .circuit) 0 (x .gate) tally)
-            (places : List ℕ) (ec : CountedOn (J .parties) (J .circuit) (s .point .gate) (x .gate) (s .inputs) places)
             {kd : ℕ} (ed : kd ≡ coefficientsIn (s .tally .unchecked) r)
             {ko : ℕ} {o′ : List ℕ}
             (eo : (ko ≡ s .released + length (freed (J .parties) (J .circuit) r (band (f .scratch) l 0) heardOf))
@@ -205,7 +208,7 @@ module _ {J : Joint} {f : Frame} {s : Course} {r : Round} {l t o : List ℕ} (u 
 
           -- what the round leaves
           pub round-turned : Turned J f s r l t o
-              (record { point = x; tally = tally; inputs = places; held = held; used = s .used + kd; written = s .written + J .parties * k; released = ko; rounds = s .rounds + 1 })
+              (record { point = x; tally = tally; held = held; used = s .used + kd; written = s .written + J .parties * k; released = ko; rounds = s .rounds + 1 })
               l′ sentTo o′
           unfolding stateOf
           round-turned =
@@ -218,7 +221,6 @@ module _ {J : Joint} {f : Frame} {s : Course} {r : Round} {l t o : List ℕ} (u 
                       used = unfold step in ap (λ (v : ℕ). s .used + v) drawn-is;
                     };
                 tallied = et;
-                placed = placed-on (u .going .placed) ec;
                 held-low = λ i h. eh i h .below;
                 long = ap length el ∙ rw (length-append, front, length-drop) (omega (arith, u .going .room));
                 excess = ap (drop (J .parties * f .scratch)) el ∙ drop-at (joined (J .parties) (receivedBy (undrawn J) (stateOf f s l) r heardOf)) (drop (J .parties * f .scratch) l) (J .parties * f .scratch) front;

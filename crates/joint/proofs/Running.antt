@@ -355,10 +355,13 @@ module _ (J : Joint) (f : Frame) where
     running-ended able inv none {a} e = running-over able inv (over-of _ none) a e
 
 -- Before the first round.
-module _ (J : Joint) (f : Frame) (l t o : List ℕ) (able : Runnable J f l t o) {starts : List ℕ} (places : Placed (J .parties) (J .circuit) 0 starts) (s : Course) (b : Started starts s) where
+module _ (J : Joint) (f : Frame) (l t o : List ℕ) (able : Runnable J f l t o) (s : Course) (b : Started s) where
   gate-zero : s .point .gate ≡ 0
   unfolding pointOf
   gate-zero = ap (λ (x : Point). x .gate) (b .point)
+
+  pub placed-start : {places : List ℕ} → Placed (J .parties) (J .circuit) 0 places → Placed (J .parties) (J .circuit) (s .point .gate) places
+  placed-start k = rw gate-zero k
 
   stage-input : stageOf (s .point .stage) ≡ Send Input
   unfolding pointOf
@@ -430,7 +433,6 @@ module _ (J : Joint) (f : Frame) (l t o : List ℕ) (able : Runnable J f l t o) 
                     lent = able .lent;
                     room = able .room;
                     tallied = rw gate-zero (b .tallied (J .circuit));
-                    placed = rw (gate-zero, b .inputs) places;
                     held-low = λ i h. rw (b .held i) (omega arith);
                     ready = ready-first;
                     coefficient-count = omega (arith, nothing-drawn, b .used);

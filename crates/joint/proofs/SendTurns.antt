@@ -29,7 +29,7 @@ use Rattle.joint.specs.Joint.{Joint, joined, band, inputsAt, party}
 use Rattle.joint.specs.Run.{takes, said, step}
 use Rattle.joint.specs.declared.Frame.{Frame}
 use Rattle.joint.specs.declared.Course.{Course}
-use Rattle.joint.specs.Code.{jointOf, siteOf, stateOf, part, prepFrom, keyIn, Prepared, Banded, EachBand, EachIs, Going, saidBy}
+use Rattle.joint.specs.Code.{Placed, jointOf, siteOf, stateOf, part, prepFrom, keyIn, Prepared, Banded, EachBand, EachIs, Going, saidBy}
 use Rattle.joint.proofs.Words.{joined-ext}
 use Rattle.joint.proofs.Parties.{lent-prepared, lent-key, lent-banded, lent-keyed, lent-record, lent-record-is}
 use Rattle.joint.proofs.Arrays.{zeros}
@@ -154,27 +154,27 @@ module _ {f : Frame} {s : Course} {c preps inputs coefficients l : List ℕ} whe
     said-by F e d = d ∙ joined-ext (f .parties) F (saidBy (lentAll f c preps inputs coefficients) (stateOf f s l) r) e
 
   -- in gates
-  module _ (g : Going (lentAll f c preps inputs coefficients) f s Input l) where
-    pub input-asks : (f .parties ≤ mostParties) × Prepared f preps (s .tally .prep) 3 × Below inputs
+  module _ (g : Going (lentAll f c preps inputs coefficients) f s Input l) {places : List ℕ} (placed : Placed (f .parties) c (s .point .gate) places) where
+    pub input-asks : (f .parties ≤ mostParties) × Prepared f preps (s .tally .prep) 3 × Below inputs × (f .parties ≤ length places)
     unfolding shape
     input-asks =
         let n : shape (gate c (s .point .gate)) .prep ≡ 3 = rw (gate-at-round c (s .point .gate) Input (occurs (lentAll f c preps inputs coefficients) f s Input l g) .1) in
-        (g .lent .few, lent-prepared (g .lent) (s .tally .prep) 3 (omega (arith, record-end g, n)), g .lent .inputs-low)
+        (g .lent .few, lent-prepared (g .lent) (s .tally .prep) 3 (omega (arith, record-end g, n)), g .lent .inputs-low, omega (arith, g .lent .few, placed .eight))
 
     pub input-one : words (gate c (s .point .gate)) Input ≡ 1
     unfolding words shape
     input-one = rw (gate-at-round c (s .point .gate) Input (occurs (lentAll f c preps inputs coefficients) f s Input l g) .1)
 
-    own-input : (i : ℕ) → i < f .parties → i ≡ first (gate c (s .point .gate)) → getD inputs (getD (s .inputs) i 0) 0 ≡ inputOf (party (lentAll f c preps inputs coefficients) i) (s .point .gate)
+    own-input : (i : ℕ) → i < f .parties → i ≡ first (gate c (s .point .gate)) → getD inputs (getD places i 0) 0 ≡ inputOf (party (lentAll f c preps inputs coefficients) i) (s .point .gate)
     unfolding inputOf party first
     own-input i h e =
         let k = gate-at-round c (s .point .gate) Input (occurs (lentAll f c preps inputs coefficients) f s Input l g) in
         let o : gate c (s .point .gate) ≡ In i = k .1 ∙ ap In (sym (e ∙ ap first (k .1))) in
-        ap (λ (z : ℕ). getD inputs z 0) (g .placed .each i h)
+        ap (λ (z : ℕ). getD inputs z 0) (placed .each i h)
         ∙ sym (getD-take (inputCount c i) (drop (inputsAt c i) inputs) (inputAt c i (s .point .gate)) 0 (input-within c i (s .point .gate) o (within (lentAll f c preps inputs coefficients) f s Input l g)) ∙ getD-drop (inputsAt c i) inputs (inputAt c i (s .point .gate)) 0)
 
     pub said-input : {x : ℕ} → x ≡ first (gate c (s .point .gate)) → (ws : List ℕ)
-        → EachIs f (λ i. inputWord prime i x (prepFrom f preps (s .tally .prep) i) (getD inputs (getD (s .inputs) i 0) 0)) ws
+        → EachIs f (λ i. inputWord prime i x (prepFrom f preps (s .tally .prep) i) (getD inputs (getD places i 0) 0)) ws
         → {out : List ℕ} → out ≡ joined (f .parties) (λ i. getD ws i 0 ∷ [])
         → out ≡ said prime (lentAll f c preps inputs coefficients) (stateOf f s l) Input
     unfolding sent stateOf pointOf party

@@ -3,6 +3,7 @@
 use Prim.Native.Nat.{ℕ, _+_, _-_, _*_, _<_, _≤_}
 use mathlib.Core.Path.{_≡_}
 use mathlib.Core.Bool.{true, cond, _&&_}
+use mathlib.Core.Logic.{_⊎_}
 use mathlib.Core.List.{List, [], _∷_, _++_}
 use lib.ListN.{length, getD, take, drop}
 use lib.Dec.{leb, eqb}
@@ -15,7 +16,7 @@ use Rattle.circuit.specs.Accept.{mostGates}
 use Rattle.circuit.specs.Valid.{Valid}
 use Rattle.circuit.specs.Code.{roundOf, Tallied}
 use Rattle.steps.specs.Scratch.{layout, scratchSize, Value, read}
-use Rattle.steps.specs.Position.{Stage, Send}
+use Rattle.steps.specs.Position.{Stage, Send, reach}
 use Rattle.steps.specs.Send.{sent, overwrite}
 use Rattle.steps.specs.Receive.{passes, received}
 use Rattle.steps.specs.Code.{layoutOf, pointOf, Below, Ready}
@@ -52,15 +53,24 @@ pub record Small (n : ℕ) (counts : List ℕ) : Type 0 where
   pub eight : length counts ≡ mostParties
   pub each : (i : ℕ) → i < n → getD counts i 0 ≤ mostGates
 
--- to each party's number in before its inputs from gate a up to gate b are added
-pub record CountedOn (n : ℕ) (c : List ℕ) (a b : ℕ) (before counts : List ℕ) : Type 0 where
+-- the inputs of each of n parties before gate j
+pub record Counted (n : ℕ) (c : List ℕ) (j : ℕ) (counts : List ℕ) : Type 0 where
   pub eight : length counts ≡ mostParties
-  pub each : (i : ℕ) → i < n → getD counts i 0 + inputAt c i a ≡ getD before i 0 + inputAt c i b
+  pub each : (i : ℕ) → i < n → getD counts i 0 ≡ inputAt c i j
+
+-- to each party's number in before its input at gate j is added
+pub record CountedOn (n : ℕ) (c : List ℕ) (j : ℕ) (before counts : List ℕ) : Type 0 where
+  pub eight : length counts ≡ mostParties
+  pub each : (i : ℕ) → i < n → getD counts i 0 + inputAt c i j ≡ getD before i 0 + inputAt c i (j + 1)
 
 -- where in the joined inputs each of n parties stands before gate j
 pub record Placed (n : ℕ) (c : List ℕ) (j : ℕ) (places : List ℕ) : Type 0 where
   pub eight : length places ≡ mostParties
   pub each : (i : ℕ) → i < n → getD places i 0 ≡ inputsAt c i + inputAt c i j
+
+-- where a run stands after a round of gate j: still there, or where the linear gates after it lead
+abbrev pub Onward : List ℕ → ℕ → ℕ → Type 0
+Onward c j k = (k ≡ j) ⊎ (k ≡ reach c (gates c - (j + 1)) (j + 1))
 
 -- where the numbers of the gate stand for party i
 unfoldable pub siteOf : List ℕ → Course → ℕ → Site
@@ -165,7 +175,6 @@ pub record Going (J : Joint) (f : Frame) (s : Course) (r : Round) (l : List ℕ)
   pub lent : Lent J f
   pub room : J .parties * f .scratch ≤ length l
   pub tallied : Tallied (J .circuit) 0 (s .point .gate) (s .tally)
-  pub placed : Placed (J .parties) (J .circuit) (s .point .gate) (s .inputs)
   pub held-low : (i : ℕ) → i < J .parties → getD (s .held) i 0 < p
   pub ready : (i : ℕ) → i < J .parties → Ready (party J i) (band (f .scratch) l i) (f .layout) (siteOf (J .circuit) s i) r
   pub coefficient-count : s .used + coefficientsIn (unchecked (J .circuit) (s .point .gate)) r ≤ length (J .coefficients)
@@ -190,7 +199,6 @@ pub record Alike (n : ℕ) (s s′ : State) : Type 0 where
 pub record Turned (J : Joint) (f : Frame) (s : Course) (r : Round) (l t o : List ℕ) (s′ : Course) (l′ t′ o′ : List ℕ) : Type 0 where
   pub alike : Alike (J .parties) (stateOf f s′ l′) (step prime J (stateOf f s l) r)
   pub tallied : Tallied (J .circuit) 0 (s′ .point .gate) (s′ .tally)
-  pub placed : Placed (J .parties) (J .circuit) (s′ .point .gate) (s′ .inputs)
   pub held-low : (i : ℕ) → i < J .parties → getD (s′ .held) i 0 < p
   pub long : length l′ ≡ length l
   pub excess : drop (J .parties * f .scratch) l′ ≡ drop (J .parties * f .scratch) l
@@ -200,11 +208,10 @@ pub record Turned (J : Joint) (f : Frame) (s : Course) (r : Round) (l t o : List
   pub given : s′ .released ≡ s .released + length (released prime J (stateOf f s l) r)
   pub rounds : s′ .rounds ≡ s .rounds + 1
 
--- before the first round, which is an in gate's; each party's inputs start where starts says
-pub record Started (starts : List ℕ) (s : Course) : Type 0 where
+-- before the first round, which is an in gate's
+pub record Started (s : Course) : Type 0 where
   pub point : pointOf (s .point) ≡ record { gate = 0; stage = Send Input }
   pub tallied : (c : List ℕ) → Tallied c 0 0 (s .tally)
-  pub inputs : s .inputs ≡ starts
   pub held : (i : ℕ) → getD (s .held) i 0 ≡ 0
   pub used : s .used ≡ 0
   pub written : s .written ≡ 0

@@ -1,35 +1,37 @@
 // What stays the same from round to round.
 use crate::Frame;
+use circuit::Gate;
 use circuit::Totals;
 use steps::Layout;
 ghost use mathlib.Core.Path.{_≡_};
-ghost use Prim.Native.Nat.{_≤_};
+ghost use Prim.Native.Nat.{_<_, _≤_};
 ghost use Rattle.field.specs.Prime.{p};
-ghost use Rattle.circuit.specs.Gate.{gates};
+ghost use Rattle.circuit.specs.Gate.{gate, gates};
 ghost use Rattle.circuit.specs.Valid.{Valid};
-ghost use Rattle.circuit.specs.Code.{Totalled};
+ghost use Rattle.circuit.specs.Code.{gateOf, Totalled};
 ghost use Rattle.party.specs.Ask.{mostParties};
-ghost use Rattle.joint.specs.Code.{Small, CountedOn, Placed, Framed};
+ghost use Rattle.joint.specs.Code.{Small, Counted, CountedOn, Placed, Framed};
 
-// The number of inputs of each party goes on from one gate to another.
-pub fn count_inputs(
-    parties: usize,
-    c: &[u32],
-    from: usize,
-    to: usize,
-    before: [usize; 8],
-) -> [usize; 8]
-    requires { ⌜ Valid parties p (now c) × (parties ≤ mostParties) × (from ≤ to) × (to ≤ gates (now c)) × Small parties before ⌝ }
-    ensures { λ counts. ⌜ CountedOn parties (now (c .entry)) from to before counts ⌝ }
+// The number of its owner goes on by an in gate. Gate g is gate j of the circuit.
+pub fn count_input(parties: usize, c: &[u32], j: usize, g: Gate, counts: &mut [usize])
+    requires { ⌜ Valid parties p (now c) × (parties ≤ mostParties) × (j < gates (now c)) × (gateOf g ≡ gate (now c) j) × Small parties (now counts) ⌝ }
+    ensures { λ r. ⌜ CountedOn parties (now (c .entry)) j (now (counts .entry)) (now (counts .exit)) ⌝ }
 {
-    let mut counts = before;
-    let mut j = from;
-    while j < to {
-        let g = circuit::gate_at(c, j);
-        if circuit::is_in(g) {
-            let owner = circuit::first_of(g);
-            counts[owner] = counts[owner] + 1;
-        }
+    if circuit::is_in(g) {
+        let owner = circuit::first_of(g);
+        counts[owner] += 1;
+    }
+}
+
+// The number of inputs of each party in a circuit of count gates.
+fn count_inputs(parties: usize, c: &[u32], count: usize) -> [usize; 8]
+    requires { ⌜ Valid parties p (now c) × (count ≡ gates (now c)) × (parties ≤ mostParties) ⌝ }
+    ensures { λ counts. ⌜ Counted parties (now (c .entry)) count counts ⌝ }
+{
+    let mut counts = [0usize; 8];
+    let mut j = 0;
+    while j < count {
+        count_input(parties, c, j, circuit::gate_at(c, j), &mut counts);
         j += 1;
     }
     counts
@@ -40,7 +42,7 @@ pub fn starts_of(parties: usize, c: &[u32], count: usize) -> [usize; 8]
     requires { ⌜ Valid parties p (now c) × (count ≡ gates (now c)) × (parties ≤ mostParties) ⌝ }
     ensures { λ starts. ⌜ Placed parties (now (c .entry)) 0 starts ⌝ }
 {
-    let counts = count_inputs(parties, c, 0, count, [0usize; 8]);
+    let counts = count_inputs(parties, c, count);
     let mut starts = [0usize; 8];
     let mut at = 0;
     let mut i = 0;

@@ -32,12 +32,11 @@ pub struct Frame {
 }
 
 // What goes on from round to round: the point; what is counted of the gates before it, where the inputs alone differ by party, so that
-// the tally is party 0's; where in the joined inputs each party stands; the check share that each party holds; and how many coefficients
-// are used, words written, outputs released and rounds made.
+// the tally is party 0's; the check share that each party holds; and how many coefficients are used, words written, outputs released and
+// rounds made.
 pub struct Course {
     pub point: Point,
     pub tally: Tally,
-    pub inputs: [usize; 8],
     pub held: [u32; 8],
     pub used: usize,
     pub written: usize,
@@ -91,10 +90,10 @@ pub fn joint_run(
         }
         Verdict::Accepted => {}
     }
-    let starts = framing::starts_of(parties, c, count);
+    let mut places = framing::starts_of(parties, c, count);
     rounds::run(
         f,
-        starts,
+        &mut places,
         c,
         preps,
         inputs,

@@ -7,7 +7,9 @@ use crate::JointAnswer;
 use crate::framing;
 use crate::receiving;
 use crate::sending;
+use circuit::Gate;
 use circuit::Round;
+use circuit::Tally;
 use steps::Point;
 use steps::Slot;
 use steps::Stage;
@@ -15,12 +17,16 @@ ghost use mathlib.Core.Path.{_≡_};
 ghost use mathlib.Core.Bool.{true};
 ghost use Prim.Native.Nat.{_+_, _<_, _≤_};
 ghost use lib.ListN.{length};
-ghost use Rattle.circuit.specs.Code.{roundOf};
+ghost use Rattle.field.specs.Prime.{p};
+ghost use Rattle.circuit.specs.Gate.{gate, gates};
+ghost use Rattle.circuit.specs.Valid.{Valid};
+ghost use Rattle.circuit.specs.Code.{gateOf, roundOf, Tallied};
 ghost use Rattle.steps.specs.Code.{stageOf, Below};
+ghost use Rattle.party.specs.Ask.{mostParties};
 ghost use Rattle.party.specs.Entry.{releases};
 ghost use Rattle.joint.specs.Joint.{band};
 ghost use Rattle.joint.specs.Entry.{ended};
-ghost use Rattle.joint.specs.Code.{jointAnswerOf, IsDue, jointOf, Placed, Framed, freed, writtenAt, Turning, Turned, Started, Runnable, Ran};
+ghost use Rattle.joint.specs.Code.{jointAnswerOf, IsDue, jointOf, Placed, Onward, Framed, freed, writtenAt, Turning, Turned, Started, Runnable, Ran};
 
 // Words of a reveal.
 const CHECK_WORDS: usize = 1;
@@ -64,7 +70,28 @@ fn release(
     at + 1
 }
 
-// Round r. The words that are received are those that stand in the transcript.
+// Past gate j to where the linear gates after it lead, if the run has left it: what is counted goes on by the gate, as linear gates add
+// nothing.
+fn pass_gate(
+    parties: usize,
+    c: &[u32],
+    j: usize,
+    next: usize,
+    g: Gate,
+    t: Tally,
+    places: &mut [usize],
+) -> Tally
+    requires { ⌜ Valid parties p (now c) × (parties ≤ mostParties) × (j < gates (now c)) × (gateOf g ≡ gate (now c) j) × Tallied (now c) 0 j t × Placed parties (now c) j (now places) × Onward (now c) j next ⌝ }
+    ensures { λ r. ⌜ Tallied (now (c .entry)) 0 next r × Placed parties (now (c .entry)) next (now (places .exit)) ⌝ }
+{
+    if next <= j {
+        return t;
+    }
+    framing::count_input(parties, c, j, g, places);
+    circuit::tally_gate(c, 0, j, t)
+}
+
+// Round r; each party's next input is at its place. The words that are received are those that stand in the transcript.
 fn one_round(
     f: Frame,
     s: Course,
@@ -72,17 +99,17 @@ fn one_round(
     c: &[u32],
     preps: &[u32],
     inputs: &[u32],
+    places: &mut [usize],
     scratch: &mut [u32],
     coefficients: &[u32],
     transcript: &mut [u32],
     outputs: &mut [u32],
 ) -> Course
-    requires { ⌜ Turning (jointOf (f .parties) (now c) (now preps) (now inputs) (now coefficients)) f s (roundOf r) (now scratch) (now transcript) (now outputs) ⌝ }
-    ensures { λ x. ⌜ Turned (jointOf (f .parties) (now (c .entry)) (now (preps .entry)) (now (inputs .entry)) (now (coefficients .entry))) f s (roundOf r) (now (scratch .entry)) (now (transcript .entry)) (now (outputs .entry)) x (now (scratch .exit)) (now (transcript .exit)) (now (outputs .exit)) ⌝ }
+    requires { ⌜ Turning (jointOf (f .parties) (now c) (now preps) (now inputs) (now coefficients)) f s (roundOf r) (now scratch) (now transcript) (now outputs) × Placed (f .parties) (now c) (s .point .gate) (now places) ⌝ }
+    ensures { λ x. ⌜ Turned (jointOf (f .parties) (now (c .entry)) (now (preps .entry)) (now (inputs .entry)) (now (coefficients .entry))) f s (roundOf r) (now (scratch .entry)) (now (transcript .entry)) (now (outputs .entry)) x (now (scratch .exit)) (now (transcript .exit)) (now (outputs .exit)) × Placed (f .parties) (now (c .entry)) (x .point .gate) (now (places .exit)) ⌝ }
 {
     let here = s.point;
     let t = s.tally;
-    let before = s.inputs;
     let start = s.written;
     let g = circuit::gate_at(c, here.gate);
     let k = circuit::words_in(g, r);
@@ -95,6 +122,7 @@ fn one_round(
         c,
         preps,
         inputs,
+        places,
         scratch,
         coefficients,
         &mut transcript[start..end],
@@ -120,13 +148,11 @@ fn one_round(
         scratch,
         &transcript[start..end],
     );
-    let tally = circuit::tally_between(c, 0, here.gate, point.gate, t);
-    let places = framing::count_inputs(f.parties, c, here.gate, point.gate, before);
+    let tally = pass_gate(f.parties, c, here.gate, point.gate, g, t, places);
     let used = s.used + circuit::coefficients_in(t.unchecked, r);
     Course {
         point,
         tally,
-        inputs: places,
         held,
         used,
         written: end,
@@ -136,8 +162,8 @@ fn one_round(
 }
 
 // Before the first round, which is an in gate's.
-fn origin(starts: [usize; 8]) -> Course
-    ensures { λ s. ⌜ Started starts s ⌝ }
+fn origin() -> Course
+    ensures { λ s. ⌜ Started s ⌝ }
 {
     Course {
         point: Point {
@@ -145,7 +171,6 @@ fn origin(starts: [usize; 8]) -> Course
             stage: Stage::Send(Round::Input),
         },
         tally: circuit::no_tally(),
-        inputs: starts,
         held: [0; 8],
         used: 0,
         written: 0,
@@ -180,10 +205,10 @@ fn ending(point: Point, rounds: usize) -> JointAnswer
     }
 }
 
-// Round after round, until no party sends any more. Each party's inputs start where starts says.
+// Round after round, until no party sends any more. Each party's next input is at its place.
 pub fn run(
     f: Frame,
-    starts: [usize; 8],
+    places: &mut [usize],
     c: &[u32],
     preps: &[u32],
     inputs: &[u32],
@@ -192,10 +217,10 @@ pub fn run(
     transcript: &mut [u32],
     outputs: &mut [u32],
 ) -> JointAnswer
-    requires { ⌜ Runnable (jointOf (f .parties) (now c) (now preps) (now inputs) (now coefficients)) f (now scratch) (now transcript) (now outputs) × Placed (f .parties) (now c) 0 starts ⌝ }
+    requires { ⌜ Runnable (jointOf (f .parties) (now c) (now preps) (now inputs) (now coefficients)) f (now scratch) (now transcript) (now outputs) × Placed (f .parties) (now c) 0 (now places) ⌝ }
     ensures { λ a. ⌜ Ran (jointOf (f .parties) (now (c .entry)) (now (preps .entry)) (now (inputs .entry)) (now (coefficients .entry))) (now (scratch .entry)) (now (transcript .entry)) (now (outputs .entry)) a (now (scratch .exit)) (now (transcript .exit)) (now (outputs .exit)) ⌝ }
 {
-    let mut s = origin(starts);
+    let mut s = origin();
     loop {
         let point = s.point;
         let stage = point.stage;
@@ -208,6 +233,7 @@ pub fn run(
                     c,
                     preps,
                     inputs,
+                    places,
                     scratch,
                     coefficients,
                     transcript,

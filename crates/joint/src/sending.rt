@@ -18,19 +18,19 @@ ghost use Rattle.steps.specs.Code.{layoutOf, Below, Held, Opened};
 ghost use Rattle.party.specs.Ask.{mostParties};
 ghost use Rattle.joint.specs.Joint.{joined, band};
 ghost use Rattle.joint.specs.Run.{said, step};
-ghost use Rattle.joint.specs.Code.{jointOf, stateOf, part, prepFrom, keyIn, Prepared, Banded, EachBand, EachIs, Going};
+ghost use Rattle.joint.specs.Code.{jointOf, stateOf, Placed, part, prepFrom, keyIn, Prepared, Banded, EachBand, EachIs, Going};
 
 // The words of an in gate, whose record stands at number at of each party's preprocessing; each party's next input is at its place.
 fn input_words(
     f: Frame,
     at: usize,
     owner: usize,
-    places: [usize; 8],
+    places: &[usize],
     preps: &[u32],
     inputs: &[u32],
 ) -> [u32; 8]
-    requires { ⌜ (f .parties ≤ mostParties) × Prepared f (now preps) at 3 × Below (now inputs) ⌝ }
-    ensures { λ ws. ⌜ EachIs f (λ i. inputWord prime i owner (prepFrom f (now (preps .entry)) at i) (getD (now (inputs .entry)) (getD places i 0) 0)) ws ⌝ }
+    requires { ⌜ (f .parties ≤ mostParties) × Prepared f (now preps) at 3 × Below (now inputs) × (f .parties ≤ length (now places)) ⌝ }
+    ensures { λ ws. ⌜ EachIs f (λ i. inputWord prime i owner (prepFrom f (now (preps .entry)) at i) (getD (now (inputs .entry)) (getD (now (places .entry)) i 0) 0)) ws ⌝ }
 {
     let mut words = [0u32; 8];
     let mut i = 0;
@@ -157,15 +157,15 @@ pub fn send_all(
     c: &[u32],
     preps: &[u32],
     inputs: &[u32],
+    places: &[usize],
     scratch: &[u32],
     coefficients: &[u32],
     out: &mut [u32],
 ) -> [u32; 8]
-    requires { ⌜ Going (jointOf (f .parties) (now c) (now preps) (now inputs) (now coefficients)) f s (roundOf r) (now scratch) × (gateOf g ≡ gate (now c) (s .point .gate)) × (length (now out) ≡ f .parties * words (gate (now c) (s .point .gate)) (roundOf r)) ⌝ }
+    requires { ⌜ Going (jointOf (f .parties) (now c) (now preps) (now inputs) (now coefficients)) f s (roundOf r) (now scratch) × Placed (f .parties) (now c) (s .point .gate) (now places) × (gateOf g ≡ gate (now c) (s .point .gate)) × (length (now out) ≡ f .parties * words (gate (now c) (s .point .gate)) (roundOf r)) ⌝ }
     ensures { λ h. ⌜ ((i : ℕ) → i < f .parties → Is (step prime (jointOf (f .parties) (now (c .entry)) (now (preps .entry)) (now (inputs .entry)) (now (coefficients .entry))) (stateOf f s (now (scratch .entry))) (roundOf r) .held i) (getD h i 0)) × (now (out .exit) ≡ said prime (jointOf (f .parties) (now (c .entry)) (now (preps .entry)) (now (inputs .entry)) (now (coefficients .entry))) (stateOf f s (now (scratch .entry))) (roundOf r)) ⌝ }
 {
     let t = s.tally;
-    let places = s.inputs;
     let holds = s.held;
     let x = circuit::first_of(g);
     let mut held = [0u32; 8];

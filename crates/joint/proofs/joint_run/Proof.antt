@@ -49,9 +49,12 @@ starts-of-requires : tie.Need-starts-of-requires
 unfolding verdictOf
 starts-of-requires c κs = let s = settled _ _ (sym (c .before .before .before .before .before .before .before .ask-setting .ensures) ∙ ap verdictOf (c .before .before .before .before .before .enum-told .given .1)) in (s .valid, count-is (s .valid), s .few)
 
+slice-aggregate-run : tie.Need-slice-aggregate-run
+slice-aggregate-run c = sym (c .before .starts-of .ensures .eight)
+
 run-requires : tie.Need-run-requires
 unfolding verdictOf
-run-requires c κs = entry-runs _ _ _ _ _ _ _ _ (sym (c .before .before .before .before .before .before .before .before .before .before .before .ask-setting .ensures) ∙ ap verdictOf (c .before .before .before .before .before .before .before .before .before .enum-told .given .1)) _ (c .before .before .before .before .before .before .before .frame-of .ensures) (sym (c .before .before .before .before .before .before .ask-lent .ensures) ∙ ap verdictOf (c .before .before .before .before .enum-told2 .given .1)) (c .before .before .before .starts-of .ensures)
+run-requires c κs = entry-runs _ _ _ _ _ _ _ _ (sym (c .before .before .before .before .before .before .before .before .before .before .before .before .ask-setting .ensures) ∙ ap verdictOf (c .before .before .before .before .before .before .before .before .before .before .enum-told .given .1)) _ (c .before .before .before .before .before .before .before .before .frame-of .ensures) (sym (c .before .before .before .before .before .before .before .ask-lent .ensures) ∙ ap verdictOf (c .before .before .before .before .before .enum-told2 .given .1)) (c .before .before .before .before .starts-of .ensures)
 
 same-length : tie.Need-same-length
 same-length c = search needs
@@ -64,7 +67,7 @@ same-length-3 c = search needs
 
 returns-3 : tie.Need-returns-3
 unfolding verdictOf
-returns-3 c = entry-left _ _ _ _ _ _ _ _ (sym (c .before .before .before .before .before .before .before .before .before .before .before .before .before .before .before .before .before .before .ask-setting .ensures) ∙ ap verdictOf (c .before .before .before .before .before .before .before .before .before .before .before .before .before .before .before .before .enum-told .given .1)) _ (c .before .before .before .before .before .before .before .before .before .before .before .before .before .before .frame-of .ensures) (sym (c .before .before .before .before .before .before .before .before .before .before .before .before .before .ask-lent .ensures) ∙ ap verdictOf (c .before .before .before .before .before .before .before .before .before .before .before .enum-told2 .given .1)) (c .before .before .before .before .before .before .run .ensures)
+returns-3 c = entry-left _ _ _ _ _ _ _ _ (sym (c .before .before .before .before .before .before .before .before .before .before .before .before .before .before .before .before .before .before .before .before .ask-setting .ensures) ∙ ap verdictOf (c .before .before .before .before .before .before .before .before .before .before .before .before .before .before .before .before .before .before .enum-told .given .1)) _ (c .before .before .before .before .before .before .before .before .before .before .before .before .before .before .before .before .frame-of .ensures) (sym (c .before .before .before .before .before .before .before .before .before .before .before .before .before .before .before .ask-lent .ensures) ∙ ap verdictOf (c .before .before .before .before .before .before .before .before .before .before .before .before .before .enum-told2 .given .1)) (c .before .before .before .before .before .before .before .run .ensures)
 
 pub joint-run-spec : {M : Type 1} → statement M
 joint-run-spec =
@@ -81,6 +84,7 @@ joint-run-spec =
     returns-2
     enum-told-2
     starts-of-requires
+    slice-aggregate-run
     run-requires
     same-length
     same-length-2

@@ -3,7 +3,7 @@
 use Prim.Native.Nat.{_-_}
 use mathlib.Core.Path.{refl}
 use native.Mathlib.Omega.{arith}
-use Rattle.joint.proofs.Arrays.{zeros-small, Starting, starting, starting-small, starting-again, starting-done}
+use Rattle.joint.proofs.Arrays.{Starting, starting, starting-small, starting-again, starting-done}
 use Rattle.joint.proofs.framing.starts_of.Statement.{statement}
 use Rattle.joint.proofs.framing.starts_of.Tie as tie
 
@@ -14,7 +14,7 @@ abbrev μ-loop : tie.MeasureT-loop
 μ-loop parties c count counts starts₀ at₀ i₀ starts at i = parties - i
 
 count-inputs-requires : tie.Need-count-inputs-requires Inv-loop μ-loop
-count-inputs-requires c κs = (c .before .pre .0, c .before .pre .2, omega arith, omega (arith, c .before .pre .1), zeros-small _)
+count-inputs-requires c κs = (c .before .pre .0, c .before .pre .1, c .before .pre .2)
 
 loop-holds : tie.Need-loop-holds Inv-loop μ-loop
 loop-holds c = starting _ _ refl

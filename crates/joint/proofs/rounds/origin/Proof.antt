@@ -17,7 +17,6 @@ unfolding pointOf stageOf roundOf
 returns c = record {
   point = refl;
   tallied = λ cs. c .no-tally .ensures cs 0;
-  inputs = refl;
   held = zeros mostParties;
   used = refl;
   written = refl;

@@ -1,28 +1,28 @@
 -- `joint::rounds::run` meets its contract. The loop's invariant: what is written so far and the run that remains make up the whole run. The measure is the number of rounds that may still be made.
 -- Assumes nothing.
 use Prim.Native.Nat.{_-_, _*_}
-use mathlib.Core.Path.{subst}
+use mathlib.Core.Path.{sym, subst, _∙_}
 use native.Mathlib.Omega.{arith}
 use borrow.Author.Needs.{needs}
 use Rattle.field.specs.Prime.{prime}
 use Rattle.circuit.specs.Gate.{gates}
 use Rattle.joint.specs.Run.{mostRounds}
-use Rattle.joint.specs.Code.{jointOf, IsDue}
-use Rattle.joint.proofs.Running.{Running, running-start, rounds-left, running-turning, running-again, running-ended}
+use Rattle.joint.specs.Code.{jointOf, IsDue, Placed}
+use Rattle.joint.proofs.Running.{Running, placed-start, running-start, rounds-left, running-turning, running-again, running-ended}
 use Rattle.joint.proofs.rounds.run.Statement.{statement}
 use Rattle.joint.proofs.rounds.run.Tie as tie
 
 abbrev Inv-loop : tie.InvT-loop
-Inv-loop f c preps inputs scratch₀ coefficients transcript₀ outputs₀ s₀ scratch transcript outputs s = Running (jointOf (f .parties) c preps inputs coefficients) f scratch₀ transcript₀ outputs₀ s scratch transcript outputs
+Inv-loop f places₀ c preps inputs scratch₀ coefficients transcript₀ outputs₀ s₀ places scratch transcript outputs s = Placed (f .parties) c (s .point .gate) places × Running (jointOf (f .parties) c preps inputs coefficients) f scratch₀ transcript₀ outputs₀ s scratch transcript outputs
 
 abbrev μ-loop : tie.MeasureT-loop
-μ-loop f c preps inputs scratch₀ coefficients transcript₀ outputs₀ s₀ scratch transcript outputs s = mostRounds prime (jointOf (f .parties) c preps inputs coefficients) * gates c - s .rounds
+μ-loop f places₀ c preps inputs scratch₀ coefficients transcript₀ outputs₀ s₀ places scratch transcript outputs s = mostRounds prime (jointOf (f .parties) c preps inputs coefficients) * gates c - s .rounds
 
 origin-requires : tie.Need-origin-requires Inv-loop μ-loop
 origin-requires c κs = search needs
 
 loop-holds : tie.Need-loop-holds Inv-loop μ-loop
-loop-holds c = running-start _ _ _ _ _ (c .before .before .before .before .before .before .before .before .pre .0) (c .before .before .before .before .before .before .before .before .pre .1) _ (c .origin .ensures)
+loop-holds c = (placed-start _ _ _ _ _ (c .before .before .before .before .before .before .before .before .before .pre .0) _ (c .origin .ensures) (c .before .before .before .before .before .before .before .before .before .pre .1), running-start _ _ _ _ _ (c .before .before .before .before .before .before .before .before .before .pre .0) _ (c .origin .ensures))
 
 due-at-requires : tie.Need-due-at-requires Inv-loop μ-loop
 due-at-requires c κs = search needs
@@ -31,13 +31,13 @@ enum-known-r : tie.Need-enum-known-r Inv-loop μ-loop
 enum-known-r c = search needs
 
 one-round-requires : tie.Need-one-round-requires Inv-loop μ-loop
-one-round-requires c κs = running-turning _ _ _ _ _ (c .before .before .before .before .before .before .before .before .before .before .before .before .before .before .before .before .before .pre .0) (c .before .before .before .before .before .before .before .before .loop .inv) _ (subst (IsDue _) (c .before .before .before .before .r .given .1) (c .before .before .before .before .before .before .due-at .ensures))
+one-round-requires c κs = (running-turning _ _ _ _ _ (c .before .before .before .before .before .before .before .before .before .before .before .before .before .before .before .before .before .before .before .pre .0) (c .before .before .before .before .before .before .before .before .before .loop .inv .1) _ (subst (IsDue _) (c .before .before .before .before .before .r .given .1) (c .before .before .before .before .before .before .before .due-at .ensures)), c .before .before .before .before .before .before .before .before .before .loop .inv .0)
 
 loop-less : tie.Need-loop-less Inv-loop μ-loop
-loop-less c = omega (arith, c .before .before .before .before .before .before .one-round .ensures .rounds, rounds-left _ _ _ _ _ (c .before .before .before .before .before .before .before .before .before .before .before .before .before .before .before .before .before .before .before .before .before .before .before .before .pre .0) (c .before .before .before .before .before .before .before .before .before .before .before .before .before .before .before .loop .inv) _ (subst (IsDue _) (c .before .before .before .before .before .before .before .before .before .before .before .r .given .1) (c .before .before .before .before .before .before .before .before .before .before .before .before .before .due-at .ensures)))
+loop-less c = omega (arith, c .before .before .before .before .before .before .before .before .one-round .ensures .0 .rounds, rounds-left _ _ _ _ _ (c .before .before .before .before .before .before .before .before .before .before .before .before .before .before .before .before .before .before .before .before .before .before .before .before .before .before .before .before .pre .0) (c .before .before .before .before .before .before .before .before .before .before .before .before .before .before .before .before .before .before .loop .inv .1) _ (subst (IsDue _) (c .before .before .before .before .before .before .before .before .before .before .before .before .before .before .r .given .1) (c .before .before .before .before .before .before .before .before .before .before .before .before .before .before .before .before .due-at .ensures)))
 
 loop-again : tie.Need-loop-again Inv-loop μ-loop
-loop-again c = running-again _ _ _ _ _ (c .before .before .before .before .before .before .before .before .before .before .before .before .before .before .before .before .before .before .before .before .before .before .before .before .pre .0) (c .before .before .before .before .before .before .before .before .before .before .before .before .before .before .before .loop .inv) _ (subst (IsDue _) (c .before .before .before .before .before .before .before .before .before .before .before .r .given .1) (c .before .before .before .before .before .before .before .before .before .before .before .before .before .due-at .ensures)) (c .before .before .before .before .before .before .one-round .ensures)
+loop-again c = (c .before .before .before .before .before .before .before .before .one-round .ensures .1, running-again _ _ _ _ _ (c .before .before .before .before .before .before .before .before .before .before .before .before .before .before .before .before .before .before .before .before .before .before .before .before .before .before .before .before .pre .0) (c .before .before .before .before .before .before .before .before .before .before .before .before .before .before .before .before .before .before .loop .inv .1) _ (subst (IsDue _) (c .before .before .before .before .before .before .before .before .before .before .before .before .before .before .r .given .1) (c .before .before .before .before .before .before .before .before .before .before .before .before .before .before .before .before .due-at .ensures)) (c .before .before .before .before .before .before .before .before .one-round .ensures .0))
 
 enum-told : tie.Need-enum-told Inv-loop μ-loop
 enum-told c = search needs
@@ -46,16 +46,19 @@ ending-requires : tie.Need-ending-requires Inv-loop μ-loop
 ending-requires c κs = search needs
 
 same-length : tie.Need-same-length Inv-loop μ-loop
-same-length c = c .before .before .before .before .before .loop .inv .long
+same-length c = c .before .before .before .before .before .loop .inv .0 .eight ∙ sym (c .before .before .before .before .before .before .before .before .before .before .before .before .before .before .before .pre .1 .eight)
 
 same-length-2 : tie.Need-same-length-2 Inv-loop μ-loop
-same-length-2 c = c .before .before .before .before .before .loop .inv .long-t
+same-length-2 c = c .before .before .before .before .before .loop .inv .1 .long
 
 same-length-3 : tie.Need-same-length-3 Inv-loop μ-loop
-same-length-3 c = c .before .before .before .before .before .loop .inv .long-o
+same-length-3 c = c .before .before .before .before .before .loop .inv .1 .long-t
+
+same-length-4 : tie.Need-same-length-4 Inv-loop μ-loop
+same-length-4 c = c .before .before .before .before .before .loop .inv .1 .long-o
 
 returns : tie.Need-returns Inv-loop μ-loop
-returns c = running-ended _ _ _ _ _ (c .before .before .before .before .before .before .before .before .before .before .before .before .before .before .pre .0) (c .before .before .before .before .before .loop .inv) (subst (IsDue _) (c .before .enum-told .given .1) (c .before .before .before .due-at .ensures)) (c .ending .ensures)
+returns c = running-ended _ _ _ _ _ (c .before .before .before .before .before .before .before .before .before .before .before .before .before .before .before .pre .0) (c .before .before .before .before .before .loop .inv .1) (subst (IsDue _) (c .before .enum-told .given .1) (c .before .before .before .due-at .ensures)) (c .ending .ensures)
 
 pub run-spec : {M : Type 1} → statement M
 run-spec =
@@ -75,4 +78,5 @@ run-spec =
     same-length
     same-length-2
     same-length-3
+    same-length-4
     returns)

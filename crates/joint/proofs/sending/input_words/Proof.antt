@@ -13,65 +13,65 @@ use Rattle.joint.proofs.sending.input_words.Statement.{statement}
 use Rattle.joint.proofs.sending.input_words.Tie as tie
 
 abbrev Inv-loop : tie.InvT-loop
-Inv-loop f at owner preps inputs places words₀ i₀ words i =
+Inv-loop f at owner places preps inputs words₀ i₀ words i =
     Gathered (λ m. inputWord prime m owner (prepFrom f preps at m) (getD inputs (getD places m 0) 0)) words i
 
 abbrev μ-loop : tie.MeasureT-loop
-μ-loop f at owner preps inputs places words₀ i₀ words i = f .parties - i
+μ-loop f at owner places preps inputs words₀ i₀ words i = f .parties - i
 
 loop-holds : tie.Need-loop-holds Inv-loop μ-loop
 loop-holds c = gathered-none refl
 
 mul-start : tie.Need-mul-start Inv-loop μ-loop
-mul-start c = omega (arith, c .before .before .before .before .before .before .good, prep-end (c .before .before .before .before .before .before .pre .1) (c .before .before .before .loop .i) (c .before .if1 .taken))
+mul-start c = omega (arith, c .before .before .before .before .before .before .before .good, prep-end (c .before .before .before .before .before .before .before .pre .1) (c .before .before .before .loop .i) (c .before .if1 .taken))
 
 add-start : tie.Need-add-start Inv-loop μ-loop
-add-start c = omega (arith, c .before .before .before .before .before .before .good, prep-end (c .before .before .before .before .before .before .pre .1) (c .before .before .before .loop .i) (c .before .if1 .taken), c .before .before .before .before .before .before .pre .1 .fits)
+add-start c = omega (arith, c .before .before .before .before .before .before .before .good, prep-end (c .before .before .before .before .before .before .before .pre .1) (c .before .before .before .loop .i) (c .before .if1 .taken), c .before .before .before .before .before .before .before .pre .1 .fits)
 
 mul-end : tie.Need-mul-end Inv-loop μ-loop
-mul-end c = omega (arith, c .before .before .before .before .before .before .before .good, prep-end (c .before .before .before .before .before .before .before .pre .1) (c .before .before .before .before .loop .i) (c .before .before .if1 .taken))
+mul-end c = omega (arith, c .before .before .before .before .before .before .before .before .good, prep-end (c .before .before .before .before .before .before .before .before .pre .1) (c .before .before .before .before .loop .i) (c .before .before .if1 .taken))
 
 add-end : tie.Need-add-end Inv-loop μ-loop
-add-end c = omega (arith, c .before .before .before .before .before .before .before .before .good, prep-end (c .before .before .before .before .before .before .before .before .pre .1) (c .before .before .before .before .before .loop .i) (c .before .before .before .if1 .taken))
+add-end c = omega (arith, c .before .before .before .before .before .before .before .before .before .good, prep-end (c .before .before .before .before .before .before .before .before .before .pre .1) (c .before .before .before .before .before .loop .i) (c .before .before .before .if1 .taken))
 
 mul-input-word : tie.Need-mul-input-word Inv-loop μ-loop
-mul-input-word c = omega (arith, c .before .before .before .before .before .before .before .before .good, prep-end (c .before .before .before .before .before .before .before .before .pre .1) (c .before .before .before .before .before .loop .i) (c .before .before .before .if1 .taken), c .before .before .before .before .before .before .before .before .pre .1 .fits)
+mul-input-word c = omega (arith, c .before .before .before .before .before .before .before .before .before .good, prep-end (c .before .before .before .before .before .before .before .before .before .pre .1) (c .before .before .before .before .before .loop .i) (c .before .before .before .if1 .taken), c .before .before .before .before .before .before .before .before .before .pre .1 .fits)
 
 sub-input-word : tie.Need-sub-input-word Inv-loop μ-loop
-sub-input-word c = omega (arith, c .before .before .before .before .before .before .before .before .pre .1 .fits)
+sub-input-word c = omega (arith, c .before .before .before .before .before .before .before .before .before .pre .1 .fits)
 
 part-input-word-start : tie.Need-part-input-word-start Inv-loop μ-loop
-part-input-word-start c = omega (arith, c .before .before .before .before .before .before .before .before .pre .1 .fits)
+part-input-word-start c = omega (arith, c .before .before .before .before .before .before .before .before .before .pre .1 .fits)
 
 part-input-word-end : tie.Need-part-input-word-end Inv-loop μ-loop
-part-input-word-end c = prep-end (c .before .before .before .before .before .before .before .before .pre .1) (c .before .before .before .before .before .loop .i) (c .before .before .before .if1 .taken)
+part-input-word-end c = prep-end (c .before .before .before .before .before .before .before .before .before .pre .1) (c .before .before .before .before .before .loop .i) (c .before .before .before .if1 .taken)
 
 mul-input-word-2 : tie.Need-mul-input-word-2 Inv-loop μ-loop
-mul-input-word-2 c = omega (arith, c .before .before .before .before .if1 .taken, c .before .before .before .before .before .before .before .before .before .pre .0)
+mul-input-word-2 c = omega (arith, c .before .before .before .before .if1 .taken, c .before .before .before .before .before .before .before .before .before .before .pre .0)
 
-array-read-input-word : tie.Need-array-read-input-word Inv-loop μ-loop
-array-read-input-word c = omega (arith, c .before .before .before .before .if1 .taken, c .before .before .before .before .before .before .before .before .before .pre .0)
+shared-slice-read-input-word : tie.Need-shared-slice-read-input-word Inv-loop μ-loop
+shared-slice-read-input-word c = omega (arith, c .before .before .before .before .before .if1 .taken, c .before .before .before .before .before .before .before .before .before .before .before .pre .3)
 
 input-word-requires : tie.Need-input-word-requires Inv-loop μ-loop
-input-word-requires c κs = rw (cut-is (c .before .before .before .before .before .before .before .before .before .pre .1) (c .before .before .before .before .before .before .loop .i) (c .before .before .before .before .if1 .taken)) (cut-long (c .before .before .before .before .before .before .before .before .before .pre .1) (c .before .before .before .before .before .before .loop .i) (c .before .before .before .before .if1 .taken), cut-low (c .before .before .before .before .before .before .before .before .before .pre .1) (c .before .before .before .before .before .before .loop .i) (c .before .before .before .before .if1 .taken), c .before .before .before .before .before .before .before .before .before .pre .2)
+input-word-requires c κs = rw (cut-is (c .before .before .before .before .before .before .before .before .before .before .before .pre .1) (c .before .before .before .before .before .before .before .loop .i) (c .before .before .before .before .before .if1 .taken)) (cut-long (c .before .before .before .before .before .before .before .before .before .before .before .pre .1) (c .before .before .before .before .before .before .before .loop .i) (c .before .before .before .before .before .if1 .taken), cut-low (c .before .before .before .before .before .before .before .before .before .before .before .pre .1) (c .before .before .before .before .before .before .before .loop .i) (c .before .before .before .before .before .if1 .taken), c .before .before .before .before .before .before .before .before .before .before .before .pre .2)
 
 mul-words : tie.Need-mul-words Inv-loop μ-loop
-mul-words c = omega (arith, c .before .before .before .before .before .if1 .taken, c .before .before .before .before .before .before .before .before .before .before .pre .0)
+mul-words c = omega (arith, c .before .before .before .before .before .before .if1 .taken, c .before .before .before .before .before .before .before .before .before .before .before .before .pre .0)
 
 array-write-words : tie.Need-array-write-words Inv-loop μ-loop
-array-write-words c = omega (arith, c .before .before .before .before .before .if1 .taken, c .before .before .before .before .before .before .before .before .before .before .pre .0)
+array-write-words c = omega (arith, c .before .before .before .before .before .before .if1 .taken, c .before .before .before .before .before .before .before .before .before .before .before .before .pre .0)
 
 add-i : tie.Need-add-i Inv-loop μ-loop
-add-i c = omega (arith, c .before .before .before .before .before .if1 .taken, c .before .before .before .before .before .before .before .before .before .before .pre .0)
+add-i c = omega (arith, c .before .before .before .before .before .before .if1 .taken, c .before .before .before .before .before .before .before .before .before .before .before .before .pre .0)
 
 loop-less : tie.Need-loop-less Inv-loop μ-loop
-loop-less c = omega (arith, c .before .before .before .before .before .if1 .taken)
+loop-less c = omega (arith, c .before .before .before .before .before .before .if1 .taken)
 
 loop-again : tie.Need-loop-again Inv-loop μ-loop
-loop-again c = gathered-more (c .before .before .before .before .before .before .before .before .before .before .args .f .parties) (c .before .before .before .before .before .before .before .loop .inv) (c .before .before .before .before .before .before .before .before .before .before .pre .0) (c .before .before .before .before .before .if1 .taken) (rw (cut-is (c .before .before .before .before .before .before .before .before .before .before .pre .1) (c .before .before .before .before .before .before .before .loop .i) (c .before .before .before .before .before .if1 .taken)) at (c .input-word .ensures))
+loop-again c = gathered-more (c .before .before .before .before .before .before .before .before .before .before .before .before .args .f .parties) (c .before .before .before .before .before .before .before .before .loop .inv) (c .before .before .before .before .before .before .before .before .before .before .before .before .pre .0) (c .before .before .before .before .before .before .if1 .taken) (rw (cut-is (c .before .before .before .before .before .before .before .before .before .before .before .before .pre .1) (c .before .before .before .before .before .before .before .before .loop .i) (c .before .before .before .before .before .before .if1 .taken)) at (c .input-word .ensures))
 
 returns : tie.Need-returns Inv-loop μ-loop
-returns c = gathered-all (c .before .before .before .before .before .args .f .parties) (c .before .before .loop .inv) (c .if1 .left)
+returns c = gathered-all (c .before .before .before .before .before .before .args .f .parties) (c .before .before .loop .inv) (c .if1 .left)
 
 pub input-words-spec : {M : Type 1} → statement M
 input-words-spec =
@@ -89,7 +89,7 @@ input-words-spec =
     part-input-word-start
     part-input-word-end
     mul-input-word-2
-    array-read-input-word
+    shared-slice-read-input-word
     input-word-requires
     mul-words
     array-write-words

@@ -22,11 +22,11 @@ enum-told c = search needs
 
 input-words-requires : tie.Need-input-words-requires
 unfolding roundOf
-input-words-requires c κs = let s = (rw (c .enum-told .given .1) at (c .before .before .before .before .before .before .before .before .before .before .before .before .pre)) in input-asks (s .0)
+input-words-requires c κs = let s = (rw (c .enum-told .given .1) at (c .before .before .before .before .before .before .before .before .before .before .before .before .pre)) in input-asks (s .0) (s .1)
 
 put-words-requires : tie.Need-put-words-requires
 unfolding roundOf
-put-words-requires c κs = let s = (rw (c .before .before .enum-told .given .1) at (c .before .before .before .before .before .before .before .before .before .before .before .before .before .before .pre)) in put-asks (s .0) (now (c .before .before .before .before .before .before .before .before .before .before .before .before .before .before .args .out)) (s .2) (input-one (s .0))
+put-words-requires c κs = let s = (rw (c .before .before .enum-told .given .1) at (c .before .before .before .before .before .before .before .before .before .before .before .before .before .before .pre)) in put-asks (s .0) (now (c .before .before .before .before .before .before .before .before .before .before .before .before .before .before .args .out)) (s .3) (input-one (s .0) (s .1))
 
 enum-told-2 : tie.Need-enum-told-2
 enum-told-2 c = search needs
@@ -36,14 +36,14 @@ second-of-requires c κs = search needs
 
 multiply-words-requires : tie.Need-multiply-words-requires
 unfolding roundOf
-multiply-words-requires c κs = let s = (rw (c .before .before .enum-told2 .given .1) at (c .before .before .before .before .before .before .before .before .before .before .before .before .before .before .pre)) in multiply-asks (s .0) (c .before .before .before .before .first-of .ensures ∙ ap first (s .1)) (c .before .second-of .ensures ∙ ap second (s .1)) (now (c .before .before .before .before .before .before .before .before .before .before .before .before .before .before .args .out)) (s .2)
+multiply-words-requires c κs = let s = (rw (c .before .before .enum-told2 .given .1) at (c .before .before .before .before .before .before .before .before .before .before .before .before .before .before .pre)) in multiply-asks (s .0) (c .before .before .before .before .first-of .ensures ∙ ap first (s .2)) (c .before .second-of .ensures ∙ ap second (s .2)) (now (c .before .before .before .before .before .before .before .before .before .before .before .before .before .before .args .out)) (s .3)
 
 enum-told-3 : tie.Need-enum-told-3
 enum-told-3 c = search needs
 
 put-marks-requires : tie.Need-put-marks-requires
 unfolding roundOf words
-put-marks-requires c κs = let s = (rw (c .before .enum-told3 .given .1) at (c .before .before .before .before .before .before .before .before .before .before .before .before .before .pre)) in put-asks (s .0) (now (c .before .before .before .before .before .before .before .before .before .before .before .before .before .args .out)) (s .2) refl
+put-marks-requires c κs = let s = (rw (c .before .enum-told3 .given .1) at (c .before .before .before .before .before .before .before .before .before .before .before .before .before .pre)) in put-asks (s .0) (now (c .before .before .before .before .before .before .before .before .before .before .before .before .before .args .out)) (s .3) refl
 
 check-shares-requires : tie.Need-check-shares-requires
 unfolding roundOf isCommit openedIn
@@ -54,25 +54,25 @@ enum-told-4 c = search needs
 
 put-words-requires-2 : tie.Need-put-words-requires-2
 unfolding roundOf words
-put-words-requires-2 c κs = let s = (rw (c .before .enum-told4 .given .1) at (c .before .before .before .before .before .before .before .before .before .before .before .before .before .pre)) in put-asks (s .0) (now (c .before .before .before .before .before .before .before .before .before .before .before .before .before .args .out)) (s .2) refl
+put-words-requires-2 c κs = let s = (rw (c .before .enum-told4 .given .1) at (c .before .before .before .before .before .before .before .before .before .before .before .before .before .pre)) in put-asks (s .0) (now (c .before .before .before .before .before .before .before .before .before .before .before .before .before .args .out)) (s .3) refl
 
 enum-told-5 : tie.Need-enum-told-5
 enum-told-5 c = search needs
 
 output-words-requires : tie.Need-output-words-requires
 unfolding roundOf
-output-words-requires c κs = let s = (rw (c .enum-told5 .given .1) at (c .before .before .before .before .before .before .before .before .before .before .before .before .pre)) in output-asks (s .0) (c .before .before .first-of .ensures ∙ ap first (s .1))
+output-words-requires c κs = let s = (rw (c .enum-told5 .given .1) at (c .before .before .before .before .before .before .before .before .before .before .before .before .pre)) in output-asks (s .0) (c .before .before .first-of .ensures ∙ ap first (s .2))
 
 put-words-requires-3 : tie.Need-put-words-requires-3
 unfolding roundOf
-put-words-requires-3 c κs = let s = (rw (c .before .before .enum-told5 .given .1) at (c .before .before .before .before .before .before .before .before .before .before .before .before .before .before .pre)) in put-asks (s .0) (now (c .before .before .before .before .before .before .before .before .before .before .before .before .before .before .args .out)) (s .2) (output-one (s .0) (c .before .before .before .before .first-of .ensures ∙ ap first (s .1)))
+put-words-requires-3 c κs = let s = (rw (c .before .before .enum-told5 .given .1) at (c .before .before .before .before .before .before .before .before .before .before .before .before .before .before .pre)) in put-asks (s .0) (now (c .before .before .before .before .before .before .before .before .before .before .before .before .before .before .args .out)) (s .3) (output-one (s .0) (c .before .before .before .before .first-of .ensures ∙ ap first (s .2)))
 
 enum-told-6 : tie.Need-enum-told-6
 enum-told-6 c = search needs
 
 put-marks-requires-2 : tie.Need-put-marks-requires-2
 unfolding roundOf words
-put-marks-requires-2 c κs = let s = (rw (c .before .enum-told6 .given .1) at (c .before .before .before .before .before .before .before .before .before .before .before .before .before .pre)) in put-asks (s .0) (now (c .before .before .before .before .before .before .before .before .before .before .before .before .before .args .out)) (s .2) refl
+put-marks-requires-2 c κs = let s = (rw (c .before .enum-told6 .given .1) at (c .before .before .before .before .before .before .before .before .before .before .before .before .before .pre)) in put-asks (s .0) (now (c .before .before .before .before .before .before .before .before .before .before .before .before .before .args .out)) (s .3) refl
 
 check-shares-requires-2 : tie.Need-check-shares-requires-2
 unfolding roundOf isCommit openedIn
@@ -83,21 +83,21 @@ enum-told-7 c = search needs
 
 put-words-requires-4 : tie.Need-put-words-requires-4
 unfolding roundOf words
-put-words-requires-4 c κs = let s = (rw (c .before .enum-told7 .given .1) at (c .before .before .before .before .before .before .before .before .before .before .before .before .before .pre)) in put-asks (s .0) (now (c .before .before .before .before .before .before .before .before .before .before .before .before .before .args .out)) (s .2) refl
+put-words-requires-4 c κs = let s = (rw (c .before .enum-told7 .given .1) at (c .before .before .before .before .before .before .before .before .before .before .before .before .before .pre)) in put-asks (s .0) (now (c .before .before .before .before .before .before .before .before .before .before .before .before .before .args .out)) (s .3) refl
 
 same-length : tie.Need-same-length
 same-length c = search needs
 
 returns : tie.Need-returns
 unfolding roundOf isCommit
-returns c = let s = (rw (c .before .before .before .before .before .enum-told .given .1) at (c .before .before .before .before .before .before .before .before .before .before .before .before .before .before .before .before .before .pre)) in rw (c .before .before .before .before .before .enum-told .given .1) (held-none (s .0) refl, said-input (s .0) (c .before .before .before .before .before .before .before .first-of .ensures ∙ ap first (s .1)) (c .before .before .before .before .input-words .result) (c .before .before .before .before .input-words .ensures) (c .before .before .put-words .ensures))
+returns c = let s = (rw (c .before .before .before .before .before .enum-told .given .1) at (c .before .before .before .before .before .before .before .before .before .before .before .before .before .before .before .before .before .pre)) in rw (c .before .before .before .before .before .enum-told .given .1) (held-none (s .0) refl, said-input (s .0) (s .1) (c .before .before .before .before .before .before .before .first-of .ensures ∙ ap first (s .2)) (c .before .before .before .before .input-words .result) (c .before .before .before .before .input-words .ensures) (c .before .before .put-words .ensures))
 
 same-length-2 : tie.Need-same-length-2
 same-length-2 c = search needs
 
 returns-2 : tie.Need-returns-2
 unfolding roundOf isCommit
-returns-2 c = let s = (rw (c .before .before .before .before .before .enum-told2 .given .1) at (c .before .before .before .before .before .before .before .before .before .before .before .before .before .before .before .before .before .pre)) in rw (c .before .before .before .before .before .enum-told2 .given .1) (held-none (s .0) refl, said-multiply (s .0) (c .before .before .before .before .before .before .before .first-of .ensures ∙ ap first (s .1)) (c .before .before .before .before .second-of .ensures ∙ ap second (s .1)) (c .before .before .multiply-words .ensures))
+returns-2 c = let s = (rw (c .before .before .before .before .before .enum-told2 .given .1) at (c .before .before .before .before .before .before .before .before .before .before .before .before .before .before .before .before .before .pre)) in rw (c .before .before .before .before .before .enum-told2 .given .1) (held-none (s .0) refl, said-multiply (s .0) (c .before .before .before .before .before .before .before .first-of .ensures ∙ ap first (s .2)) (c .before .before .before .before .second-of .ensures ∙ ap second (s .2)) (c .before .before .multiply-words .ensures))
 
 same-length-3 : tie.Need-same-length-3
 same-length-3 c = search needs
@@ -118,7 +118,7 @@ same-length-5 c = search needs
 
 returns-5 : tie.Need-returns-5
 unfolding roundOf isCommit
-returns-5 c = let s = (rw (c .before .before .before .before .before .enum-told5 .given .1) at (c .before .before .before .before .before .before .before .before .before .before .before .before .before .before .before .before .before .pre)) in rw (c .before .before .before .before .before .enum-told5 .given .1) (held-none (s .0) refl, said-output (s .0) (c .before .before .before .before .before .before .before .first-of .ensures ∙ ap first (s .1)) (c .before .before .before .before .output-words .result) (c .before .before .before .before .output-words .ensures) (c .before .before .put-words3 .ensures))
+returns-5 c = let s = (rw (c .before .before .before .before .before .enum-told5 .given .1) at (c .before .before .before .before .before .before .before .before .before .before .before .before .before .before .before .before .before .pre)) in rw (c .before .before .before .before .before .enum-told5 .given .1) (held-none (s .0) refl, said-output (s .0) (c .before .before .before .before .before .before .before .first-of .ensures ∙ ap first (s .2)) (c .before .before .before .before .output-words .result) (c .before .before .before .before .output-words .ensures) (c .before .before .put-words3 .ensures))
 
 same-length-6 : tie.Need-same-length-6
 same-length-6 c = search needs

@@ -1,0 +1,51 @@
+-- `joint::framing::count_input` meets its contract.
+-- Assumes nothing.
+use mathlib.Core.Path.{sym, ap, _∙_}
+use native.Mathlib.Omega.{arith}
+use borrow.Author.Needs.{needs}
+use Rattle.circuit.specs.Gate.{first}
+use Rattle.circuit.specs.Kind.{isIn}
+use Rattle.joint.proofs.Arrays.{counted-other, owner-there, owner-few, counted-in}
+use Rattle.joint.proofs.framing.count_input.Statement.{statement}
+use Rattle.joint.proofs.framing.count_input.Tie as tie
+
+is-in-requires : tie.Need-is-in-requires
+is-in-requires c κs = search needs
+
+first-of-requires : tie.Need-first-of-requires
+first-of-requires c κs = search needs
+
+mul-counts : tie.Need-mul-counts
+mul-counts c = omega (arith, owner-there (c .before .before .before .before .before .pre .4) (c .before .before .before .before .before .pre .0) (c .before .before .before .before .before .pre .1) (c .before .before .before .before .before .pre .2) (sym (ap isIn (c .before .before .before .before .before .pre .3)) ∙ sym (c .before .before .is-in .ensures) ∙ c .before .if1 .taken) (c .first-of .ensures ∙ ap first (c .before .before .before .before .before .pre .3)), c .before .before .before .before .before .pre .4 .eight)
+
+slice-read-counts : tie.Need-slice-read-counts
+slice-read-counts c = owner-there (c .before .before .before .before .before .before .pre .4) (c .before .before .before .before .before .before .pre .0) (c .before .before .before .before .before .before .pre .1) (c .before .before .before .before .before .before .pre .2) (sym (ap isIn (c .before .before .before .before .before .before .pre .3)) ∙ sym (c .before .before .before .is-in .ensures) ∙ c .before .before .if1 .taken) (c .before .first-of .ensures ∙ ap first (c .before .before .before .before .before .before .pre .3))
+
+add-counts : tie.Need-add-counts
+add-counts c = omega (arith, owner-few (c .before .before .before .before .before .before .pre .4) (c .before .before .before .before .before .before .pre .0) (c .before .before .before .before .before .before .pre .1) (c .before .before .before .before .before .before .pre .2) (sym (ap isIn (c .before .before .before .before .before .before .pre .3)) ∙ sym (c .before .before .before .is-in .ensures) ∙ c .before .before .if1 .taken) (c .before .first-of .ensures ∙ ap first (c .before .before .before .before .before .before .pre .3)))
+
+slice-write-counts : tie.Need-slice-write-counts
+slice-write-counts c = owner-there (c .before .before .before .before .before .before .pre .4) (c .before .before .before .before .before .before .pre .0) (c .before .before .before .before .before .before .pre .1) (c .before .before .before .before .before .before .pre .2) (sym (ap isIn (c .before .before .before .before .before .before .pre .3)) ∙ sym (c .before .before .before .is-in .ensures) ∙ c .before .before .if1 .taken) (c .before .first-of .ensures ∙ ap first (c .before .before .before .before .before .before .pre .3))
+
+same-length : tie.Need-same-length
+same-length c = search needs
+
+returns : tie.Need-returns
+returns c = counted-in (c .before .before .before .before .before .before .pre .4) (c .before .before .before .before .before .before .pre .0) (c .before .before .before .before .before .before .pre .1) (c .before .before .before .before .before .before .pre .2) (sym (ap isIn (c .before .before .before .before .before .before .pre .3)) ∙ sym (c .before .before .before .is-in .ensures) ∙ c .before .before .if1 .taken) (c .before .first-of .ensures ∙ ap first (c .before .before .before .before .before .before .pre .3))
+
+returns-2 : tie.Need-returns-2
+returns-2 c = counted-other (c .before .before .before .before .pre .4) (sym (ap isIn (c .before .before .before .before .pre .3)) ∙ sym (c .before .is-in .ensures) ∙ c .if1 .left)
+
+pub count-input-spec : {M : Type 1} → statement M
+count-input-spec =
+    tie.close
+    (tie.spec
+    is-in-requires
+    first-of-requires
+    mul-counts
+    slice-read-counts
+    add-counts
+    slice-write-counts
+    same-length
+    returns
+    returns-2)
