@@ -1,56 +1,20 @@
-// Calling an entry and printing its answer.
-use crate::naming::Entry;
-use crate::naming::print_stage;
-use crate::request::CIRCUIT;
-use crate::request::INPUTS;
-use crate::request::PREP;
-use crate::request::Request;
-use crate::request::WORDS;
-use crate::request::part;
-use crate::request::within;
+// Calling the entry of a request and printing its answer.
 use joint::JointAnswer;
-use party::Answer;
-use party::Position;
+use requests::entries::answer_open;
+use requests::entries::answer_receive;
+use requests::entries::answer_send;
+use requests::entries::print_line;
+use requests::entries::print_refusal;
+use requests::naming::Entry;
+use requests::request::CIRCUIT;
+use requests::request::INPUTS;
+use requests::request::PREP;
+use requests::request::Request;
+use requests::request::WORDS;
+use requests::request::part;
+use requests::request::within;
 ghost use Prim.Native.Nat.{_≤_};
 ghost use lib.ListN.{length};
-
-fn print_line(name: &[u8], n: usize) {
-    printing::print(name);
-    printing::print_number(n as u64);
-}
-
-// A gate, a stage and a check share.
-fn print_position(at: Position) {
-    let stage = at.stage;
-    printing::print_number(at.gate as u64);
-    print_stage(stage);
-    printing::print_number(at.held as u64);
-    printing::print(b"\n");
-}
-
-fn print_refusal(number: u32, index: usize) {
-    print_line(b"refusal", number as usize);
-    printing::print_number(index as u64);
-    printing::print(b"\n");
-}
-
-fn print_answer(answer: Answer) {
-    match answer {
-        Answer::Refusal { number, index } => print_refusal(number, index),
-        Answer::Next(at) => {
-            printing::print(b"next");
-            print_position(at);
-        }
-        Answer::Output(value, at) => {
-            print_line(b"output", value as usize);
-            print_position(at);
-        }
-        Answer::Abort(at) => {
-            printing::print(b"abort");
-            print_position(at);
-        }
-    }
-}
 
 fn print_joint(answer: JointAnswer) {
     match answer {
@@ -65,66 +29,6 @@ fn print_joint(answer: JointAnswer) {
             printing::print(b"\n");
         }
     }
-}
-
-fn answer_open(request: Request, c: &[u32], prep: &[u32], inputs: &[u32], scratch: &[u32]) {
-    let lent = request.lent;
-    print_answer(party::open_run(
-        lent.parties as usize,
-        lent.me as usize,
-        c,
-        prep,
-        inputs,
-        scratch,
-    ));
-}
-
-fn answer_send(
-    request: Request,
-    c: &[u32],
-    prep: &[u32],
-    inputs: &[u32],
-    scratch: &[u32],
-    coefficients: &[u32],
-    out: &mut [u32],
-) {
-    let lent = request.lent;
-    let at = request.at;
-    print_answer(party::send(
-        lent.parties as usize,
-        lent.me as usize,
-        c,
-        prep,
-        inputs,
-        scratch,
-        at,
-        coefficients,
-        out,
-    ));
-    printing::print_list(b"out", out);
-}
-
-fn answer_receive(
-    request: Request,
-    c: &[u32],
-    prep: &[u32],
-    inputs: &[u32],
-    scratch: &mut [u32],
-    heard: &[u32],
-) {
-    let lent = request.lent;
-    let at = request.at;
-    print_answer(party::receive(
-        lent.parties as usize,
-        lent.me as usize,
-        c,
-        prep,
-        inputs,
-        scratch,
-        at,
-        heard,
-    ));
-    printing::print_list(b"scratch", scratch);
 }
 
 fn answer_joint(
@@ -152,12 +56,15 @@ fn answer_joint(
     let entry = request.entry;
     match entry {
         Entry::Show => print_shown(lent.parties, c, answer, transcript, outputs),
-        _ => {
-            printing::print_list(b"scratch", scratch);
-            printing::print_list(b"transcript", transcript);
-            printing::print_list(b"outputs", outputs);
-        }
+        _ => print_lists(scratch, transcript, outputs),
     }
+}
+
+// The lists that a joint run may write.
+fn print_lists(scratch: &[u32], transcript: &[u32], outputs: &[u32]) {
+    printing::print_list(b"scratch", scratch);
+    printing::print_list(b"transcript", transcript);
+    printing::print_list(b"outputs", outputs);
 }
 
 // A joint run for a reader: the rounds made, and the outputs of a finished run.
@@ -180,8 +87,31 @@ fn print_shown(parties: u32, c: &[u32], answer: JointAnswer, transcript: &[u32],
     }
 }
 
-// The answer to a whole request. Each list is the part of its room that was read.
-pub fn answer(
+// Calls the entry of a request on what it is lent.
+fn call(
+    request: Request,
+    c: &[u32],
+    prep: &[u32],
+    inputs: &[u32],
+    scratch: &mut [u32],
+    words: &[u32],
+    out: &mut [u32],
+    outputs: &mut [u32],
+) {
+    let entry = request.entry;
+    match entry {
+        Entry::Open => answer_open(request, c, prep, inputs, scratch),
+        Entry::Send => answer_send(request, c, prep, inputs, scratch, words, out),
+        Entry::Receive => answer_receive(request, c, prep, inputs, scratch, words),
+        Entry::Joint | Entry::Show => {
+            answer_joint(request, c, prep, inputs, scratch, words, out, outputs)
+        }
+        Entry::None => {}
+    }
+}
+
+// Calls the entry on the parts of the room that were given to it.
+fn call_given(
     request: Request,
     given: &[u32],
     scratch: &mut [u32],
@@ -195,45 +125,37 @@ pub fn answer(
     let p = PREP + within(lent.prep);
     let i = INPUTS + within(lent.inputs);
     let w = WORDS + within(lent.words);
+    call(
+        request,
+        &given[CIRCUIT..c],
+        &given[PREP..p],
+        &given[INPUTS..i],
+        scratch,
+        &given[WORDS..w],
+        out,
+        outputs,
+    );
+}
+
+// The answer to a whole request. Each list is the part of its room that was read.
+pub fn answer(
+    request: Request,
+    given: &[u32],
+    scratch: &mut [u32],
+    out: &mut [u32],
+    outputs: &mut [u32],
+)
+    requires { ⌜ 65536 ≤ length (now given) ⌝ }
+{
+    let lent = request.lent;
     let s = part(lent.scratch, scratch);
     let o = part(lent.out, out);
     let q = part(lent.outputs, outputs);
-    let entry = request.entry;
-    match entry {
-        Entry::Open => answer_open(
-            request,
-            &given[CIRCUIT..c],
-            &given[PREP..p],
-            &given[INPUTS..i],
-            &scratch[..s],
-        ),
-        Entry::Send => answer_send(
-            request,
-            &given[CIRCUIT..c],
-            &given[PREP..p],
-            &given[INPUTS..i],
-            &scratch[..s],
-            &given[WORDS..w],
-            &mut out[..o],
-        ),
-        Entry::Receive => answer_receive(
-            request,
-            &given[CIRCUIT..c],
-            &given[PREP..p],
-            &given[INPUTS..i],
-            &mut scratch[..s],
-            &given[WORDS..w],
-        ),
-        Entry::Joint | Entry::Show => answer_joint(
-            request,
-            &given[CIRCUIT..c],
-            &given[PREP..p],
-            &given[INPUTS..i],
-            &mut scratch[..s],
-            &given[WORDS..w],
-            &mut out[..o],
-            &mut outputs[..q],
-        ),
-        Entry::None => {}
-    }
+    call_given(
+        request,
+        given,
+        &mut scratch[..s],
+        &mut out[..o],
+        &mut outputs[..q],
+    );
 }

@@ -1,15 +1,17 @@
 // Reads requests as text from standard input, and prints their answers, as docs/REPLAY.md says.
 mod answering;
-mod naming;
-mod reading;
-mod request;
-mod storing;
 
 use libc::STDIN_FILENO;
-use naming::Entry;
-use naming::Field;
-use reading::Step;
-use request::Request;
+use requests::naming::Entry;
+use requests::naming::Field;
+use requests::reading;
+use requests::reading::shorter;
+use requests::request::Request;
+use requests::request::dropped;
+use requests::request::is_complete;
+use requests::request::moved_on;
+use requests::request::started;
+use requests::storing;
 ghost use Prim.Native.Nat.{_<_, _≤_};
 ghost use mathlib.Core.Path.{_≡_};
 ghost use lib.ListN.{length};
@@ -48,9 +50,8 @@ fn line_room() -> [u8; 262144]
     [0; 262144]
 }
 
-// The next line, of which nothing is read.
-fn next_line(course: Course, request: Request) -> Course {
-    let number = course.number;
+// The line after one, of which nothing is read.
+fn next_line(number: u64, request: Request) -> Course {
     Course {
         request,
         number: if number < MOST { number + 1 } else { number },
@@ -72,11 +73,25 @@ fn put_byte(line: &mut [u8], b: u8, course: Course) -> Course {
     next
 }
 
-// The lesser of two counts.
-fn shorter(n: usize, end: usize) -> usize
-    ensures { λ r. ⌜ r ≤ end ⌝ }
+// A whole line. A request that is complete is answered.
+fn take_line(
+    number: u64,
+    line: &[u8],
+    request: Request,
+    given: &mut [u32],
+    scratch: &mut [u32],
+    out: &mut [u32],
+    outputs: &mut [u32],
+) -> Request
+    requires { ⌜ 65536 ≤ length (now given) ⌝ }
 {
-    if n < end { n } else { end }
+    let read = storing::read_line(number, line, request, given, scratch, out, outputs);
+    let wanted = read.wanted;
+    if is_complete(wanted) {
+        answering::answer(read, given, scratch, out, outputs);
+        return moved_on(read);
+    }
+    read
 }
 
 // The end of a line.
@@ -94,25 +109,11 @@ fn end_line(
     let request = course.request;
     if course.long {
         reading::complain(number, b"more than 262144 bytes");
-        return next_line(course, request::dropped(request));
+        return next_line(number, dropped(request));
     }
     let end = shorter(course.length, line.len());
-    match reading::take_line(number, &line[0..end], request) {
-        Step::Goes(next) => next_line(course, next),
-        Step::List(next, from) => {
-            let start = shorter(from, end);
-            let stored = storing::store(
-                number,
-                &line[start..end],
-                next,
-                given,
-                scratch,
-                out,
-                outputs,
-            );
-            next_line(course, stored)
-        }
-    }
+    let next = take_line(number, &line[0..end], request, given, scratch, out, outputs);
+    next_line(number, next)
 }
 
 // A byte of the input.
@@ -195,7 +196,7 @@ fn replay(
     requires { ⌜ 65536 ≤ length (now given) ⌝ }
 {
     let mut course = Course {
-        request: request::started(Entry::None, Field::Start),
+        request: started(Entry::None, Field::Start),
         number: 1,
         length: 0,
         long: false,

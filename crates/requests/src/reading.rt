@@ -16,6 +16,7 @@ use crate::request::with_number;
 use crate::request::with_position;
 use party::Position;
 use text::Numbers;
+ghost use Prim.Native.Nat.{_≤_};
 
 const HASH: u8 = 35;
 
@@ -180,6 +181,13 @@ fn begin(number: u64, entry: Entry, bare: bool, request: Request) -> Request {
         return dropped(request);
     }
     started(entry, Field::Parties)
+}
+
+// The lesser of two counts.
+pub fn shorter(n: usize, end: usize) -> usize
+    ensures { λ r. ⌜ r ≤ end ⌝ }
+{
+    if n < end { n } else { end }
 }
 
 // A line of the input.

@@ -8,7 +8,7 @@ ghost use Prim.Native.Nat.{_≤_};
 ghost use Rattle.io.specs.Counts.{Counts};
 
 // The most numbers of a list.
-const ROOM: usize = 16384;
+pub const ROOM: usize = 16384;
 
 // The lists that are only read share one room, in which each has its place.
 pub const CIRCUIT: usize = 0;
@@ -182,41 +182,25 @@ fn lent_number(lent: Lent, wanted: Field, n: u32) -> Lent {
 }
 
 pub fn with_length(request: Request, n: usize) -> Request {
-    let entry = request.entry;
-    let wanted = request.wanted;
-    let at = request.at;
     let lent = request.lent;
-    Request {
-        entry,
-        wanted,
-        at,
-        lent: lent_list(lent, wanted, n),
-    }
+    let wanted = request.wanted;
+    let mut next = request;
+    next.lent = lent_list(lent, wanted, n);
+    next
 }
 
 pub fn with_number(request: Request, n: u32) -> Request {
-    let entry = request.entry;
-    let wanted = request.wanted;
-    let at = request.at;
     let lent = request.lent;
-    Request {
-        entry,
-        wanted,
-        at,
-        lent: lent_number(lent, wanted, n),
-    }
+    let wanted = request.wanted;
+    let mut next = request;
+    next.lent = lent_number(lent, wanted, n);
+    next
 }
 
 pub fn with_position(request: Request, at: Position) -> Request {
-    let entry = request.entry;
-    let wanted = request.wanted;
-    let lent = request.lent;
-    Request {
-        entry,
-        wanted,
-        at,
-        lent,
-    }
+    let mut next = request;
+    next.at = at;
+    next
 }
 
 // A count of a list that is only read, or the most that there is room for.

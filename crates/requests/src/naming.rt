@@ -74,24 +74,42 @@ pub fn is_entry(entry: Entry) -> bool {
     }
 }
 
+// The name of a list that an entry only reads.
+fn spell_given(field: Field, printed: bool, word: &[u8]) -> bool {
+    match field {
+        Field::Circuit => spell(b"circuit", printed, word),
+        Field::Prep => spell(b"prep", printed, word),
+        Field::Preps => spell(b"preps", printed, word),
+        Field::Inputs => spell(b"inputs", printed, word),
+        Field::Coefficients => spell(b"coefficients", printed, word),
+        Field::Heard => spell(b"heard", printed, word),
+        _ => false,
+    }
+}
+
+// The name of a list that an entry may write.
+fn spell_written(field: Field, printed: bool, word: &[u8]) -> bool {
+    match field {
+        Field::Scratch => spell(b"scratch", printed, word),
+        Field::Out => spell(b"out", printed, word),
+        Field::Transcript => spell(b"transcript", printed, word),
+        Field::Outputs => spell(b"outputs", printed, word),
+        _ => false,
+    }
+}
+
 // Prints the name of what is wanted; or tells whether a word is it.
 pub fn spell_field(field: Field, printed: bool, word: &[u8]) -> bool {
     match field {
         Field::Start => spell(b"the name of an entry", printed, word),
         Field::Parties => spell(b"parties", printed, word),
         Field::Party => spell(b"party", printed, word),
-        Field::Circuit => spell(b"circuit", printed, word),
-        Field::Prep => spell(b"prep", printed, word),
-        Field::Preps => spell(b"preps", printed, word),
-        Field::Inputs => spell(b"inputs", printed, word),
-        Field::Scratch => spell(b"scratch", printed, word),
         Field::Position => spell(b"position", printed, word),
-        Field::Coefficients => spell(b"coefficients", printed, word),
-        Field::Heard => spell(b"heard", printed, word),
-        Field::Out => spell(b"out", printed, word),
-        Field::Transcript => spell(b"transcript", printed, word),
-        Field::Outputs => spell(b"outputs", printed, word),
+        Field::Scratch | Field::Out | Field::Transcript | Field::Outputs => {
+            spell_written(field, printed, word)
+        }
         Field::Dropped | Field::Complete => false,
+        _ => spell_given(field, printed, word),
     }
 }
 

@@ -1,12 +1,12 @@
--- `replay::request::part` meets its contract: what is taken of a list is no longer than it.
+-- `requests::request::part` meets its contract: what is taken of a list is no longer than it.
 -- Assumes nothing.
 use mathlib.Core.Path.{sym}
 use native.Mathlib.Nat.{le-refl}
 use native.Mathlib.Omega.{arith}
 use lib.Seq.{length-take-le}
 use borrow.Author.Needs.{needs}
-use Rattle.replay.proofs.request.part.Statement.{statement}
-use Rattle.replay.proofs.request.part.Tie as tie
+use Rattle.requests.proofs.request.part.Statement.{statement}
+use Rattle.requests.proofs.request.part.Tie as tie
 
 returns : tie.Need-returns
 returns c = (omega arith, sym (length-take-le _ _ (omega arith)))

@@ -1,9 +1,9 @@
--- `replay::naming::stage_named` meets its contract: there are sixteen stages to try.
+-- `requests::naming::stage_named` meets its contract: there are sixteen stages to try.
 -- Assumes nothing.
 use Prim.Native.Nat.{_-_, _≤_}
 use borrow.Author.Needs.{needs}
-use Rattle.replay.proofs.naming.stage_named.Statement.{statement}
-use Rattle.replay.proofs.naming.stage_named.Tie as tie
+use Rattle.requests.proofs.naming.stage_named.Statement.{statement}
+use Rattle.requests.proofs.naming.stage_named.Tie as tie
 
 abbrev Inv-loop : tie.InvT-loop
 Inv-loop word k₀ k = k ≤ 16
