@@ -110,7 +110,7 @@ fn call(
     }
 }
 
-// Calls the entry on the parts of the room that were given to it.
+// Calls the entry on the part that was read of each list that it only reads.
 fn call_given(
     request: Request,
     given: &[u32],

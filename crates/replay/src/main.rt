@@ -15,6 +15,7 @@ use requests::storing;
 ghost use Prim.Native.Nat.{_<_, _≤_};
 ghost use mathlib.Core.Path.{_≡_};
 ghost use lib.ListN.{length};
+ghost use Rattle.io.specs.Counts.{Counts};
 
 const LINE_FEED: u8 = 10;
 
@@ -176,6 +177,13 @@ fn finish(
     reading::take_end(last.number, request);
 }
 
+// Reads a piece of the input. How many bytes it has.
+fn read_piece(piece: &mut [u8]) -> usize
+    ensures { λ r. ⌜ Counts r (now (piece .exit)) ⌝ }
+{
+    io::count(libc::read(STDIN_FILENO, piece), piece)
+}
+
 // How many reads may follow one that brought so many bytes: none after the end of the input.
 fn turns_left(left: u64, count: usize) -> u64
     requires { ⌜ 0 < left ⌝ }
@@ -195,15 +203,10 @@ fn replay(
 )
     requires { ⌜ 65536 ≤ length (now given) ⌝ }
 {
-    let mut course = Course {
-        request: started(Entry::None, Field::Start),
-        number: 1,
-        length: 0,
-        long: false,
-    };
+    let mut course = next_line(0, started(Entry::None, Field::Start));
     let mut left = MOST;
     while 0 < left {
-        let count = io::count(libc::read(STDIN_FILENO, piece), piece);
+        let count = read_piece(piece);
         course = feed(&piece[..count], line, course, given, scratch, out, outputs);
         left = turns_left(left, count);
     }
