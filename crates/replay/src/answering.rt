@@ -3,7 +3,7 @@ use joint::JointAnswer;
 use requests::entries::answer_open;
 use requests::entries::answer_receive;
 use requests::entries::answer_send;
-use requests::entries::print_line;
+use requests::entries::print_named;
 use requests::entries::print_refusal;
 use requests::naming::Entry;
 use requests::request::CIRCUIT;
@@ -20,11 +20,11 @@ fn print_joint(answer: JointAnswer) {
     match answer {
         JointAnswer::Refusal { number, index } => print_refusal(number, index),
         JointAnswer::Done(rounds) => {
-            print_line(b"done", rounds);
+            print_named(b"done", rounds);
             printing::print(b"\n");
         }
         JointAnswer::Stopped { gate, rounds } => {
-            print_line(b"stopped", gate);
+            print_named(b"stopped", gate);
             printing::print_number(rounds as u64);
             printing::print(b"\n");
         }

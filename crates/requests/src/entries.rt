@@ -5,7 +5,7 @@ use party::Answer;
 use party::Position;
 
 // A name and a number, with which a line of an answer begins.
-pub fn print_line(name: &[u8], n: usize) {
+pub fn print_named(name: &[u8], n: usize) {
     printing::print(name);
     printing::print_number(n as u64);
 }
@@ -20,7 +20,7 @@ fn print_position(at: Position) {
 }
 
 pub fn print_refusal(number: u32, index: usize) {
-    print_line(b"refusal", number as usize);
+    print_named(b"refusal", number as usize);
     printing::print_number(index as u64);
     printing::print(b"\n");
 }
@@ -33,7 +33,7 @@ fn print_answer(answer: Answer) {
             print_position(at);
         }
         Answer::Output(value, at) => {
-            print_line(b"output", value as usize);
+            print_named(b"output", value as usize);
             print_position(at);
         }
         Answer::Abort(at) => {
