@@ -1,6 +1,6 @@
 // The circuit format: its numbers as gates, the questions asked of a circuit, and what is counted along it.
 ghost use mathlib.Core.Path.{_≡_};
-ghost use mathlib.Core.Bool.{cond, not, _&&_};
+ghost use mathlib.Core.Bool.{true, cond, not, _&&_};
 ghost use mathlib.Core.List.{List};
 ghost use Prim.Native.Nat.{ℕ, _+_, _*_, _<_, _≤_};
 ghost use lib.ListN.{length};
@@ -333,6 +333,33 @@ fn has_value_at(c: &[u32], j: usize) -> bool
 {
     let at = GATE_SIZE * j;
     has_value(decode_gate(c[at], 0, 0, 0))
+}
+
+// Is gate j an in gate? Its kind tells.
+pub fn is_in_at(c: &[u32], j: usize) -> bool
+    requires { ⌜ gateSize * j + gateSize ≤ length (now c) ⌝ }
+    ensures { λ r. ⌜ r ≡ isIn (gate (now (c .entry)) j) ⌝ }
+{
+    let at = GATE_SIZE * j;
+    is_in(decode_gate(c[at], 0, 0, 0))
+}
+
+// What gate j names first: it stands at one place, whatever the kind.
+pub fn first_at(c: &[u32], j: usize) -> usize
+    requires { ⌜ gateSize * j + gateSize ≤ length (now c) ⌝ }
+    ensures { λ r. ⌜ r ≡ first (gate (now (c .entry)) j) ⌝ }
+{
+    let at = GATE_SIZE * j + 1;
+    c[at] as usize
+}
+
+// What gate j, a mul gate, names second.
+pub fn second_at(c: &[u32], j: usize) -> usize
+    requires { ⌜ (gateSize * j + gateSize ≤ length (now c)) × (isMul (gate (now c) j) ≡ true) ⌝ }
+    ensures { λ r. ⌜ r ≡ second (gate (now (c .entry)) j) ⌝ }
+{
+    let at = GATE_SIZE * j + 2;
+    c[at] as usize
 }
 
 // May gate j name gate x?

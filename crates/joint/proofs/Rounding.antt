@@ -86,9 +86,8 @@ module _ {J : Joint} {f : Frame} {s : Course} {r : Round} {l t o places : List �
     -- what sending asks
     pub round-sends : Going J f s r l
         × Placed (J .parties) (J .circuit) (s .point .gate) places
-        × (g ≡ gate (J .circuit) (s .point .gate))
         × (length (take (s .written + J .parties * k - s .written) (drop (s .written) t)) ≡ J .parties * words (gate (J .circuit) (s .point .gate)) r)
-    round-sends = (u .going, placed, g-is, room)
+    round-sends = (u .going, placed, room)
 
     said-long : length saidHere ≡ J .parties * k
     unfolding stateOf pointOf
@@ -165,7 +164,6 @@ module _ {J : Joint} {f : Frame} {s : Course} {r : Round} {l t o places : List �
         pub round-passes : Valid (J .parties) p (J .circuit)
             × (J .parties ≤ mostParties)
             × (s .point .gate < gates (J .circuit))
-            × (g ≡ gate (J .circuit) (s .point .gate))
             × Tallied (J .circuit) 0 (s .point .gate) (s .tally)
             × Placed (J .parties) (J .circuit) (s .point .gate) places
             × Onward (J .circuit) (s .point .gate) (x .gate)
@@ -173,7 +171,6 @@ module _ {J : Joint} {f : Frame} {s : Course} {r : Round} {l t o places : List �
           u .going .lent .valid,
           u .going .lent .few,
           within J f s r l (u .going),
-          g-is,
           u .going .tallied,
           placed,
           rw gate-is (next-onward (J .circuit) (u .going .lent .valid) (J .parties) (s .point .gate) r saidHere (within J f s r l (u .going))),

@@ -2,11 +2,14 @@
 -- Assumes nothing.
 use Prim.Native.Nat.{ℕ, _+_, _-_, _*_, _<_, _≤_}
 use mathlib.Core.Path.{_≡_, _∙_}
+use mathlib.Core.Bool.{true}
 use mathlib.Core.List.{List}
 use native.Mathlib.Omega.{arith}
 use lib.ListN.{length}
-use Rattle.circuit.specs.Gate.{gateSize}
-use Rattle.circuit.specs.Round.{Round}
+use Rattle.circuit.specs.Gate.{gateSize, kind, gate}
+use Rattle.circuit.specs.Kind.{isMul}
+use Rattle.circuit.specs.Round.{Round, Multiply, rounds, among}
+use Rattle.circuit.proofs.Rounds.{gate-at-round}
 use Rattle.steps.specs.Position.{reach}
 use Rattle.steps.specs.Code.{pointOf, Stands, Receives, Hears}
 use Rattle.steps.proofs.Received.{hears, reach-asks, stands}
@@ -21,6 +24,14 @@ use Rattle.joint.proofs.Going.{within}
 -- the gate of a round lies in the circuit
 pub gate-fits : (J : Joint) (f : Frame) (s : Course) (r : Round) (l : List ℕ) → Going J f s r l → gateSize * (s .point .gate) + gateSize ≤ length (J .circuit)
 gate-fits J f s r l g = omega (arith, g .lent .valid .whole, within J f s r l g)
+
+pub hears-fit : {n : ℕ} {c : List ℕ} {j : ℕ} {r : Round} {heard : List ℕ} → Hears n c j r heard → gateSize * j + gateSize ≤ length c
+hears-fit h = omega (arith, h .valid .whole, h .within)
+
+-- a gate that multiplies is a mul gate
+pub mul-round : (c : List ℕ) (j : ℕ) → among Multiply (rounds c j) ≡ true → isMul (gate c j) ≡ true
+unfolding isMul kind
+mul-round c j e = rw (gate-at-round c j Multiply e .2)
 
 module _ (J : Joint) (f : Frame) (s : Course) (r : Round) (heard l₀ : List ℕ) where
   module _ (long : J .parties * f .scratch ≤ length l₀)

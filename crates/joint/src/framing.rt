@@ -1,24 +1,23 @@
 // What stays the same from round to round.
 use crate::Frame;
-use circuit::Gate;
 use circuit::Totals;
 use steps::Layout;
 ghost use mathlib.Core.Path.{_≡_};
 ghost use Prim.Native.Nat.{_<_, _≤_};
 ghost use Rattle.field.specs.Prime.{p};
-ghost use Rattle.circuit.specs.Gate.{gate, gates};
+ghost use Rattle.circuit.specs.Gate.{gates};
 ghost use Rattle.circuit.specs.Valid.{Valid};
-ghost use Rattle.circuit.specs.Code.{gateOf, Totalled};
+ghost use Rattle.circuit.specs.Code.{Totalled};
 ghost use Rattle.party.specs.Ask.{mostParties};
 ghost use Rattle.joint.specs.Code.{Small, Counted, CountedOn, Placed, Framed};
 
-// The number of its owner goes on by an in gate. Gate g is gate j of the circuit.
-pub fn count_input(parties: usize, c: &[u32], j: usize, g: Gate, counts: &mut [usize])
-    requires { ⌜ Valid parties p (now c) × (parties ≤ mostParties) × (j < gates (now c)) × (gateOf g ≡ gate (now c) j) × Small parties (now counts) ⌝ }
+// Where gate j is an in gate, the number of its owner goes on.
+pub fn count_input(parties: usize, c: &[u32], j: usize, counts: &mut [usize])
+    requires { ⌜ Valid parties p (now c) × (parties ≤ mostParties) × (j < gates (now c)) × Small parties (now counts) ⌝ }
     ensures { λ r. ⌜ CountedOn parties (now (c .entry)) j (now (counts .entry)) (now (counts .exit)) ⌝ }
 {
-    if circuit::is_in(g) {
-        let owner = circuit::first_of(g);
+    if circuit::is_in_at(c, j) {
+        let owner = circuit::first_at(c, j);
         counts[owner] += 1;
     }
 }
@@ -31,7 +30,7 @@ fn count_inputs(parties: usize, c: &[u32], count: usize) -> [usize; 8]
     let mut counts = [0usize; 8];
     let mut j = 0;
     while j < count {
-        count_input(parties, c, j, circuit::gate_at(c, j), &mut counts);
+        count_input(parties, c, j, &mut counts);
         j += 1;
     }
     counts

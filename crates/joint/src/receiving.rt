@@ -167,15 +167,15 @@ pub fn receive_all(
             settle_all(f, c, j + 1, stop, preps, scratch);
         }
         Round::Multiply => {
-            let x = circuit::first_of(g);
-            let z = circuit::second_of(g);
+            let x = circuit::first_at(c, j);
+            let z = circuit::second_at(c, j);
             let d = steps::receiving::heard_second(f.parties, g, k, heard);
             receive_products(f, j, x, z, t.prep, t.unchecked, preps, scratch, e, d);
             settle_all(f, c, j + 1, stop, preps, scratch);
         }
         Round::CommitOpened => {}
         Round::RevealOpened => {}
-        Round::OpenOutput => receive_outputs(f, circuit::first_of(g), scratch, e),
+        Round::OpenOutput => receive_outputs(f, circuit::first_at(c, j), scratch, e),
         Round::CommitOutput => {}
         Round::RevealOutput => {
             if e == 0 {

@@ -7,7 +7,6 @@ use crate::JointAnswer;
 use crate::framing;
 use crate::receiving;
 use crate::sending;
-use circuit::Gate;
 use circuit::Round;
 use circuit::Tally;
 use steps::Point;
@@ -18,9 +17,9 @@ ghost use mathlib.Core.Bool.{true};
 ghost use Prim.Native.Nat.{_+_, _<_, _≤_};
 ghost use lib.ListN.{length};
 ghost use Rattle.field.specs.Prime.{p};
-ghost use Rattle.circuit.specs.Gate.{gate, gates};
+ghost use Rattle.circuit.specs.Gate.{gates};
 ghost use Rattle.circuit.specs.Valid.{Valid};
-ghost use Rattle.circuit.specs.Code.{gateOf, roundOf, Tallied};
+ghost use Rattle.circuit.specs.Code.{roundOf, Tallied};
 ghost use Rattle.steps.specs.Code.{stageOf, Below};
 ghost use Rattle.party.specs.Ask.{mostParties};
 ghost use Rattle.party.specs.Entry.{releases};
@@ -77,17 +76,16 @@ fn pass_gate(
     c: &[u32],
     j: usize,
     next: usize,
-    g: Gate,
     t: Tally,
     places: &mut [usize],
 ) -> Tally
-    requires { ⌜ Valid parties p (now c) × (parties ≤ mostParties) × (j < gates (now c)) × (gateOf g ≡ gate (now c) j) × Tallied (now c) 0 j t × Placed parties (now c) j (now places) × Onward (now c) j next ⌝ }
+    requires { ⌜ Valid parties p (now c) × (parties ≤ mostParties) × (j < gates (now c)) × Tallied (now c) 0 j t × Placed parties (now c) j (now places) × Onward (now c) j next ⌝ }
     ensures { λ r. ⌜ Tallied (now (c .entry)) 0 next r × Placed parties (now (c .entry)) next (now (places .exit)) ⌝ }
 {
     if next <= j {
         return t;
     }
-    framing::count_input(parties, c, j, g, places);
+    framing::count_input(parties, c, j, places);
     circuit::tally_gate(c, 0, j, t)
 }
 
@@ -118,7 +116,6 @@ fn one_round(
         f,
         s,
         r,
-        g,
         c,
         preps,
         inputs,
@@ -148,7 +145,7 @@ fn one_round(
         scratch,
         &transcript[start..end],
     );
-    let tally = pass_gate(f.parties, c, here.gate, point.gate, g, t, places);
+    let tally = pass_gate(f.parties, c, here.gate, point.gate, t, places);
     let used = s.used + circuit::coefficients_in(t.unchecked, r);
     Course {
         point,

@@ -2,7 +2,6 @@
 // asked here: what is needed is what the entry has asked.
 use crate::Course;
 use crate::Frame;
-use circuit::Gate;
 use circuit::Round;
 ghost use mathlib.Core.Path.{_≡_};
 ghost use mathlib.Core.List.{[], _∷_};
@@ -11,7 +10,7 @@ ghost use lib.ListN.{length, getD};
 ghost use Rattle.field.specs.Prime.{prime, Is};
 ghost use Rattle.circuit.specs.Gate.{gate};
 ghost use Rattle.circuit.specs.Round.{words};
-ghost use Rattle.circuit.specs.Code.{gateOf, roundOf};
+ghost use Rattle.circuit.specs.Code.{roundOf};
 ghost use Rattle.steps.specs.Scratch.{wire};
 ghost use Rattle.steps.specs.Send.{mark, inputWord, maskedFirst, maskedSecond, checkShare};
 ghost use Rattle.steps.specs.Code.{layoutOf, Below, Held, Opened};
@@ -148,12 +147,11 @@ fn multiply_words(
     }
 }
 
-// Every party sends in round r of gate g, into its part of out. The check share that each then holds.
+// Every party sends in round r, into its part of out. The check share that each then holds.
 pub fn send_all(
     f: Frame,
     s: Course,
     r: Round,
-    g: Gate,
     c: &[u32],
     preps: &[u32],
     inputs: &[u32],
@@ -162,12 +160,13 @@ pub fn send_all(
     coefficients: &[u32],
     out: &mut [u32],
 ) -> [u32; 8]
-    requires { ⌜ Going (jointOf (f .parties) (now c) (now preps) (now inputs) (now coefficients)) f s (roundOf r) (now scratch) × Placed (f .parties) (now c) (s .point .gate) (now places) × (gateOf g ≡ gate (now c) (s .point .gate)) × (length (now out) ≡ f .parties * words (gate (now c) (s .point .gate)) (roundOf r)) ⌝ }
+    requires { ⌜ Going (jointOf (f .parties) (now c) (now preps) (now inputs) (now coefficients)) f s (roundOf r) (now scratch) × Placed (f .parties) (now c) (s .point .gate) (now places) × (length (now out) ≡ f .parties * words (gate (now c) (s .point .gate)) (roundOf r)) ⌝ }
     ensures { λ h. ⌜ ((i : ℕ) → i < f .parties → Is (step prime (jointOf (f .parties) (now (c .entry)) (now (preps .entry)) (now (inputs .entry)) (now (coefficients .entry))) (stateOf f s (now (scratch .entry))) (roundOf r) .held i) (getD h i 0)) × (now (out .exit) ≡ said prime (jointOf (f .parties) (now (c .entry)) (now (preps .entry)) (now (inputs .entry)) (now (coefficients .entry))) (stateOf f s (now (scratch .entry))) (roundOf r)) ⌝ }
 {
     let t = s.tally;
     let holds = s.held;
-    let x = circuit::first_of(g);
+    let here = s.point;
+    let x = circuit::first_at(c, here.gate);
     let mut held = [0u32; 8];
     match r {
         Round::Input => {
@@ -175,7 +174,7 @@ pub fn send_all(
             put_words(f.parties, words, out);
         }
         Round::Multiply => {
-            let z = circuit::second_of(g);
+            let z = circuit::second_at(c, here.gate);
             multiply_words(f, t.prep, x, z, preps, scratch, out);
         }
         Round::CommitOpened => {

@@ -231,7 +231,7 @@ fn enter(c: &[u32], count: usize, k: usize, waiting: usize) -> Point
 
 // Gate j is done, before which that many entries waited for a check: the next stop. Linear gates open nothing, so the entries that wait
 // there are those that wait after gate j.
-fn resume(c: &[u32], count: usize, j: usize, stop: usize, waiting: usize) -> Point
+pub fn resume(c: &[u32], count: usize, j: usize, stop: usize, waiting: usize) -> Point
     requires { ⌜ Stands (now c) count j stop waiting ⌝ }
     ensures { λ x. ⌜ pointOf x ≡ resume (now (c .entry)) (suc j) ⌝ }
 {

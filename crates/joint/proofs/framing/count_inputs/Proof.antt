@@ -17,23 +17,20 @@ abbrev μ-loop : tie.MeasureT-loop
 loop-holds : tie.Need-loop-holds Inv-loop μ-loop
 loop-holds c = (omega arith, counted-none _ _)
 
-gate-at-requires : tie.Need-gate-at-requires Inv-loop μ-loop
-gate-at-requires c κs = omega (arith, c .loop-test .taken, c .before .before .before .pre .1, c .before .before .before .pre .0 .whole)
-
 slice-aggregate-count-input : tie.Need-slice-aggregate-count-input Inv-loop μ-loop
-slice-aggregate-count-input c = sym (c .before .before .before .loop .inv .1 .eight)
+slice-aggregate-count-input c = sym (c .before .before .loop .inv .1 .eight)
 
 count-input-requires : tie.Need-count-input-requires Inv-loop μ-loop
-count-input-requires c κs = (c .before .before .before .before .before .pre .0, c .before .before .before .before .before .pre .2, omega (arith, c .before .before .loop-test .taken, c .before .before .before .before .before .pre .1), c .before .gate-at .ensures, counted-small (c .before .before .before .loop .inv .1) (omega (arith, c .before .before .loop-test .taken, c .before .before .before .before .before .pre .1, c .before .before .before .before .before .pre .0 .few)))
+count-input-requires c κs = (c .before .before .before .before .pre .0, c .before .before .before .before .pre .2, omega (arith, c .before .loop-test .taken, c .before .before .before .before .pre .1), counted-small (c .before .before .loop .inv .1) (omega (arith, c .before .loop-test .taken, c .before .before .before .before .pre .1, c .before .before .before .before .pre .0 .few)))
 
 add-j : tie.Need-add-j Inv-loop μ-loop
-add-j c = omega (arith, c .before .before .before .before .loop-test .taken, c .before .before .before .before .before .before .before .pre .1, c .before .before .before .before .before .before .before .pre .0 .few)
+add-j c = omega (arith, c .before .before .before .loop-test .taken, c .before .before .before .before .before .before .pre .1, c .before .before .before .before .before .before .pre .0 .few)
 
 loop-less : tie.Need-loop-less Inv-loop μ-loop
-loop-less c = omega (arith, c .before .before .before .before .loop-test .taken)
+loop-less c = omega (arith, c .before .before .before .loop-test .taken)
 
 loop-again : tie.Need-loop-again Inv-loop μ-loop
-loop-again c = (omega (arith, c .before .before .before .before .loop-test .taken), counted-on (c .before .before .before .before .before .loop .inv .1) (c .before .count-input .ensures))
+loop-again c = (omega (arith, c .before .before .before .loop-test .taken), counted-on (c .before .before .before .before .loop .inv .1) (c .before .count-input .ensures))
 
 returns : tie.Need-returns Inv-loop μ-loop
 returns c = counted-upto (c .before .loop .inv .1) (c .before .loop .inv .0) (c .loop-test .left)
@@ -45,7 +42,6 @@ count-inputs-spec =
     Inv-loop
     μ-loop
     loop-holds
-    gate-at-requires
     slice-aggregate-count-input
     count-input-requires
     add-j

@@ -1,0 +1,34 @@
+-- `circuit::second_at` meets its contract: the number that it reads is what a mul gate names second.
+-- Assumes nothing.
+use Prim.Native.Nat.{_+_, _*_}
+use mathlib.Core.Path.{sym}
+use native.Mathlib.Omega.{arith}
+use borrow.Author.Needs.{needs}
+use denote.Ref.{now}
+use Rattle.circuit.specs.Gate.{gateSize, entry, gate}
+use Rattle.circuit.proofs.Gates.{second-decoded}
+use Rattle.circuit.proofs.second_at.Statement.{statement}
+use Rattle.circuit.proofs.second_at.Tie as tie
+
+mul-at : tie.Need-mul-at
+mul-at c = search needs
+
+add-at : tie.Need-add-at
+add-at c = search needs
+
+mul-result : tie.Need-mul-result
+mul-result c = search needs
+
+shared-slice-read-result : tie.Need-shared-slice-read-result
+shared-slice-read-result c = search needs
+
+cast-result : tie.Need-cast-result
+cast-result c = omega (arith, c .shared-slice-known .given (gateSize * c .before .args .j + 2))
+
+returns : tie.Need-returns
+unfolding gate entry
+returns c = sym (second-decoded (entry (now (c .before .args .c)) (c .before .args .j) 0) _ _ _ (c .before .pre .1))
+
+pub second-at-spec : {M : Type 1} → statement M
+second-at-spec =
+    tie.close (tie.spec mul-at add-at mul-result shared-slice-read-result cast-result returns)
