@@ -34,12 +34,6 @@ module _ (n : ℕ) {w : ℕ → ℕ} {xs : List ℕ} {i : ℕ} (g : Gathered w x
   pub gathered-all : n ≤ i → (m : ℕ) → m < n → Is (w m) (getD xs m 0)
   gathered-all h m l = g .each m (omega arith)
 
--- the same number at each place
-pub same-at : (n v i : ℕ) → i < n → _≡_ {A = ℕ} (getD (replicate n v) i 0) v
-same-at zero v i h = absurd (omega arith)
-same-at (suc n) v zero h = refl
-same-at (suc n) v (suc i) h = same-at n v i (omega arith)
-
 -- words are put, one a party
 module _ (n : ℕ) {F : ℕ → List ℕ} (out₀ : List ℕ) (long : length out₀ ≡ n) (each : (m : ℕ) → m < n → length (F m) ≡ 1)
     {out : List ℕ} {i : ℕ} (inv : Filled n 1 F out₀ out i i) where

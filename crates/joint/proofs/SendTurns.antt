@@ -173,16 +173,14 @@ module _ {f : Frame} {s : Course} {c preps inputs coefficients l : List ℕ} whe
         ap (λ (z : ℕ). getD inputs z 0) (placed .each i h)
         ∙ sym (getD-take (inputCount c i) (drop (inputsAt c i) inputs) (inputAt c i (s .point .gate)) 0 (input-within c i (s .point .gate) o (within (lentAll f c preps inputs coefficients) f s Input l g)) ∙ getD-drop (inputsAt c i) inputs (inputAt c i (s .point .gate)) 0)
 
-    pub said-input : {x : ℕ} → x ≡ first (gate c (s .point .gate)) → (ws : List ℕ)
-        → EachIs f (λ i. inputWord prime i x (prepFrom f preps (s .tally .prep) i) (getD inputs (getD places i 0) 0)) ws
-        → {out : List ℕ} → out ≡ joined (f .parties) (λ i. getD ws i 0 ∷ [])
+    pub said-input : {x : ℕ} → x ≡ first (gate c (s .point .gate)) → {out : List ℕ}
+        → out ≡ joined (f .parties) (λ i. inputWord prime i x (prepFrom f preps (s .tally .prep) i) (getD inputs (getD places i 0) 0) ∷ [])
         → out ≡ said prime (lentAll f c preps inputs coefficients) (stateOf f s l) Input
     unfolding sent stateOf pointOf party
-    said-input {x} ex ws w d =
+    said-input {x} ex d =
         said-by g _
         (λ i h. ap (λ (z : ℕ). z ∷ [])
-        (w i h .is
-        ∙ rw (ex, record-is g i) (input-same i (first (gate c (s .point .gate))) (recordOf (party (lentAll f c preps inputs coefficients) i) (s .point .gate)) _ _ (own-input i h))))
+        (rw (ex, record-is g i) (input-same i (first (gate c (s .point .gate))) (recordOf (party (lentAll f c preps inputs coefficients) i) (s .point .gate)) _ _ (own-input i h))))
         d
 
   -- mul gates
@@ -217,8 +215,7 @@ module _ {f : Frame} {s : Course} {c preps inputs coefficients l : List ℕ} whe
     unfolding words shape
     output-one = rw (gate-at-round c (s .point .gate) OpenOutput (occurs (lentAll f c preps inputs coefficients) f s OpenOutput l g) .1)
 
-    pub said-output : (ws : List ℕ) → EachIs f (λ i. wire (layoutOf (f .layout)) (band (f .scratch) l i) x .share) ws
-        → {out : List ℕ} → out ≡ joined (f .parties) (λ i. getD ws i 0 ∷ [])
+    pub said-output : {out : List ℕ} → out ≡ joined (f .parties) (λ i. wire (layoutOf (f .layout)) (band (f .scratch) l i) x .share ∷ [])
         → out ≡ said prime (lentAll f c preps inputs coefficients) (stateOf f s l) OpenOutput
     unfolding sent stateOf pointOf party
-    said-output ws w d = said-by g _ (λ i h. ap (λ (z : ℕ). z ∷ []) (w i h .is ∙ rw (ex, g .lent .framed .lay))) d
+    said-output d = said-by g _ (λ i h. rw (ex, g .lent .framed .lay)) d

@@ -19,7 +19,11 @@ ghost use Rattle.joint.specs.Joint.{joined, band};
 ghost use Rattle.joint.specs.Run.{said, step};
 ghost use Rattle.joint.specs.Code.{jointOf, stateOf, Placed, part, prepFrom, keyIn, Prepared, Banded, EachBand, EachIs, Going};
 
-// The words of an in gate, whose record stands at number at of each party's preprocessing; each party's next input is at its place.
+// Where the papers have a commitment, its mark is sent.
+const MARK: u32 = 1;
+
+// Each party's word of an in gate into out. Its record stands at number at of each party's preprocessing, and each party's next input at its
+// place.
 fn input_words(
     f: Frame,
     at: usize,
@@ -27,37 +31,33 @@ fn input_words(
     places: &[usize],
     preps: &[u32],
     inputs: &[u32],
-) -> [u32; 8]
-    requires { ⌜ (f .parties ≤ mostParties) × Prepared f (now preps) at 3 × Below (now inputs) × (f .parties ≤ length (now places)) ⌝ }
-    ensures { λ ws. ⌜ EachIs f (λ i. inputWord prime i owner (prepFrom f (now (preps .entry)) at i) (getD (now (inputs .entry)) (getD (now (places .entry)) i 0) 0)) ws ⌝ }
+    out: &mut [u32],
+)
+    requires { ⌜ (f .parties ≤ mostParties) × Prepared f (now preps) at 3 × Below (now inputs) × (f .parties ≤ length (now places)) × (length (now out) ≡ f .parties) ⌝ }
+    ensures { λ r. ⌜ now (out .exit) ≡ joined (f .parties) (λ i. inputWord prime i owner (prepFrom f (now (preps .entry)) at i) (getD (now (inputs .entry)) (getD (now (places .entry)) i 0) 0) ∷ []) ⌝ }
 {
-    let mut words = [0u32; 8];
     let mut i = 0;
     while i < f.parties {
         let start = i * f.prep + at;
         let end = i * f.prep + f.prep;
-        let w = steps::sending::input_word(i, owner, &preps[start..end], inputs, places[i]);
-        words[i] = w;
+        out[i] = steps::sending::input_word(i, owner, &preps[start..end], inputs, places[i]);
         i += 1;
     }
-    words
 }
 
-// The shares that an out gate shows, of the gate x that it names.
-fn output_words(f: Frame, x: usize, scratch: &[u32]) -> [u32; 8]
-    requires { ⌜ (f .parties ≤ mostParties) × Banded f (now scratch) × EachBand f (now scratch) (λ i l. Held (layoutOf (f .layout)) l x) ⌝ }
-    ensures { λ ws. ⌜ EachIs f (λ i. wire (layoutOf (f .layout)) (band (f .scratch) (now (scratch .entry)) i) x .share) ws ⌝ }
+// The share that each party shows at an out gate into out, of the gate x that it names.
+fn output_words(f: Frame, x: usize, scratch: &[u32], out: &mut [u32])
+    requires { ⌜ (f .parties ≤ mostParties) × Banded f (now scratch) × EachBand f (now scratch) (λ i l. Held (layoutOf (f .layout)) l x) × (length (now out) ≡ f .parties) ⌝ }
+    ensures { λ r. ⌜ now (out .exit) ≡ joined (f .parties) (λ i. wire (layoutOf (f .layout)) (band (f .scratch) (now (scratch .entry)) i) x .share ∷ []) ⌝ }
 {
-    let mut words = [0u32; 8];
     let mut i = 0;
     while i < f.parties {
         let start = i * f.scratch;
         let end = start + f.scratch;
         let shown = steps::scratch::wire_at(&scratch[start..end], f.layout, x);
-        words[i] = shown.share;
+        out[i] = shown.share;
         i += 1;
     }
-    words
 }
 
 // The check shares over the first k opened entries, whose coefficients start at u.
@@ -109,8 +109,11 @@ fn put_marks(parties: usize, out: &mut [u32])
     requires { ⌜ (parties ≤ mostParties) × (length (now out) ≡ parties) ⌝ }
     ensures { λ r. ⌜ now (out .exit) ≡ joined parties (λ i. mark ∷ []) ⌝ }
 {
-    let marks = [1u32; 8];
-    put_words(parties, marks, out);
+    let mut i = 0;
+    while i < parties {
+        out[i] = MARK;
+        i += 1;
+    }
 }
 
 // Each party's two words of a mul gate into out. The gate names x and z, and its record stands at number at.
@@ -169,10 +172,7 @@ pub fn send_all(
     let x = circuit::first_at(c, here.gate);
     let mut held = [0u32; 8];
     match r {
-        Round::Input => {
-            let words = input_words(f, t.prep, x, places, preps, inputs);
-            put_words(f.parties, words, out);
-        }
+        Round::Input => input_words(f, t.prep, x, places, preps, inputs, out),
         Round::Multiply => {
             let z = circuit::second_at(c, here.gate);
             multiply_words(f, t.prep, x, z, preps, scratch, out);
@@ -182,10 +182,7 @@ pub fn send_all(
             held = check_shares(f, t.unchecked, s.used, preps, scratch, coefficients);
         }
         Round::RevealOpened => put_words(f.parties, holds, out),
-        Round::OpenOutput => {
-            let words = output_words(f, x, scratch);
-            put_words(f.parties, words, out);
-        }
+        Round::OpenOutput => output_words(f, x, scratch, out),
         Round::CommitOutput => {
             put_marks(f.parties, out);
             held = check_shares(f, 1, s.used, preps, scratch, coefficients);

@@ -1,35 +1,37 @@
--- `joint::sending::output_words` meets its contract. The loop's invariant: the array has the parties' numbers before i. The measure is the number of parties left.
+-- `joint::sending::output_words` meets its contract. The loop's invariant: the words of the parties before i are put, and the others are as they were. The measure is the number of parties left.
 -- Assumes nothing.
-use Prim.Native.Nat.{_-_}
-use mathlib.Core.Path.{refl}
+use Prim.Native.Nat.{ℕ, _-_}
+use mathlib.Core.Path.{refl, ap}
+use mathlib.Core.List.{[], _∷_}
 use native.Mathlib.Omega.{arith}
 use Rattle.steps.specs.Scratch.{wire}
 use Rattle.steps.specs.Code.{layoutOf}
 use Rattle.joint.specs.Joint.{band}
 use Rattle.joint.proofs.Cutting.{band-fits, band-is, band-room}
 use Rattle.joint.proofs.SendTurns.{share-of}
-use Rattle.joint.proofs.Gathering.{Gathered, gathered-none, gathered-more, gathered-all}
+use Rattle.joint.proofs.Filling.{Filled, filled-start}
+use Rattle.joint.proofs.Gathering.{put-length, put-more, put-all}
 use Rattle.joint.proofs.sending.output_words.Statement.{statement}
 use Rattle.joint.proofs.sending.output_words.Tie as tie
 
 abbrev Inv-loop : tie.InvT-loop
-Inv-loop f x scratch words₀ i₀ words i =
-    Gathered (λ m. wire (layoutOf (f .layout)) (band (f .scratch) scratch m) x .share) words i
+Inv-loop f x scratch out₀ i₀ out i =
+    Filled (f .parties) 1 (λ m. wire (layoutOf (f .layout)) (band (f .scratch) scratch m) x .share ∷ []) out₀ out i i
 
 abbrev μ-loop : tie.MeasureT-loop
-μ-loop f x scratch words₀ i₀ words i = f .parties - i
+μ-loop f x scratch out₀ i₀ out i = f .parties - i
 
 loop-holds : tie.Need-loop-holds Inv-loop μ-loop
-loop-holds c = gathered-none refl
+loop-holds c = filled-start _ _ _ _
 
 mul-start : tie.Need-mul-start Inv-loop μ-loop
-mul-start c = omega (arith, c .before .before .before .before .before .good, band-fits (c .before .before .before .before .before .pre .1) (c .before .before .before .loop .i) (c .before .if1 .taken))
+mul-start c = omega (arith, c .before .before .before .before .before .before .good, band-fits (c .before .before .before .before .before .before .pre .1) (c .before .before .before .loop .i) (c .before .if1 .taken))
 
 add-end : tie.Need-add-end Inv-loop μ-loop
-add-end c = omega (arith, c .before .before .before .before .before .before .good, band-fits (c .before .before .before .before .before .before .pre .1) (c .before .before .before .before .loop .i) (c .before .before .if1 .taken))
+add-end c = omega (arith, c .before .before .before .before .before .before .before .good, band-fits (c .before .before .before .before .before .before .before .pre .1) (c .before .before .before .before .loop .i) (c .before .before .if1 .taken))
 
 mul-wire-at : tie.Need-mul-wire-at Inv-loop μ-loop
-mul-wire-at c = omega (arith, c .before .before .before .before .before .before .good, band-fits (c .before .before .before .before .before .before .pre .1) (c .before .before .before .before .loop .i) (c .before .before .if1 .taken))
+mul-wire-at c = omega (arith, c .before .before .before .before .before .before .before .good, band-fits (c .before .before .before .before .before .before .before .pre .1) (c .before .before .before .before .loop .i) (c .before .before .if1 .taken))
 
 sub-wire-at : tie.Need-sub-wire-at Inv-loop μ-loop
 sub-wire-at c = omega arith
@@ -38,28 +40,31 @@ part-wire-at-start : tie.Need-part-wire-at-start Inv-loop μ-loop
 part-wire-at-start c = omega arith
 
 part-wire-at-end : tie.Need-part-wire-at-end Inv-loop μ-loop
-part-wire-at-end c = band-fits (c .before .before .before .before .before .before .pre .1) (c .before .before .before .before .loop .i) (c .before .before .if1 .taken)
+part-wire-at-end c = band-fits (c .before .before .before .before .before .before .before .pre .1) (c .before .before .before .before .loop .i) (c .before .before .if1 .taken)
 
 wire-at-requires : tie.Need-wire-at-requires Inv-loop μ-loop
-wire-at-requires c κs = rw (band-is (c .before .before .before .before .before .before .before .pre .1) (c .before .before .before .before .before .loop .i) (c .before .before .before .if1 .taken)) (band-room (c .before .before .before .before .before .before .before .pre .1) (c .before .before .before .before .before .loop .i) (c .before .before .before .if1 .taken), c .before .before .before .before .before .before .before .pre .2 (c .before .before .before .before .before .loop .i) (c .before .before .before .if1 .taken))
+wire-at-requires c κs = rw (band-is (c .before .before .before .before .before .before .before .before .pre .1) (c .before .before .before .before .before .loop .i) (c .before .before .before .if1 .taken)) (band-room (c .before .before .before .before .before .before .before .before .pre .1) (c .before .before .before .before .before .loop .i) (c .before .before .before .if1 .taken), c .before .before .before .before .before .before .before .before .pre .2 (c .before .before .before .before .before .loop .i) (c .before .before .before .if1 .taken))
 
-mul-words : tie.Need-mul-words Inv-loop μ-loop
-mul-words c = omega (arith, c .before .before .before .before .if1 .taken, c .before .before .before .before .before .before .before .before .pre .0)
+mul-out : tie.Need-mul-out Inv-loop μ-loop
+mul-out c = omega (arith, c .before .before .before .before .if1 .taken, c .before .before .before .before .before .before .before .before .before .pre .0)
 
-array-write-words : tie.Need-array-write-words Inv-loop μ-loop
-array-write-words c = omega (arith, c .before .before .before .before .if1 .taken, c .before .before .before .before .before .before .before .before .pre .0)
+slice-write-out : tie.Need-slice-write-out Inv-loop μ-loop
+slice-write-out c = omega (arith, c .before .before .before .before .if1 .taken, c .before .before .before .before .before .before .before .before .before .pre .3, put-length _ _ (c .before .before .before .before .before .before .before .before .before .pre .3) (λ m h. refl) (c .before .before .before .before .before .before .loop .inv))
 
 add-i : tie.Need-add-i Inv-loop μ-loop
-add-i c = omega (arith, c .before .before .before .before .if1 .taken, c .before .before .before .before .before .before .before .before .pre .0)
+add-i c = omega (arith, c .before .before .before .before .if1 .taken, c .before .before .before .before .before .before .before .before .before .pre .0)
 
 loop-less : tie.Need-loop-less Inv-loop μ-loop
 loop-less c = omega (arith, c .before .before .before .before .if1 .taken)
 
 loop-again : tie.Need-loop-again Inv-loop μ-loop
-loop-again c = gathered-more (c .before .before .before .before .before .before .before .before .args .f .parties) (c .before .before .before .before .before .before .loop .inv) (c .before .before .before .before .before .before .before .before .pre .0) (c .before .before .before .before .if1 .taken) (share-of (rw (band-is (c .before .before .before .before .before .before .before .before .pre .1) (c .before .before .before .before .before .before .loop .i) (c .before .before .before .before .if1 .taken)) at (c .wire-at .ensures)))
+loop-again c = let k = share-of (rw (band-is (c .before .before .before .before .before .before .before .before .before .pre .1) (c .before .before .before .before .before .before .loop .i) (c .before .before .before .before .if1 .taken)) at (c .wire-at .ensures)) in put-more _ _ (c .before .before .before .before .before .before .before .before .before .pre .3) (λ m h. refl) (c .before .before .before .before .before .before .loop .inv) (c .before .before .before .before .if1 .taken) (ap (λ (z : ℕ). z ∷ []) (k .is))
+
+same-length : tie.Need-same-length Inv-loop μ-loop
+same-length c = put-length _ _ (c .before .before .before .before .before .pre .3) (λ m h. refl) (c .before .before .loop .inv)
 
 returns : tie.Need-returns Inv-loop μ-loop
-returns c = gathered-all (c .before .before .before .before .args .f .parties) (c .before .before .loop .inv) (c .if1 .left)
+returns c = put-all _ _ (c .before .before .before .before .before .pre .3) (λ m h. refl) (c .before .before .loop .inv) (c .if1 .left)
 
 pub output-words-spec : {M : Type 1} → statement M
 output-words-spec =
@@ -75,9 +80,10 @@ output-words-spec =
     part-wire-at-start
     part-wire-at-end
     wire-at-requires
-    mul-words
-    array-write-words
+    mul-out
+    slice-write-out
     add-i
     loop-less
     loop-again
+    same-length
     returns)

@@ -23,11 +23,7 @@ enum-told c = search needs
 
 input-words-requires : tie.Need-input-words-requires
 unfolding roundOf
-input-words-requires c κs = let s = (rw (c .enum-told .given .1) at (c .before .before .before .before .before .before .before .before .before .before .before .before .before .pre)) in input-asks (s .0) (s .1)
-
-put-words-requires : tie.Need-put-words-requires
-unfolding roundOf
-put-words-requires c κs = let s = (rw (c .before .before .enum-told .given .1) at (c .before .before .before .before .before .before .before .before .before .before .before .before .before .before .before .pre)) in put-asks (s .0) (now (c .before .before .before .before .before .before .before .before .before .before .before .before .before .before .before .args .out)) (s .2) (input-one (s .0) (s .1))
+input-words-requires c κs = let s = (rw (c .before .enum-told .given .1) at (c .before .before .before .before .before .before .before .before .before .before .before .before .before .before .pre)) in let a = input-asks (s .0) (s .1) in (a .0, a .1, a .2, a .3, put-asks (s .0) (now (c .before .before .before .before .before .before .before .before .before .before .before .before .before .before .args .out)) (s .2) (input-one (s .0) (s .1)) .1)
 
 enum-told-2 : tie.Need-enum-told-2
 enum-told-2 c = search needs
@@ -54,20 +50,16 @@ check-shares-requires c κs = let s = (rw (c .before .before .before .before .en
 enum-told-4 : tie.Need-enum-told-4
 enum-told-4 c = search needs
 
-put-words-requires-2 : tie.Need-put-words-requires-2
+put-words-requires : tie.Need-put-words-requires
 unfolding roundOf words
-put-words-requires-2 c κs = let s = (rw (c .before .enum-told4 .given .1) at (c .before .before .before .before .before .before .before .before .before .before .before .before .before .before .pre)) in put-asks (s .0) (now (c .before .before .before .before .before .before .before .before .before .before .before .before .before .before .args .out)) (s .2) refl
+put-words-requires c κs = let s = (rw (c .before .enum-told4 .given .1) at (c .before .before .before .before .before .before .before .before .before .before .before .before .before .before .pre)) in put-asks (s .0) (now (c .before .before .before .before .before .before .before .before .before .before .before .before .before .before .args .out)) (s .2) refl
 
 enum-told-5 : tie.Need-enum-told-5
 enum-told-5 c = search needs
 
 output-words-requires : tie.Need-output-words-requires
 unfolding roundOf
-output-words-requires c κs = let s = (rw (c .enum-told5 .given .1) at (c .before .before .before .before .before .before .before .before .before .before .before .before .before .pre)) in output-asks (s .0) (c .before .before .first-at .ensures)
-
-put-words-requires-3 : tie.Need-put-words-requires-3
-unfolding roundOf
-put-words-requires-3 c κs = let s = (rw (c .before .before .enum-told5 .given .1) at (c .before .before .before .before .before .before .before .before .before .before .before .before .before .before .before .pre)) in put-asks (s .0) (now (c .before .before .before .before .before .before .before .before .before .before .before .before .before .before .before .args .out)) (s .2) (output-one (s .0) (c .before .before .before .before .first-at .ensures))
+output-words-requires c κs = let s = (rw (c .before .enum-told5 .given .1) at (c .before .before .before .before .before .before .before .before .before .before .before .before .before .before .pre)) in let a = output-asks (s .0) (c .before .before .before .first-at .ensures) in (a .0, a .1, a .2, put-asks (s .0) (now (c .before .before .before .before .before .before .before .before .before .before .before .before .before .before .args .out)) (s .2) (output-one (s .0) (c .before .before .before .first-at .ensures)) .1)
 
 enum-told-6 : tie.Need-enum-told-6
 enum-told-6 c = search needs
@@ -83,16 +75,16 @@ check-shares-requires-2 c κs = let s = (rw (c .before .before .before .before .
 enum-told-7 : tie.Need-enum-told-7
 enum-told-7 c = search needs
 
-put-words-requires-4 : tie.Need-put-words-requires-4
+put-words-requires-2 : tie.Need-put-words-requires-2
 unfolding roundOf words
-put-words-requires-4 c κs = let s = (rw (c .before .enum-told7 .given .1) at (c .before .before .before .before .before .before .before .before .before .before .before .before .before .before .pre)) in put-asks (s .0) (now (c .before .before .before .before .before .before .before .before .before .before .before .before .before .before .args .out)) (s .2) refl
+put-words-requires-2 c κs = let s = (rw (c .before .enum-told7 .given .1) at (c .before .before .before .before .before .before .before .before .before .before .before .before .before .before .pre)) in put-asks (s .0) (now (c .before .before .before .before .before .before .before .before .before .before .before .before .before .before .args .out)) (s .2) refl
 
 same-length : tie.Need-same-length
 same-length c = search needs
 
 returns : tie.Need-returns
 unfolding roundOf isCommit
-returns c = let s = (rw (c .before .before .before .before .before .enum-told .given .1) at (c .before .before .before .before .before .before .before .before .before .before .before .before .before .before .before .before .before .before .pre)) in rw (c .before .before .before .before .before .enum-told .given .1) (held-none (s .0) refl, said-input (s .0) (s .1) (c .before .before .before .before .before .before .before .first-at .ensures) (c .before .before .before .before .input-words .result) (c .before .before .before .before .input-words .ensures) (c .before .before .put-words .ensures))
+returns c = let s = (rw (c .before .before .before .before .enum-told .given .1) at (c .before .before .before .before .before .before .before .before .before .before .before .before .before .before .before .before .before .pre)) in rw (c .before .before .before .before .enum-told .given .1) (held-none (s .0) refl, said-input (s .0) (s .1) (c .before .before .before .before .before .before .first-at .ensures) (c .before .before .input-words .ensures))
 
 same-length-2 : tie.Need-same-length-2
 same-length-2 c = search needs
@@ -113,14 +105,14 @@ same-length-4 c = search needs
 
 returns-4 : tie.Need-returns-4
 unfolding roundOf isCommit sent stateOf
-returns-4 c = let s = (rw (c .before .before .before .before .enum-told4 .given .1) at (c .before .before .before .before .before .before .before .before .before .before .before .before .before .before .before .before .before .pre)) in rw (c .before .before .before .before .enum-told4 .given .1) (held-none (s .0) refl, said-by (s .0) (λ i. getD (c .before .before .before .before .before .before .before .before .before .before .before .before .before .before .before .before .before .args .s .held) i 0 ∷ []) (λ i h. refl) (c .before .before .put-words2 .ensures))
+returns-4 c = let s = (rw (c .before .before .before .before .enum-told4 .given .1) at (c .before .before .before .before .before .before .before .before .before .before .before .before .before .before .before .before .before .pre)) in rw (c .before .before .before .before .enum-told4 .given .1) (held-none (s .0) refl, said-by (s .0) (λ i. getD (c .before .before .before .before .before .before .before .before .before .before .before .before .before .before .before .before .before .args .s .held) i 0 ∷ []) (λ i h. refl) (c .before .before .put-words .ensures))
 
 same-length-5 : tie.Need-same-length-5
 same-length-5 c = search needs
 
 returns-5 : tie.Need-returns-5
 unfolding roundOf isCommit
-returns-5 c = let s = (rw (c .before .before .before .before .before .enum-told5 .given .1) at (c .before .before .before .before .before .before .before .before .before .before .before .before .before .before .before .before .before .before .pre)) in rw (c .before .before .before .before .before .enum-told5 .given .1) (held-none (s .0) refl, said-output (s .0) (c .before .before .before .before .before .before .before .first-at .ensures) (c .before .before .before .before .output-words .result) (c .before .before .before .before .output-words .ensures) (c .before .before .put-words3 .ensures))
+returns-5 c = let s = (rw (c .before .before .before .before .enum-told5 .given .1) at (c .before .before .before .before .before .before .before .before .before .before .before .before .before .before .before .before .before .pre)) in rw (c .before .before .before .before .enum-told5 .given .1) (held-none (s .0) refl, said-output (s .0) (c .before .before .before .before .before .before .first-at .ensures) (c .before .before .output-words .ensures))
 
 same-length-6 : tie.Need-same-length-6
 same-length-6 c = search needs
@@ -134,7 +126,7 @@ same-length-7 c = search needs
 
 returns-7 : tie.Need-returns-7
 unfolding roundOf isCommit sent stateOf
-returns-7 c = let s = (rw (c .before .before .before .before .enum-told7 .given .1) at (c .before .before .before .before .before .before .before .before .before .before .before .before .before .before .before .before .before .pre)) in rw (c .before .before .before .before .enum-told7 .given .1) (held-none (s .0) refl, said-by (s .0) (λ i. getD (c .before .before .before .before .before .before .before .before .before .before .before .before .before .before .before .before .before .args .s .held) i 0 ∷ []) (λ i h. refl) (c .before .before .put-words4 .ensures))
+returns-7 c = let s = (rw (c .before .before .before .before .enum-told7 .given .1) at (c .before .before .before .before .before .before .before .before .before .before .before .before .before .before .before .before .before .pre)) in rw (c .before .before .before .before .enum-told7 .given .1) (held-none (s .0) refl, said-by (s .0) (λ i. getD (c .before .before .before .before .before .before .before .before .before .before .before .before .before .before .before .before .before .args .s .held) i 0 ∷ []) (λ i h. refl) (c .before .before .put-words2 .ensures))
 
 pub send-all-spec : {M : Type 1} → statement M
 send-all-spec =
@@ -143,7 +135,6 @@ send-all-spec =
     first-at-requires
     enum-told
     input-words-requires
-    put-words-requires
     enum-told-2
     second-at-requires
     multiply-words-requires
@@ -151,15 +142,14 @@ send-all-spec =
     put-marks-requires
     check-shares-requires
     enum-told-4
-    put-words-requires-2
+    put-words-requires
     enum-told-5
     output-words-requires
-    put-words-requires-3
     enum-told-6
     put-marks-requires-2
     check-shares-requires-2
     enum-told-7
-    put-words-requires-4
+    put-words-requires-2
     same-length
     returns
     same-length-2
