@@ -1,14 +1,14 @@
 -- The numbers of stages: each stage has one, and a number that no stage has gives a position that cannot occur.
 -- Assumes nothing.
-use Prim.Native.Nat.{ℕ, _<_, _≤_}
+use Prim.Native.Nat.{ℕ, _<_}
 use mathlib.Core.Path.{_≡_, refl}
-use mathlib.Core.Bool.{Bool, true, false, cond, _&&_}
+use mathlib.Core.Bool.{Bool, true, false, _&&_}
 use mathlib.Core.List.{List}
 use native.Mathlib.Omega.{arith}
-use lib.Dec.{ltb, eqb}
+use lib.Dec.{ltb}
 use borrow.Author.Tests.{le-ltb, ne-eqb}
 use Rattle.circuit.specs.Gate.{gates}
-use Rattle.circuit.specs.Round.{Round, Input, Multiply, CommitOpened, RevealOpened, OpenOutput, CommitOutput, RevealOutput, roundNumber}
+use Rattle.circuit.specs.Round.{Input, Multiply, CommitOpened, RevealOpened, OpenOutput, CommitOutput, RevealOutput, roundNumber}
 use Rattle.steps.specs.Position.{Stage, Send, Receive, Finished, Aborted, occurs, stageOccurs, mayHold}
 use Rattle.capi.specs.Stages.{stageNumber, roundAt, position, positionAt, finishedStage, abortedStage}
 

@@ -1,7 +1,7 @@
 -- A circuit is accepted just where it is valid gate by gate. What a number of a gate is for decides which question it is asked,
 -- so one law says what the questions of a number come to, and one goes through the kinds.
 -- Assumes nothing.
-use Prim.Native.Nat.{ℕ, zero, suc, _+_, _%_, _<_}
+use Prim.Native.Nat.{ℕ, zero, suc, _%_, _<_}
 use mathlib.Core.Path.{_≡_, refl}
 use mathlib.Core.Bool.{Bool, true, false, cond, _&&_}
 use mathlib.Core.List.{List}

@@ -3,19 +3,19 @@
 use Prim.Native.Nat.{ℕ, zero, suc, _-_}
 use mathlib.Core.Path.{_≡_}
 use mathlib.Core.List.{List, [], _∷_, _++_}
-use lib.ListN.{length, take, drop, set, replicate}
+use lib.ListN.{set, replicate}
 use Rattle.field.specs.Ops.{Ops}
-use Rattle.circuit.specs.Verdict.{Verdict, Accepted, Refused}
+use Rattle.circuit.specs.Verdict.{Accepted, Refused}
 use Rattle.circuit.specs.Round.{Round, Input, Multiply, CommitOpened, RevealOpened, OpenOutput, CommitOutput, RevealOutput}
 use Rattle.circuit.specs.Accept.{askCircuit}
 use Rattle.steps.specs.Part.{Part}
-use Rattle.steps.specs.Scratch.{layout, scratchSize, wire, read, Value, ValueMac}
-use Rattle.steps.specs.Position.{Position, Send, Receive, Finished, Aborted}
+use Rattle.steps.specs.Scratch.{layout, wire, read, Value, ValueMac}
+use Rattle.steps.specs.Position.{Position, Send, Receive, Aborted}
 use Rattle.steps.specs.Party.{Party}
-use Rattle.party.specs.Entry.{Answer, Refusal, Next, Output, Abort, openAnswer, sendAnswer, sendOut, receiveAnswer, receiveScratch}
-use Rattle.joint.specs.Joint.{Joint, joined, party}
-use Rattle.joint.specs.Run.{State, Run, begun, step, said, whole}
-use Rattle.joint.specs.Entry.{JointAnswer, Done, jointAnswer, jointTranscript, jointOutputs}
+use Rattle.party.specs.Entry.{Refusal, Next, Abort, openAnswer, sendAnswer, receiveAnswer, receiveScratch}
+use Rattle.joint.specs.Joint.{Joint}
+use Rattle.joint.specs.Run.{State, begun, step}
+use Rattle.joint.specs.Entry.{Done, jointAnswer, jointTranscript, jointOutputs}
 use Rattle.joint.specs.Plain.{value, scores}
 use Rattle.joint.specs.Good.{Good, wholeKey}
 use Rattle.joint.specs.Formula.{roundFormula}

@@ -10,7 +10,7 @@ use Rattle.steps.specs.Position.{Stage, Send, Receive, Finished, Aborted}
 use Rattle.steps.specs.Send.{overwrite}
 use Rattle.party.specs.Entry.{leave}
 use Rattle.joint.specs.Joint.{Joint, joined}
-use Rattle.joint.specs.Run.{Run, whole}
+use Rattle.joint.specs.Run.{whole}
 use Rattle.joint.specs.Ask.{askJoint}
 
 pub data JointAnswer : Type 0 where

@@ -8,7 +8,7 @@ use Rattle.field.specs.Ops.{Ops}
 use Rattle.field.specs.Sum.{sum}
 use Rattle.circuit.specs.Gate.{Gate, In, Add, Sub, Plus, Times, Mul, Out, gate, gates}
 use Rattle.circuit.specs.Count.{prepSize}
-use Rattle.steps.specs.Part.{Part, partAt}
+use Rattle.steps.specs.Part.{partAt}
 use Rattle.steps.specs.Party.{recordIn, maskAt, wholeMaskAt, aAt, bAt, cAt}
 use Rattle.joint.specs.Joint.{band}
 

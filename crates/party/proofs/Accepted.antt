@@ -1,25 +1,25 @@
 -- What acceptance gives: everything that a step asks.
 -- Assumes nothing.
-use Prim.Native.Nat.{ℕ, _*_, _<_, _≤_}
-use mathlib.Core.Path.{_≡_, refl, sym, ap, subst, _∙_}
-use mathlib.Core.Bool.{Bool, true, false, cond, not, _&&_, _||_}
+use Prim.Native.Nat.{ℕ, _<_, _≤_}
+use mathlib.Core.Path.{_≡_, refl, sym, _∙_}
+use mathlib.Core.Bool.{Bool, true, false, not, _||_}
 use mathlib.Core.List.{List}
 use native.Mathlib.Omega.{arith}
-use lib.ListN.{length, getD}
-use lib.Dec.{ltb, leb, eqb, lit<}
+use lib.ListN.{length}
+use lib.Dec.{ltb, leb, eqb}
 use borrow.Author.Tests.{ltb-true, leb-true, eqb-true}
 use Rattle.field.specs.Prime.{p}
-use Rattle.circuit.specs.Verdict.{Verdict, Accepted, Refused, ask, _then_, elements}
+use Rattle.circuit.specs.Verdict.{Accepted, ask, _then_, elements}
 use Rattle.circuit.specs.Gate.{gate, gates}
 use Rattle.circuit.specs.Kind.{hasValue}
 use Rattle.circuit.specs.Count.{prepSize, capacity, inputCount, unchecked}
-use Rattle.circuit.specs.Round.{Round, Input, Multiply, CommitOpened, RevealOpened, OpenOutput, CommitOutput, RevealOutput, rounds, among, words, openedIn, coefficientsIn}
+use Rattle.circuit.specs.Round.{Round, Input, Multiply, CommitOpened, RevealOpened, OpenOutput, CommitOutput, RevealOutput, rounds, among, openedIn}
 use Rattle.circuit.specs.Valid.{Valid}
 use Rattle.circuit.proofs.Tests.{both-left, both-right}
 use Rattle.circuit.proofs.Verdicts.{ask-true, then-left, then-right, each-below, elements-below}
 use Rattle.circuit.proofs.Counts.{unchecked-fits}
 use Rattle.steps.specs.Scratch.{Slot, Share, Mac, Value, ValueMac, layout, scratchSize, read}
-use Rattle.steps.specs.Position.{Position, Stage, Send, Receive, stageOccurs, mayHold, occurs}
+use Rattle.steps.specs.Position.{Position, stageOccurs, occurs}
 use Rattle.steps.specs.Party.{Party}
 use Rattle.steps.specs.Code.{Below, Worked, Opened, Sited, Ready, Sends, Receives, layoutOf}
 use Rattle.steps.specs.declared.Layout.{Layout}

@@ -1,26 +1,23 @@
 -- What a reader will ask of the three entries: every position that they yield can occur, an ended run is refused by both halves, a run is
 -- stopped exactly by revealed words that do not sum to zero, and an output is released only by a passing second check of its own gate.
 -- Assumes nothing.
-use Prim.Native.Nat.{ℕ, suc, _<_}
-use mathlib.Core.Path.{_≡_, refl, sym, ap, subst, _∙_}
-use mathlib.Core.Bool.{Bool, true, false, cond, _&&_}
+use Prim.Native.Nat.{ℕ}
+use mathlib.Core.Path.{_≡_, refl}
+use mathlib.Core.Bool.{Bool, true, false, cond}
 use mathlib.Core.List.{List}
 use native.Mathlib.Omega.{arith}
-use lib.ListN.{length}
-use lib.Dec.{ltb, eqb}
-use borrow.Author.Tests.{lt-ltb, eqb-true, eqb-false, eq-eqb, ne-eqb}
+use lib.Dec.{eqb}
+use borrow.Author.Tests.{eqb-true, eqb-false, ne-eqb}
 use Rattle.field.specs.Prime.{p, prime}
-use Rattle.field.specs.Prime.Laws.{sub-lt}
 use Rattle.circuit.specs.Verdict.{Verdict, Accepted, Refused, _then_}
-use Rattle.circuit.specs.Round.{Round, Input, Multiply, CommitOpened, RevealOpened, OpenOutput, CommitOutput, RevealOutput, isCommit, isReveal, checkWords, rounds, among}
+use Rattle.circuit.specs.Round.{Round, Input, Multiply, CommitOpened, RevealOpened, OpenOutput, CommitOutput, RevealOutput, isReveal, checkWords}
 use Rattle.circuit.proofs.Verdicts.{refused-no, then-right}
 use Rattle.steps.specs.Scratch.{layout, read, Value}
-use Rattle.steps.specs.Position.{Position, Stage, Send, Receive, Finished, Aborted, holding, start, keep, occurs, stageOccurs, mayHold, whenSending, whenReceiving}
+use Rattle.steps.specs.Position.{Position, Stage, Finished, Aborted, whenSending, whenReceiving}
 use Rattle.steps.specs.Party.{Party}
-use Rattle.steps.specs.Send.{checkShare, holds}
-use Rattle.steps.specs.Receive.{heardSum, passes, next}
-use Rattle.party.specs.Ask.{askLent, askSend, askReceive}
-use Rattle.party.specs.Entry.{Answer, Refusal, Next, Output, Abort, answer, releases, openAnswer, sendAnswer, receiveAnswer, outcome, nextPosition}
+use Rattle.steps.specs.Receive.{heardSum, passes}
+use Rattle.party.specs.Ask.{askSend, askReceive}
+use Rattle.party.specs.Entry.{Answer, Refusal, Next, Output, Abort, answer, releases, sendAnswer, receiveAnswer, outcome, nextPosition}
 
 -- the answer of an accepted call
 accepted-is : (v : Verdict) (a : Answer) → v ≡ Accepted → answer v a ≡ a

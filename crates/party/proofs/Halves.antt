@@ -1,13 +1,13 @@
 -- The two halves of a round, from what the entries have asked to what they answer and leave.
 -- Assumes nothing.
 use Prim.Native.Nat.{ℕ, _*_, _<_, _≤_}
-use mathlib.Core.Path.{_≡_, refl, sym, ap, subst, _∙_}
-use mathlib.Core.Bool.{true, false}
+use mathlib.Core.Path.{_≡_, refl, ap, subst, _∙_}
+use mathlib.Core.Bool.{true}
 use mathlib.Core.List.{List}
 use native.Mathlib.Omega.{arith}
 use lib.ListN.{length}
 use Rattle.field.specs.Prime.{p, prime}
-use Rattle.circuit.specs.Verdict.{Verdict, Accepted, Refused}
+use Rattle.circuit.specs.Verdict.{Accepted, Refused}
 use Rattle.circuit.specs.Gate.{gateSize, gates}
 use Rattle.circuit.specs.Count.{capacity, unchecked}
 use Rattle.circuit.specs.Round.{Round, rounds, among}
@@ -16,12 +16,12 @@ use Rattle.steps.specs.Position as At
 use Rattle.steps.specs.Party.{Party}
 use Rattle.steps.specs.Send.{overwrite, sent, holds}
 use Rattle.steps.specs.Receive.{next, received}
-use Rattle.steps.specs.Code.{layoutOf, stageOf, Sited, Ready, Sends, Receives}
+use Rattle.steps.specs.Code.{layoutOf, stageOf, Sited, Sends, Receives}
 use Rattle.steps.specs.declared.Layout.{Layout}
 use Rattle.steps.specs.declared.Site.{Site}
-use Rattle.party.specs.Ask.{askLent, askSendRound, askReceiveRound}
+use Rattle.party.specs.Ask.{askSendRound, askReceiveRound}
 use Rattle.party.specs.Entry as E
-use Rattle.party.specs.Code.{positionOf, Laid, Asked, LentTo, RoundAt, leadsTo}
+use Rattle.party.specs.Code.{positionOf, Asked, LentTo, RoundAt, leadsTo}
 use Rattle.party.specs.declared.Position.{Position}
 use Rattle.circuit.proofs.Counts.{unchecked-fits}
 use Rattle.party.specs.Ask.{mostParties}

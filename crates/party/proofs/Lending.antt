@@ -1,21 +1,20 @@
 -- What questions 1 to 12 come to, and what their acceptance gives.
 -- Assumes nothing.
-use Prim.Native.Nat.{ℕ, _+_, _*_, _/_, _<_, _≤_}
+use Prim.Native.Nat.{ℕ, _+_, _/_, _<_, _≤_}
 use mathlib.Core.Path.{_≡_, refl, sym, ap, ap₂, _∙_}
 use mathlib.Core.List.{List}
 use native.Mathlib.Omega.{arith}
 use lib.ListN.{length}
 use lib.Dec.{ltb, leb, eqb}
 use Rattle.field.specs.Prime.{p}
-use Rattle.circuit.specs.Verdict.{Verdict, Accepted, Refused, ask, _then_, elements}
+use Rattle.circuit.specs.Verdict.{Verdict, Accepted, ask, _then_, elements}
 use Rattle.circuit.specs.Gate.{gateSize, gates}
-use Rattle.circuit.specs.Kind.{shape}
-use Rattle.circuit.specs.Count.{total, prepAt, prepSize, capacity, inputAt, inputCount}
-use Rattle.circuit.specs.Accept.{mostGates, askCircuit}
+use Rattle.circuit.specs.Count.{prepSize, capacity, inputCount}
+use Rattle.circuit.specs.Accept.{askCircuit}
 use Rattle.circuit.specs.Valid.{Valid}
 use Rattle.circuit.specs.Code.{Tallied}
 use Rattle.circuit.specs.declared.Tally.{Tally}
-use Rattle.circuit.proofs.Verdicts.{then-left, then-right}
+use Rattle.circuit.proofs.Verdicts.{then-right}
 use Rattle.circuit.proofs.Valid.{valid}
 use Rattle.circuit.proofs.Tallies.{tally-low}
 use Rattle.steps.specs.Scratch as S

@@ -6,7 +6,7 @@ use mathlib.Core.Path.{_≡_, refl, sym, subst}
 use mathlib.Core.Bool.{cond}
 use mathlib.Core.List.{List, [], _∷_, _++_}
 use lib.Dec.{leb}
-use lib.ListN.{length, set, replicate}
+use lib.ListN.{set, replicate}
 use Rattle.field.specs.Ops.{Ops}
 use Rattle.field.specs.Prime.{p, prime, modular}
 use Rattle.field.specs.Prime.Laws.{prime-is-modular}

@@ -1,7 +1,7 @@
 -- Every position that an entry yields can occur: question 13 never refuses a position that is given back unaltered.
 -- Assumes nothing.
 use Prim.Native.Nat.{ℕ, _<_}
-use mathlib.Core.Path.{_≡_, refl, sym, ap, subst, _∙_}
+use mathlib.Core.Path.{_≡_, refl, sym, subst, _∙_}
 use mathlib.Core.Bool.{Bool, true, false, cond, _&&_}
 use mathlib.Core.List.{List}
 use native.Mathlib.Omega.{arith}
@@ -11,15 +11,15 @@ use Rattle.field.specs.Prime.{p, prime}
 use Rattle.field.specs.Prime.Laws.{sub-lt}
 use Rattle.circuit.specs.Verdict.{Verdict, Accepted, Refused, ask, _then_}
 use Rattle.circuit.specs.Gate.{gates}
-use Rattle.circuit.specs.Round.{Round, Input, isCommit, rounds, among}
+use Rattle.circuit.specs.Round.{Round, isCommit, rounds, among}
 use Rattle.circuit.proofs.Tests.{by-cases, both-right}
 use Rattle.circuit.proofs.Verdicts.{refused-no, then-left, then-right, ask-true}
 use Rattle.steps.specs.Scratch.{layout, read, Value}
-use Rattle.steps.specs.Position.{Position, Point, Stage, Send, Receive, Finished, Aborted, holding, keep, occurs, stageOccurs, mayHold, whenSending, whenReceiving}
-use Rattle.steps.specs.Party.{Party, key}
+use Rattle.steps.specs.Position.{Position, Stage, Send, Receive, Finished, Aborted, holding, keep, occurs, stageOccurs, mayHold, whenSending, whenReceiving}
+use Rattle.steps.specs.Party.{Party}
 use Rattle.steps.specs.Send.{checkShare, holds}
 use Rattle.steps.specs.Receive.{next, passes}
-use Rattle.party.specs.Ask.{askLent, askSendRound, askReceiveRound, askSend, askReceive}
+use Rattle.party.specs.Ask.{askSend, askReceive}
 use Rattle.party.specs.Entry.{Answer, Refusal, Next, Output, Abort, answer, releases, sendAnswer, receiveAnswer, nextPosition, outcome}
 use Rattle.steps.proofs.Following.{next-possible, next-holds}
 use Rattle.party.proofs.Occurring.{held-some, held-none}

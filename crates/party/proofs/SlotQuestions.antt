@@ -4,10 +4,9 @@ use Prim.Native.Nat.{ℕ, _<_, _≤_}
 use mathlib.Core.Path.{_≡_, refl, sym, ap, _∙_}
 use mathlib.Core.Bool.{Bool, true, false, not, _||_}
 use mathlib.Core.List.{List}
-use lib.Dec.{ltb}
 use borrow.Author.Tests.{lt-ltb, le-ltb}
 use Rattle.field.specs.Prime.{p}
-use Rattle.circuit.specs.Verdict.{Verdict, Accepted, Refused, ask}
+use Rattle.circuit.specs.Verdict.{Accepted, Refused, ask}
 use Rattle.circuit.proofs.Verdicts.{ask-yes, ask-no}
 use Rattle.steps.specs.Scratch.{Slot, layout, offset, read}
 use Rattle.party.specs.Ask.{slotQuestion}

@@ -1,7 +1,7 @@
 -- A value shared among the parties with its MAC, and that what the parties do to their parts is done to the value.
 -- Assumes nothing.
 use Prim.Native.Nat.{ℕ, _<_}
-use mathlib.Core.Path.{_≡_, refl, sym, ap, ap₂, _∙_}
+use mathlib.Core.Path.{_≡_, sym, ap, ap₂, _∙_}
 use Rattle.field.specs.Ops.{Ops}
 use Rattle.field.specs.Field.{Field}
 use Rattle.field.specs.Sum.{sum}

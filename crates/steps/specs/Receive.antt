@@ -1,7 +1,7 @@
 -- What a party works out of the words of all, in party order.
 -- Assumes nothing.
 use Prim.Native.Nat.{ℕ, zero, suc, _+_, _-_, _*_}
-use mathlib.Core.Bool.{Bool, true, false, cond}
+use mathlib.Core.Bool.{Bool, true, cond}
 use mathlib.Core.List.{List}
 use lib.ListN.{getD}
 use lib.Dec.{eqb}
@@ -11,8 +11,8 @@ use Rattle.circuit.specs.Gate.{Gate, In, Add, Sub, Plus, Times, Mul, Out, gate,
 use Rattle.circuit.specs.Kind.{isLinear}
 use Rattle.circuit.specs.Count.{unchecked}
 use Rattle.circuit.specs.Round.{Round, Input, Multiply, CommitOpened, RevealOpened, OpenOutput, CommitOutput, RevealOutput, isReveal, checkWords, words}
-use Rattle.steps.specs.Part.{Part, partAt, plus, minus, scale, shift, product}
-use Rattle.steps.specs.Scratch.{Layout, layout, Value, read, wire, putWire, putOpened}
+use Rattle.steps.specs.Part.{partAt, plus, minus, scale, shift, product}
+use Rattle.steps.specs.Scratch.{Layout, layout, wire, putWire, putOpened}
 use Rattle.steps.specs.Position.{Point, aborted, follow}
 use Rattle.steps.specs.Party.{Party, key, recordOf, maskAt, aAt, bAt, cAt}
 use Rattle.steps.specs.Send.{maskedFirst, maskedSecond}

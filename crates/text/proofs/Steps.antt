@@ -1,7 +1,7 @@
 -- The loop of `read_numbers`: what it has read so far, and how each byte moves it on.
 -- Assumes nothing.
-use Prim.Native.Nat.{ℕ, suc, _+_, _*_, _-_, _<_, _≤_}
-use mathlib.Core.Path.{_≡_, refl, sym, ap, _∙_, subst}
+use Prim.Native.Nat.{ℕ, _+_, _*_, _-_, _<_, _≤_}
+use mathlib.Core.Path.{_≡_, refl, sym, _∙_}
 use mathlib.Core.Bool.{Bool, true, false, not, _||_, false≢true}
 use mathlib.Core.List.{List}
 use native.Mathlib.Omega.{arith}
@@ -9,7 +9,7 @@ use lib.ListN.{length, getD, take, drop}
 use lib.Seq.{length-take-le, drop-drop}
 use lib.Dec.{ltb}
 use borrow.Author.Tests.{ltb-true}
-use Rattle.text.specs.Text.{isSpace, isDigit, digit, whole, more, reads, numbersIn, Begun, Reading, Numbers, Unlike, TooLarge, TooMany, numberEnd}
+use Rattle.text.specs.Text.{isSpace, isDigit, digit, whole, more, reads, numbersIn, Begun, Numbers, Unlike, TooLarge, TooMany, numberEnd}
 use Rattle.text.proofs.Laws.{denied, granted, reads-ends, reads-space, reads-unlike, reads-many, reads-large, reads-digit}
 
 -- the numbers that are whole stand at the start of a list, and whether another is begun, with its value

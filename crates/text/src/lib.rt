@@ -3,7 +3,6 @@ ghost use Prim.Native.Nat.{_+_, _*_, _<_, _≤_};
 ghost use mathlib.Core.Path.{_≡_};
 ghost use mathlib.Core.Bool.{true, _||_};
 ghost use lib.Dec.{ltb};
-ghost use mathlib.Core.List.{_++_, _∷_, []};
 ghost use lib.ListN.{length, take, drop};
 ghost use Rattle.text.specs.Text.{isSpace, isDigit, digit, belongs, run, alike, numbersIn, whole};
 ghost use Rattle.text.specs.Code.{Word, readingOf, Rest};

@@ -1,20 +1,19 @@
 -- What the theorems say of one call of the joint run, in the terms of its contract.
 -- Assumes nothing.
 use Prim.Native.Nat.{ℕ}
-use mathlib.Core.Path.{_≡_, refl, sym, ap, ap₂, _∙_}
+use mathlib.Core.Path.{_≡_, ap}
 use mathlib.Core.List.{List}
 use Rattle.field.specs.Ops.{Ops}
 use Rattle.field.specs.Field.{Field}
 use Rattle.field.specs.Prime.{prime}
 use Rattle.field.proofs.PrimeField.{primeField}
-use Rattle.circuit.specs.Verdict.{Verdict, Accepted}
+use Rattle.circuit.specs.Verdict.{Accepted}
 use Rattle.circuit.specs.Gate.{gates}
 use Rattle.steps.specs.Position.{Point, finished}
 use Rattle.steps.specs.Send.{overwrite}
 use Rattle.party.specs.Entry.{leave}
 use Rattle.joint.specs.Joint.{Joint}
-use Rattle.joint.specs.Run.{Run, whole}
-use Rattle.joint.specs.Entry.{JointAnswer, Done, ended, jointly, verdict, jointAnswer, jointOutputs}
+use Rattle.joint.specs.Entry.{Done, ended, jointly, verdict, jointAnswer, jointOutputs}
 use Rattle.joint.specs.Plain.{scores}
 use Rattle.joint.specs.Formula.{roundFormula}
 use Rattle.theorems.specs.Premises.{Honest}

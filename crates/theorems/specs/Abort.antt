@@ -1,6 +1,6 @@
 -- Demand 2: "A check stops a run exactly if the revealed words do not sum to zero". Of any preprocessing, good or not.
 -- Assumes nothing.
-use Prim.Native.Nat.{ℕ, suc, _<_}
+use Prim.Native.Nat.{ℕ, suc}
 use mathlib.Core.Path.{_≡_}
 use mathlib.Core.Bool.{true}
 use mathlib.Core.List.{List, _++_}
@@ -9,7 +9,7 @@ use Rattle.circuit.specs.Round.{Round, isReveal, checkWords}
 use Rattle.steps.specs.Position.{Send, finished, aborted}
 use Rattle.steps.specs.Receive.{heardSum}
 use Rattle.joint.specs.Joint.{Joint}
-use Rattle.joint.specs.Run.{State, Run, said, run, begun, whole}
+use Rattle.joint.specs.Run.{said, run, begun, whole}
 use Rattle.theorems.specs.Premises.{after}
 
 module _ (O : Ops) (J : Joint) (scratch : List ℕ) where

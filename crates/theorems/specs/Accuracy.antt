@@ -1,6 +1,6 @@
 -- Demand 2 for whole runs: accuracy, and how many rounds a run takes.
 -- Assumes nothing.
-use Prim.Native.Nat.{ℕ, _+_, _*_, _<_, _≤_}
+use Prim.Native.Nat.{ℕ, _*_, _<_, _≤_}
 use mathlib.Core.Path.{_≡_}
 use mathlib.Core.Bool.{true}
 use mathlib.Core.List.{List}
@@ -14,7 +14,7 @@ use Rattle.circuit.specs.Round.{openedIn, wordCount}
 use Rattle.steps.specs.Scratch.{layout, wire, read, Value, ValueMac}
 use Rattle.steps.specs.Position.{finished, whenSending}
 use Rattle.joint.specs.Joint.{Joint}
-use Rattle.joint.specs.Run.{State, Run, whole}
+use Rattle.joint.specs.Run.{whole}
 use Rattle.joint.specs.Plain.{value, scores}
 use Rattle.joint.specs.Good.{wholeKey}
 use Rattle.joint.specs.Formula.{roundFormula, mostRoundsOfAll}

@@ -6,14 +6,12 @@ use mathlib.Core.Bool.{Bool, true, false}
 use mathlib.Core.List.{List}
 use lib.ListN.{length}
 use Rattle.field.specs.Ops.{Ops}
-use Rattle.field.specs.Field.{Field}
 use Rattle.circuit.specs.Verdict.{Accepted}
 use Rattle.circuit.specs.Gate.{gates}
 use Rattle.circuit.specs.Count.{prepSize}
-use Rattle.steps.specs.Party.{Party}
 use Rattle.steps.specs.Scratch.{layout, scratchSize}
 use Rattle.joint.specs.Joint.{Joint, band, party}
-use Rattle.joint.specs.Run.{Run, whole}
+use Rattle.joint.specs.Run.{whole}
 use Rattle.joint.specs.Entry.{verdict, jointAnswer, jointScratch}
 use Rattle.joint.specs.Plain.{scores}
 use Rattle.joint.specs.Good.{Good}

@@ -1,6 +1,5 @@
 -- `capi::position_at` meets its contract: its tests are the definition's, in the same order.
 -- Assumes nothing.
-use native.Mathlib.Omega.{arith}
 use borrow.Author.Tests.{lt-ltb, le-ltb, eq-eqb, ne-eqb}
 use Rattle.steps.specs.Code.{stageOf}
 use Rattle.party.specs.Code.{positionOf}

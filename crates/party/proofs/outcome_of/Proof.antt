@@ -1,6 +1,6 @@
 -- `party::outcome_of` meets its contract: an aborted point is an abort, any other the next position.
 -- Assumes nothing.
-use mathlib.Core.Path.{_≡_, refl, sym, ap, _∙_}
+use mathlib.Core.Path.{_∙_}
 use Rattle.steps.specs.Position.{holding}
 use Rattle.steps.specs.Code.{pointOf, stageOf}
 use Rattle.party.specs.Code.{answerOf, leadsTo, leadsBy, positionOf}

@@ -1,7 +1,7 @@
 -- `party::receive` meets its contract: 1 to 12 are asked of all that is lent, and what they accept goes on.
 -- Assumes nothing.
-use mathlib.Core.Path.{_≡_, refl, sym, ap, _∙_}
-use Rattle.party.specs.Code.{answerOf, lentOf, LentOk}
+use mathlib.Core.Path.{sym, ap, _∙_}
+use Rattle.party.specs.Code.{answerOf, lentOf}
 use Rattle.party.proofs.Entries.{receive-not-lent}
 use borrow.Author.Needs.{needs}
 use Rattle.party.proofs.receive.Statement.{statement}

@@ -1,6 +1,6 @@
 -- `party::receive_lent` meets its contract: 13 and 14 are asked, and the half that is called goes on.
 -- Assumes nothing.
-use mathlib.Core.Path.{_≡_, refl, sym, ap, _∙_}
+use mathlib.Core.Path.{sym, ap, _∙_}
 use borrow.Author.Tests.{not-true, not-false}
 use Rattle.steps.specs.Position.{whenReceiving}
 use Rattle.steps.specs.Code.{stageOf}

@@ -2,13 +2,10 @@ use Rattle.steps.specs.Code.{layoutOf}
 use Rattle.party.proofs.Halves.{few-parties, output-slot}
 -- `party::receive_round` meets its contract: what 15 and 19 to 21 accept, the step receives, and the point that follows tells the answer.
 -- Assumes nothing.
-use mathlib.Core.Path.{_≡_, refl, sym, ap, _∙_}
-use borrow.Author.Tests.{not-true, not-false}
-use Rattle.circuit.specs.Code.{verdictOf, roundOf}
-use Rattle.steps.specs.Position.{whenSending, whenReceiving}
-use Rattle.steps.specs.Code.{stageOf}
+use mathlib.Core.Path.{sym, ap, _∙_}
+use Rattle.circuit.specs.Code.{verdictOf}
 use Rattle.steps.specs.Code.{slotOf}
-use Rattle.party.specs.Code.{answerOf, lentOf, positionOf}
+use Rattle.party.specs.Code.{answerOf}
 use Rattle.party.proofs.Halves.{round-asks, half-receives, received-refused, received-done}
 use borrow.Author.Needs.{needs}
 use Rattle.steps.proofs.receiving.receive_step.Reads as receive-step-reads

@@ -1,11 +1,9 @@
 -- `party::send_round` meets its contract: what 15 to 18 accept, the step sends.
 -- Assumes nothing.
-use mathlib.Core.Path.{_≡_, refl, sym, ap, _∙_}
-use borrow.Author.Tests.{not-true, not-false}
-use Rattle.circuit.specs.Code.{verdictOf, roundOf}
-use Rattle.steps.specs.Position.{whenSending, whenReceiving}
+use mathlib.Core.Path.{sym, ap, _∙_}
+use Rattle.circuit.specs.Code.{verdictOf}
 use Rattle.steps.specs.Code.{stageOf}
-use Rattle.party.specs.Code.{answerOf, lentOf, positionOf}
+use Rattle.party.specs.Code.{answerOf, positionOf}
 use Rattle.party.proofs.Halves.{round-asks, half-sends, sent-refused, sent-done}
 use borrow.Author.Needs.{needs}
 use Rattle.steps.proofs.sending.send_step.Reads as send-step-reads

@@ -1,7 +1,6 @@
 -- `printing::places` meets its contract: the count stays within ten.
 -- Assumes nothing.
 use Prim.Native.Nat.{_-_, _≤_}
-use native.Mathlib.Omega.{arith}
 use borrow.Author.Needs.{needs}
 use Rattle.printing.proofs.places.Statement.{statement}
 use Rattle.printing.proofs.places.Tie as tie

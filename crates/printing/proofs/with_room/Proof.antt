@@ -1,7 +1,6 @@
 -- `printing::with_room` meets its contract: where too little room is left, all that is there is printed.
 -- Assumes nothing.
 use mathlib.Core.Path.{sym}
-use native.Mathlib.Omega.{arith}
 use lib.Seq.{length-take-le}
 use borrow.Author.Needs.{needs}
 use Rattle.printing.proofs.with_room.Statement.{statement}

@@ -1,7 +1,6 @@
 -- `replay::replay` meets its contract: what is lent keeps its length, and each read leaves fewer to come.
 -- Assumes nothing.
 use mathlib.Core.Path.{_≡_, refl, _∙_}
-use native.Mathlib.Omega.{arith}
 use lib.ListN.{length}
 use borrow.Author.Needs.{needs}
 use Rattle.replay.proofs.Lengths.{Kept}

@@ -1,6 +1,5 @@
 -- `text::has_room` meets its contract: the test is that of the contract.
 -- Assumes nothing.
-use Rattle.text.proofs.Laws.{tests}
 use borrow.Author.Needs.{needs}
 use Rattle.text.proofs.has_room.Statement.{statement}
 use Rattle.text.proofs.has_room.Tie as tie

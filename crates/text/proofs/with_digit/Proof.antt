@@ -1,9 +1,8 @@
 -- `text::with_digit` meets its contract: a digit is one of 48 to 57, so that nothing is below zero or too large.
 -- Assumes nothing.
 use native.Mathlib.Omega.{arith}
-use borrow.Author.Tests.{leb-true}
 use borrow.Author.Needs.{needs}
-use Rattle.text.specs.Text.{isDigit, digit}
+use Rattle.text.specs.Text.{digit}
 use Rattle.text.proofs.Laws.{digit-from}
 use Rattle.text.proofs.with_digit.Statement.{statement}
 use Rattle.text.proofs.with_digit.Tie as tie

@@ -1,6 +1,6 @@
 -- `joint::receiving::receive_all` meets its contract: the words are summed, and each arm is the definition's at its round.
 -- Assumes nothing.
-use mathlib.Core.Path.{refl, ap, _∙_}
+use mathlib.Core.Path.{refl, _∙_}
 use native.Mathlib.Omega.{arith}
 use denote.Ref.{now}
 use borrow.Author.Needs.{needs}

@@ -2,15 +2,13 @@ use lib.ListN.{length}
 use Rattle.party.proofs.Lending.{lists-counted}
 -- `party::asking::ask_lent` meets its contract: 1 to 7 are asked first; then one count along the circuit gives the lengths that 8 to 12 ask for, and the site of the gate.
 -- Assumes nothing.
-use mathlib.Core.Path.{_≡_, refl, sym, ap, _∙_}
+use mathlib.Core.Path.{refl, sym, ap, _∙_}
 use native.Mathlib.Omega.{arith}
-use Rattle.circuit.specs.Count.{prepSize, inputCount}
 use Rattle.circuit.specs.Code.{verdictOf}
 use Rattle.steps.specs.Scratch as S
-use Rattle.steps.specs.Code.{layoutOf}
 use Rattle.party.specs.Code.{lentOf}
 use Rattle.party.proofs.Loops.{call-then, refused-then}
-use Rattle.party.proofs.Lending.{setting-valid, lent-split, lists-are, gates-are, layout-is, capacity-low, site-is}
+use Rattle.party.proofs.Lending.{setting-valid, lent-split, gates-are, layout-is, capacity-low, site-is}
 use borrow.Author.Needs.{needs}
 use Rattle.party.proofs.asking.ask_lent.Statement.{statement}
 use Rattle.party.proofs.asking.ask_lent.Tie as tie

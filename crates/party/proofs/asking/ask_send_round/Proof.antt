@@ -1,9 +1,8 @@
 -- `party::asking::ask_send_round` meets its contract: it asks 15 to 18 in turn.
 -- Assumes nothing.
 use Prim.Native.Nat.{ℕ}
-use mathlib.Core.Path.{_≡_, sym, ap, _∙_}
+use mathlib.Core.Path.{sym, ap, _∙_}
 use borrow.Author.Tests.{eq-eqb, ne-eqb, le-leb, lt-leb}
-use native.Mathlib.Omega.{arith}
 use Rattle.circuit.specs.Gate.{Gate}
 use Rattle.circuit.specs.Round.{coefficientsIn, words}
 use Rattle.circuit.specs.Code.{verdictOf, roundOf}

@@ -1,6 +1,5 @@
 -- `party::asking::ask_setting` meets its contract: it asks 1, 2 and then the circuit.
 -- Assumes nothing.
-use mathlib.Core.Path.{sym, ap, _∙_}
 use borrow.Author.Tests.{lt-ltb, le-ltb}
 use Rattle.circuit.specs.Code.{verdictOf}
 use Rattle.party.proofs.Loops.{yes-then, no-then, call-then, refused-then}

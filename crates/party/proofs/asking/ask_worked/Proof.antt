@@ -1,12 +1,12 @@
 -- `party::asking::ask_worked` meets its contract: it asks the four sorts of slots in their order.
 -- Assumes nothing.
 use Prim.Native.Nat.{ℕ}
-use mathlib.Core.Path.{_≡_, sym, ap, _∙_}
+use mathlib.Core.Path.{ap, _∙_}
 use native.Mathlib.Omega.{arith}
 use Rattle.circuit.specs.Round.{openedIn}
 use Rattle.circuit.specs.Code.{verdictOf, roundOf}
 use Rattle.steps.specs.Scratch.{layout}
-use Rattle.party.specs.Ask.{askSlots, askWorked}
+use Rattle.party.specs.Ask.{askWorked}
 use Rattle.party.specs.Code.{sortOf, wantedOf}
 use Rattle.party.proofs.Loops.{call-then, refused-then}
 use borrow.Author.Needs.{needs}

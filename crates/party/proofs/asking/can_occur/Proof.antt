@@ -1,7 +1,7 @@
 -- `party::asking::can_occur` meets its contract: the gate, the stage and the check share are asked in turn.
 -- Assumes nothing.
-use mathlib.Core.Path.{refl, sym, ap, _∙_}
-use borrow.Author.Tests.{not-true, not-false, lt-ltb, le-ltb, eq-eqb}
+use mathlib.Core.Path.{refl, sym, _∙_}
+use borrow.Author.Tests.{not-true, not-false}
 use native.Mathlib.Omega.{arith}
 use Rattle.party.specs.Code.{positionOf}
 use Rattle.party.proofs.Occurring.{past, no-stage, held-some, held-none}
