@@ -19,9 +19,6 @@ ghost use Rattle.joint.specs.Joint.{joined, band};
 ghost use Rattle.joint.specs.Run.{said, step};
 ghost use Rattle.joint.specs.Code.{jointOf, stateOf, Placed, part, prepFrom, keyIn, Prepared, Banded, EachBand, EachIs, Going};
 
-// Where the papers have a commitment, its mark is sent.
-const MARK: u32 = 1;
-
 // Each party's word of an in gate into out. Its record stands at number at of each party's preprocessing, and each party's next input at its
 // place.
 fn input_words(
@@ -111,7 +108,7 @@ fn put_marks(parties: usize, out: &mut [u32])
 {
     let mut i = 0;
     while i < parties {
-        out[i] = MARK;
+        out[i] = steps::sending::MARK;
         i += 1;
     }
 }

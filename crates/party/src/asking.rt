@@ -9,6 +9,7 @@ use steps::Site;
 use steps::Slot;
 use steps::Stage;
 use steps::scratch;
+use steps::sending;
 ghost use mathlib.Core.Path.{_≡_};
 ghost use mathlib.Core.Logic.{_↔_};
 ghost use mathlib.Core.Bool.{true};
@@ -31,8 +32,6 @@ ghost use Rattle.party.specs.Code.{sortOf, wantedOf, positionOf, Laid, A
 const FEWEST_PARTIES: usize = 2;
 
 const MOST_PARTIES: usize = 8;
-
-const MARK: u32 = 1;
 
 // Question 1.
 pub fn ask_parties(parties: usize) -> Verdict
@@ -91,7 +90,7 @@ fn ask_marks(heard: &[u32]) -> Verdict
 {
     let mut k = 0;
     while k < heard.len() {
-        if heard[k] != MARK {
+        if heard[k] != sending::MARK {
             return Verdict::Refused {
                 number: 21,
                 index: k,

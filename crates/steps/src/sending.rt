@@ -18,7 +18,7 @@ ghost use Rattle.steps.specs.Send.{inputWord, maskedFirst, maskedSecond,
 ghost use Rattle.steps.specs.Code.{IsPart, layoutOf, Below, Held, Opened, Sends};
 
 // The mark that a commitment sends.
-const MARK: u32 = 1;
+pub const MARK: u32 = 1;
 
 // Where numbers stand in a record of the preprocessing.
 pub const MASK_AT: usize = 0;
