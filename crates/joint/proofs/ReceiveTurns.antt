@@ -119,6 +119,28 @@ module _ (f : Frame) (s : Course) (c preps inputs l heard : List ℕ) (t : Lent 
       sym (joined-bands (f .parties) (f .scratch) l room)
       ∙ ap (λ (z : List ℕ). z ++ drop (f .parties * f .scratch) l) (joined-ext (f .parties) (band (f .scratch) l) (bandsOf r) same)
 
+  -- what settling asks, where m is the scratch of all
+  abbrev SettlesAll : List ℕ → ℕ → Type 0
+  SettlesAll m stop =
+      Prepared f preps 0 1
+      × Banded f m
+      × EachBand f m (λ i k. Settles c (layoutOf (f .layout)) (keyIn f preps i) k (s .point .gate + 1))
+      × (stop ≡ reach c (f .layout .gates - (s .point .gate + 1)) (s .point .gate + 1))
+
+  -- a round that leaves each band as F i, and then settles it
+  module _ (F : ℕ → List ℕ) (each : (i : ℕ) → i < f .parties → length (F i) ≡ f .scratch) {l₁ : List ℕ} (d : l₁ ≡ rebanded f F l) where
+    settling-asked : ((i : ℕ) → i < f .parties → band (f .scratch) l₁ i ≡ F i → Settles c (layoutOf (f .layout)) (keyIn f preps i) (band (f .scratch) l₁ i) (s .point .gate + 1))
+        → {stop : ℕ} → stop ≡ reach c (f .layout .gates - (s .point .gate + 1)) (s .point .gate + 1)
+        → SettlesAll l₁ stop
+    settling-asked k z = (lent-key t, reband-banded banded F each d, λ i h. k i h (reband-band banded F each d i h), z)
+
+    settling-made : (r : Round)
+        → ((i : ℕ) → i < f .parties → band (f .scratch) l₁ i ≡ F i → settledLeft f c preps l₁ (s .point .gate + 1) i ≡ bandsOf r i)
+        → {l₂ : List ℕ} → l₂ ≡ rebanded f (settledLeft f c preps l₁ (s .point .gate + 1)) l₁
+        → l₂ ≡ rebanded f (bandsOf r) l
+    settling-made r k =
+        reband-twice banded F each d (settledLeft f c preps l₁ (s .point .gate + 1)) (bandsOf r) (λ i h. k i h (reband-band banded F each d i h))
+
   pub aborted-left : passes prime (f .parties) RevealOutput heard ≡ false → l ≡ rebanded f (bandsOf RevealOutput) l
   unfolding stateOf pointOf party
   aborted-left e = left-alone RevealOutput (λ i h. revealed-not (party (lentAll f c preps inputs []) i) (band (f .scratch) l i) (s .point .gate) heard e)
@@ -140,31 +162,24 @@ module _ (f : Frame) (s : Course) (c preps inputs l heard : List ℕ) (t : Lent 
       lengths : (i : ℕ) → i < f .parties → length (inputLeft f preps l (s .point .gate) (s .tally .prep) e i) ≡ f .scratch
       lengths = input-each banded preps (s .point .gate) (s .tally .prep) e
 
-      pub inputs-settle : {stop : ℕ} → stop ≡ reach c (f .layout .gates - (s .point .gate + 1)) (s .point .gate + 1)
-          → Prepared f preps 0 1
-          × Banded f l₁
-          × EachBand f l₁ (λ i m. Settles c (layoutOf (f .layout)) (keyIn f preps i) m (s .point .gate + 1))
-          × (stop ≡ reach c (f .layout .gates - (s .point .gate + 1)) (s .point .gate + 1))
+      pub inputs-settle : {stop : ℕ} → stop ≡ reach c (f .layout .gates - (s .point .gate + 1)) (s .point .gate + 1) → SettlesAll l₁ stop
       unfolding siteOf party
-      inputs-settle z = (
-        lent-key t,
-        reband-banded banded _ lengths d,
-        λ i h. rw (lent-keyed t i)
-            (input-settles (party (lentAll f c preps inputs []) i) (band (f .scratch) l i) (f .layout) (siteOf c s i) (w i h .ready) i (prepFrom f preps (s .tally .prep) i) e
-            (reband-band banded _ lengths d i h ∙ rw (lent-keyed t i))),
-        z,
-      )
+      inputs-settle =
+          settling-asked _ lengths d
+          (λ i h q. rw (lent-keyed t i)
+          (input-settles (party (lentAll f c preps inputs []) i) (band (f .scratch) l i) (f .layout) (siteOf c s i) (w i h .ready) i (prepFrom f preps (s .tally .prep) i) e
+          (q ∙ rw (lent-keyed t i))))
 
       pub inputs-received : e ≡ heardFirst (f .parties) (gate c (s .point .gate)) Input heard → {l₂ : List ℕ}
           → l₂ ≡ rebanded f (settledLeft f c preps l₁ (s .point .gate + 1)) l₁
           → l₂ ≡ rebanded f (bandsOf Input) l
       unfolding siteOf stateOf pointOf party
       inputs-received ee =
-          reband-twice banded _ lengths d (settledLeft f c preps l₁ (s .point .gate + 1)) (bandsOf Input)
-          (λ i h.
+          settling-made _ lengths d Input
+          (λ i h q.
           input-made (party (lentAll f c preps inputs []) i) (band (f .scratch) l i) (f .layout) (siteOf c s i) heard (w i h .ready)
           (lent-record-is t (w i h .ready .sited .prep) (w i h .ready .sited .within) i) ee
-          (reband-band banded _ lengths d i h ∙ rw (lent-keyed t i))
+          (q ∙ rw (lent-keyed t i))
           (rw (lent-keyed t i)))
 
   -- mul gates
@@ -190,29 +205,22 @@ module _ (f : Frame) (s : Course) (c preps inputs l heard : List ℕ) (t : Lent 
       product-lengths : (i : ℕ) → i < f .parties → length (products i) ≡ f .scratch
       product-lengths = product-each banded preps (s .point .gate) x z (s .tally .prep) (s .tally .unchecked) e d
 
-      pub products-settle : {stop : ℕ} → stop ≡ reach c (f .layout .gates - (s .point .gate + 1)) (s .point .gate + 1)
-          → Prepared f preps 0 1
-          × Banded f l₁
-          × EachBand f l₁ (λ i m. Settles c (layoutOf (f .layout)) (keyIn f preps i) m (s .point .gate + 1))
-          × (stop ≡ reach c (f .layout .gates - (s .point .gate + 1)) (s .point .gate + 1))
+      pub products-settle : {stop : ℕ} → stop ≡ reach c (f .layout .gates - (s .point .gate + 1)) (s .point .gate + 1) → SettlesAll l₁ stop
       unfolding siteOf party
-      products-settle y = (
-        lent-key t,
-        reband-banded banded products product-lengths q,
-        λ i h. rw (lent-keyed t i)
-            (multiply-settles (party (lentAll f c preps inputs []) i) (band (f .scratch) l i) (f .layout) (siteOf c s i) (w i h .ready) i x z (prepFrom f preps (s .tally .prep) i) e d
-            (v .first .below) (v .second .below) (reband-band banded products product-lengths q i h ∙ rw (lent-keyed t i))),
-        y,
-      )
+      products-settle =
+          settling-asked products product-lengths q
+          (λ i h y. rw (lent-keyed t i)
+          (multiply-settles (party (lentAll f c preps inputs []) i) (band (f .scratch) l i) (f .layout) (siteOf c s i) (w i h .ready) i x z (prepFrom f preps (s .tally .prep) i) e d
+          (v .first .below) (v .second .below) (y ∙ rw (lent-keyed t i))))
 
       pub products-received : {l₂ : List ℕ} → l₂ ≡ rebanded f (settledLeft f c preps l₁ (s .point .gate + 1)) l₁ → l₂ ≡ rebanded f (bandsOf Multiply) l
       unfolding siteOf stateOf pointOf party
       products-received =
-          reband-twice banded products product-lengths q (settledLeft f c preps l₁ (s .point .gate + 1)) (bandsOf Multiply)
-          (λ i h.
+          settling-made products product-lengths q Multiply
+          (λ i h y.
           multiply-received (party (lentAll f c preps inputs []) i) (band (f .scratch) l i) (f .layout) (siteOf c s i) heard (w i h .ready)
           (lent-record-is t (w i h .ready .sited .prep) (w i h .ready .sited .within) i) n v
-          (reband-band banded products product-lengths q i h ∙ rw (lent-keyed t i))
+          (y ∙ rw (lent-keyed t i))
           (rw (lent-keyed t i)))
 
   -- opened outputs
@@ -235,11 +243,7 @@ module _ (f : Frame) (s : Course) (c preps inputs l heard : List ℕ) (t : Lent 
 
   -- the reveal of the second check
   module _ (w : asked RevealOutput) where
-    pub reveal-settles : {stop : ℕ} → stop ≡ reach c (f .layout .gates - (s .point .gate + 1)) (s .point .gate + 1)
-        → Prepared f preps 0 1
-        × Banded f l
-        × EachBand f l (λ i m. Settles c (layoutOf (f .layout)) (keyIn f preps i) m (s .point .gate + 1))
-        × (stop ≡ reach c (f .layout .gates - (s .point .gate + 1)) (s .point .gate + 1))
+    pub reveal-settles : {stop : ℕ} → stop ≡ reach c (f .layout .gates - (s .point .gate + 1)) (s .point .gate + 1) → SettlesAll l stop
     unfolding siteOf party
     reveal-settles z = (
       lent-key t,

@@ -104,7 +104,7 @@ fn send_input(me: usize, c: &[u32], prep: &[u32], inputs: &[u32], at: Site, out:
     requires { ⌜ (gateSize * (at .gate) + gateSize ≤ length (now c)) × (at .prep + 2 < length (now prep)) × Below (now prep) × Below (now inputs) × (0 < length (now out)) ⌝ }
     ensures { λ r. ⌜ now (out .exit) ≡ overwrite (inputWord prime me (first (gate (now (c .entry)) (at .gate))) (drop (at .prep) (now (prep .entry))) (getD (now (inputs .entry)) (at .input) 0) ∷ []) (now (out .entry)) ⌝ }
 {
-    let owner = circuit::first_of(circuit::gate_at(c, at.gate));
+    let owner = circuit::first_at(c, at.gate);
     let start = at.prep;
     let w = input_word(me, owner, &prep[start..], inputs, at.input);
     out[0] = w;
@@ -141,7 +141,7 @@ fn send_output(c: &[u32], l: &[u32], y: Layout, j: usize, out: &mut [u32])
     requires { ⌜ (gateSize * j + gateSize ≤ length (now c)) × (scratchSize (layoutOf y) ≤ length (now l)) × Held (layoutOf y) (now l) (first (gate (now c) j)) × (0 < length (now out)) ⌝ }
     ensures { λ r. ⌜ now (out .exit) ≡ overwrite (wire (layoutOf y) (now (l .entry)) (first (gate (now (c .entry)) j)) .share ∷ []) (now (out .entry)) ⌝ }
 {
-    let x = circuit::first_of(circuit::gate_at(c, j));
+    let x = circuit::first_at(c, j);
     let shown = scratch::wire_at(l, y, x);
     out[0] = shown.share;
 }

@@ -1,4 +1,4 @@
--- `party::parts::add` meets its contract: shares and MAC shares are added alike.
+-- `steps::parts::add` meets its contract: shares and MAC shares are added alike.
 -- Assumes nothing.
 use Rattle.steps.specs.Part.{plus}
 use Rattle.steps.specs.Code.{partOf}

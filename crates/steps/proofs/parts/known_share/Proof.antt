@@ -1,4 +1,4 @@
--- `party::parts::known_share` meets its contract: the test of the party's number is the definition's.
+-- `steps::parts::known_share` meets its contract: the test of the party's number is the definition's.
 -- Assumes nothing.
 use mathlib.Core.Path.{refl}
 use borrow.Author.Tests.{eq-eqb, ne-eqb}

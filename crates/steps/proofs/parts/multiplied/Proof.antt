@@ -1,4 +1,4 @@
--- `party::parts::multiplied` meets its contract: share and MAC share are the definition's sums of products, and one times the share of
+-- `steps::parts::multiplied` meets its contract: share and MAC share are the definition's sums of products, and one times the share of
 -- E × D is that share.
 -- Assumes nothing.
 use mathlib.Core.Path.{_∙_}

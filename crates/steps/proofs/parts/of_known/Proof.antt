@@ -1,4 +1,4 @@
--- `party::parts::of_known` meets its contract: the calls give its share and its MAC share.
+-- `steps::parts::of_known` meets its contract: the calls give its share and its MAC share.
 -- Assumes nothing.
 use Rattle.steps.specs.Part.{known}
 use Rattle.steps.specs.Code.{partOf}

@@ -1,4 +1,4 @@
--- `party::parts::part_at` meets its contract: the two numbers stand at k and k + 1, and every number of the list is an element.
+-- `steps::parts::part_at` meets its contract: the two numbers stand at k and k + 1, and every number of the list is an element.
 -- Assumes nothing.
 use Rattle.steps.specs.Part.{partAt}
 use Rattle.steps.specs.Code.{partOf}

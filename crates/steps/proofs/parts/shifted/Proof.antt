@@ -1,4 +1,4 @@
--- `party::parts::shifted` meets its contract: the part of the known number is added.
+-- `steps::parts::shifted` meets its contract: the part of the known number is added.
 -- Assumes nothing.
 use Rattle.steps.specs.Part.{shift}
 use borrow.Author.Needs.{needs}

@@ -1,4 +1,4 @@
--- `party::parts::sub` meets its contract: shares and MAC shares are subtracted alike.
+-- `steps::parts::sub` meets its contract: shares and MAC shares are subtracted alike.
 -- Assumes nothing.
 use Rattle.steps.specs.Part.{minus}
 use Rattle.steps.specs.Code.{partOf}

@@ -1,4 +1,4 @@
--- `party::parts::times` meets its contract: shares and MAC shares are multiplied alike.
+-- `steps::parts::times` meets its contract: shares and MAC shares are multiplied alike.
 -- Assumes nothing.
 use Rattle.steps.specs.Part.{scale}
 use Rattle.steps.specs.Code.{partOf}

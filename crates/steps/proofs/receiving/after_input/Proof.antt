@@ -1,4 +1,4 @@
--- `party::receiving::after_input` meets its contract: the mask shifted by the owner's word is written as the gate's wire.
+-- `steps::receiving::after_input` meets its contract: the mask shifted by the owner's word is written as the gate's wire.
 -- Assumes nothing.
 use Rattle.steps.specs.Receive.{afterInput}
 use borrow.Author.Needs.{needs}

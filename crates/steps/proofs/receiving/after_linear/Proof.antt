@@ -1,4 +1,4 @@
--- `party::receiving::after_linear` meets its contract: each arm is the definition's.
+-- `steps::receiving::after_linear` meets its contract: each arm is the definition's.
 -- Assumes nothing.
 use Rattle.circuit.specs.Code.{gateOf}
 use Rattle.steps.specs.Receive.{afterLinear}

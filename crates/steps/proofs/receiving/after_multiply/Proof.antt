@@ -1,4 +1,4 @@
--- `party::receiving::after_multiply` meets its contract: what the calls made is put together by one law.
+-- `steps::receiving::after_multiply` meets its contract: what the calls made is put together by one law.
 -- Assumes nothing.
 use native.Mathlib.Omega.{arith}
 use Rattle.steps.specs.Scratch.{scratchSize}

@@ -1,4 +1,4 @@
--- `party::receiving::after_open_output` meets its contract: the entry is written with the MAC share of the wire.
+-- `steps::receiving::after_open_output` meets its contract: the entry is written with the MAC share of the wire.
 -- Assumes nothing.
 use mathlib.Core.Path.{_∙_}
 use Rattle.steps.specs.Receive.{afterOpenOutput}

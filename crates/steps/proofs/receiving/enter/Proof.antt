@@ -1,4 +1,4 @@
--- `party::receiving::enter` meets its contract: a gate's first round is the definition's, and a gate that has none ends the run.
+-- `steps::receiving::enter` meets its contract: a gate's first round is the definition's, and a gate that has none ends the run.
 -- Assumes nothing.
 use mathlib.Core.Path.{_∙_}
 use native.Mathlib.Omega.{arith}

@@ -1,4 +1,4 @@
--- `party::receiving::first_word` meets its contract: every word heard is an element.
+-- `steps::receiving::first_word` meets its contract: every word heard is an element.
 -- Assumes nothing.
 use mathlib.Core.Path.{refl}
 use borrow.Author.Needs.{needs}

@@ -1,4 +1,4 @@
--- `party::receiving::heard_first` meets its contract: the test of the gate is the definition's.
+-- `steps::receiving::heard_first` meets its contract: the test of the gate is the definition's.
 -- Assumes nothing.
 use mathlib.Core.Path.{sym, _∙_}
 use denote.Ref.{now}

@@ -1,4 +1,4 @@
--- `party::receiving::heard_second` meets its contract: the test of the gate is the definition's.
+-- `steps::receiving::heard_second` meets its contract: the test of the gate is the definition's.
 -- Assumes nothing.
 use mathlib.Core.Path.{sym, _∙_}
 use borrow.Author.Needs.{needs}

@@ -1,4 +1,4 @@
--- `party::receiving::heard_sum` meets its contract: after i turns the sum is that of the first i parties' words.
+-- `steps::receiving::heard_sum` meets its contract: after i turns the sum is that of the first i parties' words.
 -- Assumes nothing.
 use Prim.Native.Nat.{_-_}
 use native.Mathlib.Omega.{arith}

@@ -1,4 +1,4 @@
--- `party::receiving::next_point` meets its contract: each arm is the definition's at its round.
+-- `steps::receiving::next_point` meets its contract: each arm is the definition's at its round.
 -- Assumes nothing.
 use mathlib.Core.Path.{refl, _∙_}
 use borrow.Author.Needs.{needs}

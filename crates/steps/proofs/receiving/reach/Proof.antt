@@ -1,4 +1,4 @@
--- `party::receiving::reach` meets its contract: the next stop from gate j on is that from the first gate on.
+-- `steps::receiving::reach` meets its contract: the next stop from gate j on is that from the first gate on.
 -- Assumes nothing.
 use Prim.Native.Nat.{_-_}
 use native.Mathlib.Omega.{arith}

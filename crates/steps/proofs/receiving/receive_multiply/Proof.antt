@@ -1,4 +1,4 @@
--- `party::receiving::receive_multiply` meets its contract: the record, the wires and the two sums are the gate's, and the linear gates after it are done.
+-- `steps::receiving::receive_multiply` meets its contract: the record, the wires and the two sums are the gate's, and the linear gates after it are done.
 -- Assumes nothing.
 use native.Mathlib.Omega.{arith}
 use denote.Ref.{now}

@@ -1,4 +1,4 @@
--- `party::receiving::receive_step` meets its contract: the words are summed, and what follows is made of the sums.
+-- `steps::receiving::receive_step` meets its contract: the words are summed, and what follows is made of the sums.
 -- Assumes nothing.
 use mathlib.Core.Path.{ap, _∙_}
 use mathlib.Core.List.{[]}

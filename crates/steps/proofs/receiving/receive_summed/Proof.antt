@@ -1,4 +1,4 @@
--- `party::receiving::receive_summed` meets its contract: each arm is the definition's at its round.
+-- `steps::receiving::receive_summed` meets its contract: each arm is the definition's at its round.
 -- Assumes nothing.
 use mathlib.Core.Path.{refl, _∙_}
 use mathlib.Core.List.{[]}

@@ -1,4 +1,4 @@
--- `party::receiving::resume` meets its contract: linear gates open nothing, so what waits at the next stop is what waits after the gate.
+-- `steps::receiving::resume` meets its contract: linear gates open nothing, so what waits at the next stop is what waits after the gate.
 -- Assumes nothing.
 use mathlib.Core.Path.{_∙_}
 use native.Mathlib.Omega.{arith}

@@ -1,4 +1,4 @@
--- `party::receiving::sending_at` meets its contract: it makes the point.
+-- `steps::receiving::sending_at` meets its contract: it makes the point.
 -- Assumes nothing.
 use mathlib.Core.Path.{refl}
 use Rattle.steps.specs.Code.{stageOf, pointOf}

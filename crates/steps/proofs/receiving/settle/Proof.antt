@@ -1,4 +1,4 @@
--- `party::receiving::settle` meets its contract: what is left to do from gate j on is what was left from the first gate on, and the gates before the stop are linear.
+-- `steps::receiving::settle` meets its contract: what is left to do from gate j on is what was left from the first gate on, and the gates before the stop are linear.
 -- Assumes nothing.
 use Prim.Native.Nat.{_-_}
 use native.Mathlib.Omega.{arith}

@@ -1,4 +1,4 @@
--- `party::receiving::triple_product` meets its contract: the triple stands where the definition reads it.
+-- `steps::receiving::triple_product` meets its contract: the triple stands where the definition reads it.
 -- Assumes nothing.
 use borrow.Author.Needs.{needs}
 use Rattle.steps.proofs.receiving.triple_product.Statement.{statement}

@@ -1,4 +1,4 @@
--- `party::scratch::offset_of` meets its contract: each arm is the definition's, and a place in the scratch is below its size, which fits.
+-- `steps::scratch::offset_of` meets its contract: each arm is the definition's, and a place in the scratch is below its size, which fits.
 -- Assumes nothing.
 use native.Mathlib.Omega.{arith}
 use Rattle.steps.specs.Scratch.{offset, scratchSize}

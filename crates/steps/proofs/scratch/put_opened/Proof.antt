@@ -1,4 +1,4 @@
--- `party::scratch::put_opened` meets its contract: it writes the two slots of the entry.
+-- `steps::scratch::put_opened` meets its contract: it writes the two slots of the entry.
 -- Assumes nothing.
 use native.Mathlib.Omega.{arith}
 use Rattle.steps.specs.Scratch.{putOpened}

@@ -1,4 +1,4 @@
--- `party::scratch::put_wire` meets its contract: it writes the two slots of the gate.
+-- `steps::scratch::put_wire` meets its contract: it writes the two slots of the gate.
 -- Assumes nothing.
 use native.Mathlib.Omega.{arith}
 use Rattle.steps.specs.Scratch.{putWire}

@@ -1,4 +1,4 @@
--- `party::scratch::size_of` meets its contract: the sum is the definition.
+-- `steps::scratch::size_of` meets its contract: the sum is the definition.
 -- Assumes nothing.
 use mathlib.Core.Path.{refl}
 use Rattle.steps.specs.Scratch.{scratchSize}

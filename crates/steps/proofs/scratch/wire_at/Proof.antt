@@ -1,4 +1,4 @@
--- `party::scratch::wire_at` meets its contract: it reads the two slots of the gate, which hold elements.
+-- `steps::scratch::wire_at` meets its contract: it reads the two slots of the gate, which hold elements.
 -- Assumes nothing.
 use Rattle.steps.specs.Scratch.{wire}
 use Rattle.steps.specs.Code.{partOf, slotOf}

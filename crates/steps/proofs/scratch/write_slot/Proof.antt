@@ -1,4 +1,4 @@
--- `party::scratch::write_slot` meets its contract: the slot's offset is below the scratch's size.
+-- `steps::scratch::write_slot` meets its contract: the slot's offset is below the scratch's size.
 -- Assumes nothing.
 use native.Mathlib.Omega.{arith}
 use Rattle.steps.specs.Scratch.{write}

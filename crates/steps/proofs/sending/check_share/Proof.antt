@@ -1,4 +1,4 @@
--- `party::sending::check_share` meets its contract: after t turns the two running sums stand for those of the first t entries.
+-- `steps::sending::check_share` meets its contract: after t turns the two running sums stand for those of the first t entries.
 -- Assumes nothing.
 use Prim.Native.Nat.{_≤_, _-_}
 use mathlib.Core.Path.{ap}

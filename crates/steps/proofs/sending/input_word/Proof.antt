@@ -1,4 +1,4 @@
--- `party::sending::input_word` meets its contract: the test of the owner is the definition's.
+-- `steps::sending::input_word` meets its contract: the test of the owner is the definition's.
 -- Assumes nothing.
 use native.Mathlib.Omega.{arith}
 use borrow.Author.Tests.{eq-eqb, ne-eqb}

@@ -1,4 +1,4 @@
--- `party::sending::masked_first` meets its contract: the calls are the definition's.
+-- `steps::sending::masked_first` meets its contract: the calls are the definition's.
 -- Assumes nothing.
 use Rattle.steps.specs.Send.{maskedFirst}
 use borrow.Author.Needs.{needs}

@@ -1,4 +1,4 @@
--- `party::sending::masked_second` meets its contract: the calls are the definition's.
+-- `steps::sending::masked_second` meets its contract: the calls are the definition's.
 -- Assumes nothing.
 use Rattle.steps.specs.Send.{maskedSecond}
 use borrow.Author.Needs.{needs}

@@ -1,4 +1,4 @@
--- `party::sending::multiply_words` meets its contract: the words are written in order.
+-- `steps::sending::multiply_words` meets its contract: the words are written in order.
 -- Assumes nothing.
 use Rattle.steps.proofs.Readiness.{share-is}
 use Rattle.steps.proofs.Sent.{overwrite-two}

@@ -1,4 +1,4 @@
--- `party::sending::number_at` meets its contract: past the end of a list stands 0.
+-- `steps::sending::number_at` meets its contract: past the end of a list stands 0.
 -- Assumes nothing.
 use mathlib.Core.Path.{refl, sym}
 use native.Mathlib.Omega.{arith}

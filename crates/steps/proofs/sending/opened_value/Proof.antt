@@ -1,4 +1,4 @@
--- `party::sending::opened_value` meets its contract: the slot of an opened entry holds an element.
+-- `steps::sending::opened_value` meets its contract: the slot of an opened entry holds an element.
 -- Assumes nothing.
 use Rattle.steps.specs.Code.{slotOf}
 use Rattle.steps.proofs.sending.opened_value.Statement.{statement}

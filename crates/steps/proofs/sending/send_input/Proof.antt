@@ -1,4 +1,4 @@
--- `party::sending::send_input` meets its contract: the owner, the record and the input are those of the gate, and the word is written first.
+-- `steps::sending::send_input` meets its contract: the owner, the record and the input are those of the gate, and the word is written first.
 -- Assumes nothing.
 use native.Mathlib.Omega.{arith}
 use denote.Ref.{now}
@@ -8,11 +8,8 @@ use borrow.Author.Needs.{needs}
 use Rattle.steps.proofs.sending.send_input.Statement.{statement}
 use Rattle.steps.proofs.sending.send_input.Tie as tie
 
-gate-at-requires : tie.Need-gate-at-requires
-gate-at-requires c κs = search needs
-
-first-of-requires : tie.Need-first-of-requires
-first-of-requires c κs = search needs
+first-at-requires : tie.Need-first-at-requires
+first-at-requires c κs = search needs
 
 mul-input-word : tie.Need-mul-input-word
 mul-input-word c = search needs
@@ -28,8 +25,8 @@ part-input-word-end c = search needs
 
 input-word-requires : tie.Need-input-word-requires
 input-word-requires c κs =
-    let e = tail-part (c .before .before .before .before .before .before .before .args .at .prep) (now (c .before .before .before .before .before .before .before .args .prep)) in
-    (part-longer (c .before .before .before .before .before .before .before .args .at .prep) 3 (now (c .before .before .before .before .before .before .before .args .prep)) e (omega (arith, c .before .before .before .before .before .before .before .pre .1)), part-below (c .before .before .before .before .before .before .before .args .at .prep) (now (c .before .before .before .before .before .before .before .args .prep)) e (c .before .before .before .before .before .before .before .pre .2), c .before .before .before .before .before .before .before .pre .3)
+    let e = tail-part (c .before .before .before .before .before .before .args .at .prep) (now (c .before .before .before .before .before .before .args .prep)) in
+    (part-longer (c .before .before .before .before .before .before .args .at .prep) 3 (now (c .before .before .before .before .before .before .args .prep)) e (omega (arith, c .before .before .before .before .before .before .pre .1)), part-below (c .before .before .before .before .before .before .args .at .prep) (now (c .before .before .before .before .before .before .args .prep)) e (c .before .before .before .before .before .before .pre .2), c .before .before .before .before .before .before .pre .3)
 
 slice-write-out : tie.Need-slice-write-out
 slice-write-out c = search needs
@@ -39,15 +36,14 @@ same-length c = search needs
 
 returns : tie.Need-returns
 returns c =
-    rw (c .input-word .ensures .is, tail-part (c .before .before .before .before .before .before .before .before .args .at .prep) (now (c .before .before .before .before .before .before .before .before .args .prep)), c .before .before .first-of .ensures, c .before .before .before .gate-at .ensures)
-    (overwrite-one _ _ (c .before .before .before .before .before .before .before .before .pre .4))
+    rw (c .input-word .ensures .is, tail-part (c .before .before .before .before .before .before .before .args .at .prep) (now (c .before .before .before .before .before .before .before .args .prep)), c .before .before .first-at .ensures)
+    (overwrite-one _ _ (c .before .before .before .before .before .before .before .pre .4))
 
 pub send-input-spec : {M : Type 1} → statement M
 send-input-spec =
     tie.close
     (tie.spec
-    gate-at-requires
-    first-of-requires
+    first-at-requires
     mul-input-word
     sub-input-word
     part-input-word-start

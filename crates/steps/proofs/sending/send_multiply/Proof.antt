@@ -1,4 +1,4 @@
--- `party::sending::send_multiply` meets its contract: the wires and the record are those that the gate names.
+-- `steps::sending::send_multiply` meets its contract: the wires and the record are those that the gate names.
 -- Assumes nothing.
 use mathlib.Core.Path.{_∙_, ap}
 use native.Mathlib.Omega.{arith}

@@ -1,21 +1,16 @@
--- `party::sending::send_output` meets its contract: the wire is the one that the gate names, and its share is written first.
+-- `steps::sending::send_output` meets its contract: the wire is the one that the gate names, and its share is written first.
 -- Assumes nothing.
-use mathlib.Core.Path.{_∙_, ap}
-use Rattle.circuit.specs.Gate.{first}
 use Rattle.steps.proofs.Readiness.{share-is}
 use Rattle.steps.proofs.Sent.{overwrite-one}
 use borrow.Author.Needs.{needs}
 use Rattle.steps.proofs.sending.send_output.Statement.{statement}
 use Rattle.steps.proofs.sending.send_output.Tie as tie
 
-gate-at-requires : tie.Need-gate-at-requires
-gate-at-requires c κs = search needs
-
-first-of-requires : tie.Need-first-of-requires
-first-of-requires c κs = search needs
+first-at-requires : tie.Need-first-at-requires
+first-at-requires c κs = search needs
 
 wire-at-requires : tie.Need-wire-at-requires
-wire-at-requires c κs = (c .before .before .before .before .before .pre .1, rw (c .first-of .ensures, c .before .gate-at .ensures) (c .before .before .before .before .before .pre .2))
+wire-at-requires c κs = (c .before .before .before .before .pre .1, rw (c .first-at .ensures) (c .before .before .before .before .pre .2))
 
 slice-write-out : tie.Need-slice-write-out
 slice-write-out c = search needs
@@ -24,14 +19,13 @@ same-length : tie.Need-same-length
 same-length c = search needs
 
 returns : tie.Need-returns
-returns c = rw (share-is (c .wire-at .ensures), c .before .first-of .ensures ∙ ap first (c .before .before .gate-at .ensures)) (overwrite-one _ _ (c .before .before .before .before .before .before .pre .3))
+returns c = rw (share-is (c .wire-at .ensures), c .before .first-at .ensures) (overwrite-one _ _ (c .before .before .before .before .before .pre .3))
 
 pub send-output-spec : {M : Type 1} → statement M
 send-output-spec =
     tie.close
     (tie.spec
-    gate-at-requires
-    first-of-requires
+    first-at-requires
     wire-at-requires
     slice-write-out
     same-length

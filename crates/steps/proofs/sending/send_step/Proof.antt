@@ -1,4 +1,4 @@
--- `party::sending::send_step` meets its contract: each arm is the definition's at its round.
+-- `steps::sending::send_step` meets its contract: each arm is the definition's at its round.
 -- Assumes nothing.
 use mathlib.Core.Path.{refl}
 use Rattle.circuit.specs.Round.{Input, Multiply, CommitOpened, RevealOpened, OpenOutput, CommitOutput, RevealOutput, isCommit, words, openedIn}
