@@ -1,124 +1,208 @@
--- What a reader will ask of the three entries: every position that they yield can occur, an ended run is refused by both halves, a run is
--- stopped exactly by revealed words that do not sum to zero, and an output is released only by a passing second check of its own gate.
+-- What a reader will ask of the answers of a party's entries: an ended run is refused by both halves, an output is released exactly by a
+-- passing second check of its own gate, and a run is stopped exactly by revealed words that do not sum to zero.
 -- Assumes nothing.
 use Prim.Native.Nat.{ℕ}
-use mathlib.Core.Path.{_≡_, refl}
+use mathlib.Core.Path.{_≡_, refl, sym, ap, _∙_}
+use mathlib.Core.Logic.{_↔_}
 use mathlib.Core.Bool.{Bool, true, false, cond}
 use mathlib.Core.List.{List}
 use native.Mathlib.Omega.{arith}
-use lib.Dec.{eqb}
-use borrow.Author.Tests.{eqb-true, eqb-false, ne-eqb}
-use Rattle.field.specs.Prime.{p, prime}
-use Rattle.circuit.specs.Verdict.{Verdict, Accepted, Refused, _then_}
-use Rattle.circuit.specs.Round.{Round, Input, Multiply, CommitOpened, RevealOpened, OpenOutput, CommitOutput, RevealOutput, isReveal, checkWords}
-use Rattle.circuit.proofs.Verdicts.{refused-no, then-right}
+use Rattle.field.specs.Ops.{Ops}
+use Rattle.field.specs.Prime.{prime}
+use Rattle.circuit.specs.Verdict.{Verdict, Accepted, Refused, ask, _then_}
+use Rattle.circuit.specs.Round.{Round, Input, Multiply, CommitOpened, RevealOpened, OpenOutput, CommitOutput, RevealOutput, isCommit, isReveal, checkWords}
+use Rattle.circuit.proofs.Tests.{false-no}
+use Rattle.circuit.proofs.Verdicts.{refused-no, ask-true, then-left, then-right}
 use Rattle.steps.specs.Scratch.{layout, read, Value}
-use Rattle.steps.specs.Position.{Position, Stage, Finished, Aborted, whenSending, whenReceiving}
+use Rattle.steps.specs.Position.{Position, Stage, Send, Receive, Finished, Aborted, holding, aborted, follow, keep, occurs, whenSending, whenReceiving}
 use Rattle.steps.specs.Party.{Party}
-use Rattle.steps.specs.Receive.{heardSum, passes}
-use Rattle.party.specs.Ask.{askSend, askReceive}
+use Rattle.steps.specs.Receive.{heardSum, passes, next}
+use Rattle.steps.proofs.Following.{passes-zero, passes-not, zero-passed, nonzero-stopped, aborted-holds}
+use Rattle.party.specs.Ask.{askLent, askSend, askReceive}
 use Rattle.party.specs.Entry.{Answer, Refusal, Next, Output, Abort, answer, releases, sendAnswer, receiveAnswer, outcome, nextPosition}
+use Rattle.party.proofs.Entries.{refused-answer, accepted-answer, receiving-at, half-decides}
 
--- the answer of an accepted call
-accepted-is : (v : Verdict) (a : Answer) → v ≡ Accepted → answer v a ≡ a
+-- an answer that is no refusal is that of an accepted call
+pub answered : (v : Verdict) (a b : Answer) → answer v a ≡ b → ((number index : ℕ) → b ≡ Refusal number index → ⊥) → (v ≡ Accepted) × (a ≡ b)
 unfolding answer
-accepted-is v a e = rw e
+answered Accepted a b e f = (refl, e)
+answered (Refused number index) a b e f = absurd (f number index (sym e))
+
+-- the half of an accepted receiving
+pub receives-at : (s : Stage) (f : Round → Verdict) → whenReceiving s (Refused 14 0) f ≡ Accepted → (r : Round) × (s ≡ Receive r)
+unfolding whenReceiving
+receives-at (Send r) f e = refused-no e
+receives-at (Receive r) f e = (r, refl)
+receives-at Finished f e = refused-no e
+receives-at Aborted f e = refused-no e
 
 -- an ended run has neither half
 pub data Ended : Stage → Type 0 where
   finished : Ended Finished
   stopped : Ended Aborted
 
--- an answer that is a refusal
-pub record Refuses (a : Answer) : Type 0 where
-  pub number : ℕ
-  pub index : ℕ
-  pub is : a ≡ Refusal number index
-
-refuses : (v : Verdict) (a : Answer) → (v ≡ Accepted → ⊥) → Refuses (answer v a)
-unfolding answer
-refuses Accepted a out = absurd (out refl)
-refuses (Refused number index) a out = record { number = number; index = index; is = refl }
-
-not-sending : {s : Stage} → Ended s → (f : Round → Verdict) → whenSending s (Refused 14 0) f ≡ Accepted → ⊥
+ended-sending : {s : Stage} → Ended s → {A : Type 0} (other : A) (f : Round → A) → whenSending s other f ≡ other
 unfolding whenSending
-not-sending finished f h = refused-no h
-not-sending stopped f h = refused-no h
+ended-sending finished other f = refl
+ended-sending stopped other f = refl
 
-not-receiving : {s : Stage} → Ended s → (f : Round → Verdict) → whenReceiving s (Refused 14 0) f ≡ Accepted → ⊥
+ended-receiving : {s : Stage} → Ended s → {A : Type 0} (other : A) (f : Round → A) → whenReceiving s other f ≡ other
 unfolding whenReceiving
-not-receiving finished f h = refused-no h
-not-receiving stopped f h = refused-no h
+ended-receiving finished other f = refl
+ended-receiving stopped other f = refl
 
+-- an outcome, by whether the round passes and whether it releases
+output-only : (b d : Bool) (w : ℕ) (y : Position) {v : ℕ} {x : Position} → cond b (cond d (Output w y) (Next y)) (Abort y) ≡ Output v x
+    → (b ≡ true) × (d ≡ true) × (w ≡ v) × (y ≡ x)
+output-only true true w y h = (refl, refl, cc, cc)
+output-only true false w y h = let z : _≡_ {A = ℕ} 0 1 = cc in absurd (omega arith)
+output-only false d w y h = let z : _≡_ {A = ℕ} 0 1 = cc in absurd (omega arith)
+
+abort-only : (b d : Bool) (w : ℕ) (y : Position) {x : Position} → cond b (cond d (Output w y) (Next y)) (Abort y) ≡ Abort x → (b ≡ false) × (y ≡ x)
+abort-only true true w y h = let z : _≡_ {A = ℕ} 0 1 = cc in absurd (omega arith)
+abort-only true false w y h = let z : _≡_ {A = ℕ} 0 1 = cc in absurd (omega arith)
+abort-only false d w y h = (refl, cc)
+
+-- only the second check's reveal releases
+release-second : (r : Round) → releases r ≡ true → r ≡ RevealOutput
+unfolding releases
+release-second Input e = false-no e
+release-second Multiply e = false-no e
+release-second CommitOpened e = false-no e
+release-second RevealOpened e = false-no e
+release-second OpenOutput e = false-no e
+release-second CommitOutput e = false-no e
+release-second RevealOutput e = refl
+
+module _ (O : Ops) (P : Party) (l : List ℕ) (at : Position) where
+  open Ops O using (size)
+
+  -- "14 (a finished or stopped place has neither)": where 1 to 13 accept such a position, 14 refuses both halves
+  module _ (ended : Ended (at .stage)) (ok : (askLent size P l then ask 13 0 (occurs size (P .circuit) at)) ≡ Accepted) where
+    half : (v : Verdict) → (askLent size P l then ask 13 0 (occurs size (P .circuit) at) then v) ≡ v
+    half v = half-decides size P l at v (then-left _ _ ok) (ask-true 13 0 _ (then-right (askLent size P l) _ ok))
+
+    pub ended-send-refused : (coefficients : List ℕ) (room : ℕ) → sendAnswer O P l at coefficients room ≡ Refusal 14 0
+    unfolding sendAnswer askSend
+    ended-send-refused coefficients room = sym (refused-answer _ (half _ ∙ ended-sending ended _ _))
+
+    pub ended-receive-refused : (heard : List ℕ) → receiveAnswer O P l at heard ≡ Refusal 14 0
+    unfolding receiveAnswer askReceive
+    ended-receive-refused heard = sym (refused-answer _ (half _ ∙ ended-receiving ended _ _))
+
+  module _ (heard : List ℕ) where
+    -- the sum of the revealed words
+    abbrev pub revealed : ℕ
+    revealed = heardSum O (P .parties) checkWords 0 heard
+
+    -- where the position goes from round r
+    abbrev goesTo : Round → Position
+    goesTo r = nextPosition O P (at .gate) (at .held) heard r
+
+    -- "Passing the second check releases the sum as the score": no question refuses, the round is the second reveal of the position's gate,
+    -- its words sum to zero, v is the number at opened index 0, and x is the position that follows the gate
+    pub record Releases (v : ℕ) (x : Position) : Type 0 where
+      pub accepts : askReceive size P l at heard ≡ Accepted
+      pub second-reveal : at .stage ≡ Receive RevealOutput
+      pub zero-sum : revealed ≡ 0
+      pub output : v ≡ read (layout (P .circuit)) l (Value 0)
+      pub position : x ≡ holding (follow (P .circuit) (at .gate) RevealOutput) 0
+
+    -- "else the run is stopped": no question refuses, the round is a reveal, its words do not sum to zero, and x is stopped at the
+    -- position's gate
+    pub record Stops (x : Position) : Type 0 where
+      pub accepts : askReceive size P l at heard ≡ Accepted
+      pub round : Round
+      pub receives : at .stage ≡ Receive round
+      pub reveals : isReveal round ≡ true
+      pub nonzero : revealed ≡ 0 → ⊥
+      pub position : x ≡ record { gate = at .gate; stage = Aborted; held = 0 }
+
+    -- an accepted receiving of a round has the round's outcome
+    receives-outcome : askReceive size P l at heard ≡ Accepted → (r : Round) → at .stage ≡ Receive r
+        → receiveAnswer O P l at heard ≡ outcome O P l (at .gate) (at .held) heard r
+    unfolding receiveAnswer
+    receives-outcome ok r e = sym (accepted-answer _ ok) ∙ receiving-at (at .stage) r e _ _
+
+    -- an answer that is no refusal is the outcome of a round
+    outcome-of : {a : Answer} → receiveAnswer O P l at heard ≡ a → ((number index : ℕ) → a ≡ Refusal number index → ⊥)
+        → (r : Round) × (at .stage ≡ Receive r) × (askReceive size P l at heard ≡ Accepted) × (outcome O P l (at .gate) (at .held) heard r ≡ a)
+    unfolding receiveAnswer askReceive
+    outcome-of h some =
+        let (ok, is) = answered _ _ _ h some in
+        let (r, e) = receives-at (at .stage) _ (then-right _ _ (then-right _ _ ok)) in
+        (r, e, ok, sym (receives-outcome ok r e) ∙ h)
+
+    -- the position after a second check that passes, and after a round that does not
+    goes-on : passes O (P .parties) RevealOutput heard ≡ true → goesTo RevealOutput ≡ holding (follow (P .circuit) (at .gate) RevealOutput) 0
+    unfolding nextPosition next keep isCommit
+    goes-on e = rw e
+
+    goes-nowhere : (r : Round) → passes O (P .parties) r heard ≡ false → goesTo r ≡ record { gate = at .gate; stage = Aborted; held = 0 }
+    unfolding nextPosition next keep holding aborted
+    goes-nowhere r e = rw (e, ← aborted-holds (P .circuit) O (P .parties) (at .gate) heard r e)
+
+    -- "no score is released before its own check"
+    pub output-exactly : (v : ℕ) (x : Position) → (receiveAnswer O P l at heard ≡ Output v x) ↔ Releases v x
+    unfolding outcome releases isReveal
+    output-exactly v x = (there, back)
+      where
+        there : receiveAnswer O P l at heard ≡ Output v x → Releases v x
+        there h =
+            let (r, e, ok, is) = outcome-of h (λ number index q. let z : _≡_ {A = ℕ} 0 1 = cc in omega arith) in
+            let (passed, released, v-is, x-is) = output-only (passes O (P .parties) r heard) (releases r) _ _ is in
+            let second = release-second r released in
+            let p : passes O (P .parties) RevealOutput heard ≡ true = ap (λ (r : Round). passes O (P .parties) r heard) (sym second) ∙ passed in
+            record {
+              accepts = ok;
+              second-reveal = e ∙ ap Receive second;
+              zero-sum = zero-passed O (P .parties) heard RevealOutput refl p;
+              output = sym v-is;
+              position = sym x-is ∙ ap goesTo second ∙ goes-on p;
+            }
+
+        back : Releases v x → receiveAnswer O P l at heard ≡ Output v x
+        back h =
+            let p = passes-zero O (P .parties) heard RevealOutput refl refl (h .zero-sum) in
+            receives-outcome (h .accepts) RevealOutput (h .second-reveal)
+            ∙ rw (p, goes-on p, h .output, h .position)
+
+    -- "A check stops a run exactly if the revealed words do not sum to zero"
+    pub abort-exactly : (x : Position) → (receiveAnswer O P l at heard ≡ Abort x) ↔ Stops x
+    unfolding outcome
+    abort-exactly x = (there, back)
+      where
+        there : receiveAnswer O P l at heard ≡ Abort x → Stops x
+        there h =
+            let (r, e, ok, is) = outcome-of h (λ number index q. let z : _≡_ {A = ℕ} 0 1 = cc in omega arith) in
+            let (failed, x-is) = abort-only (passes O (P .parties) r heard) (releases r) _ _ is in
+            let (reveals, nonzero) = nonzero-stopped O (P .parties) heard r failed in
+            record {
+              accepts = ok;
+              round = r;
+              receives = e;
+              reveals = reveals;
+              nonzero = nonzero;
+              position = sym x-is ∙ goes-nowhere r failed;
+            }
+
+        back : Stops x → receiveAnswer O P l at heard ≡ Abort x
+        back h =
+            let f = passes-not O (P .parties) heard (h .round) (h .reveals) refl (h .nonzero) in
+            receives-outcome (h .accepts) (h .round) (h .receives) ∙ rw (f, goes-nowhere (h .round) f, h .position)
+
+-- The same at the operations of the prime, which the entries' contracts cite.
 module _ (P : Party) (l : List ℕ) (at : Position) where
-  no-sending : Ended (at .stage) → (coefficients : List ℕ) (room : ℕ) → askSend p P l at coefficients room ≡ Accepted → ⊥
-  unfolding askSend
-  no-sending e coefficients room h = not-sending e _ (then-right _ _ (then-right _ _ h))
+  pub ended-send-refused-prime : Ended (at .stage) → (askLent (prime .size) P l then ask 13 0 (occurs (prime .size) (P .circuit) at)) ≡ Accepted
+      → (coefficients : List ℕ) (room : ℕ) → sendAnswer prime P l at coefficients room ≡ Refusal 14 0
+  ended-send-refused-prime = ended-send-refused prime P l at
 
-  no-receiving : Ended (at .stage) → (heard : List ℕ) → askReceive p P l at heard ≡ Accepted → ⊥
-  unfolding askReceive
-  no-receiving e heard h = not-receiving e _ (then-right _ _ (then-right _ _ h))
+  pub ended-receive-refused-prime : Ended (at .stage) → (askLent (prime .size) P l then ask 13 0 (occurs (prime .size) (P .circuit) at)) ≡ Accepted
+      → (heard : List ℕ) → receiveAnswer prime P l at heard ≡ Refusal 14 0
+  ended-receive-refused-prime = ended-receive-refused prime P l at
 
-  -- "Letting a run go on after a stop": both halves refuse a finished or stopped position
-  pub ended-send-refused : Ended (at .stage) → (coefficients : List ℕ) (room : ℕ) → Refuses (sendAnswer prime P l at coefficients room)
-  unfolding sendAnswer
-  ended-send-refused e coefficients room = refuses (askSend p P l at coefficients room) _ (no-sending e coefficients room)
+  pub output-exactly-prime : (heard : List ℕ) (v : ℕ) (x : Position) → (receiveAnswer prime P l at heard ≡ Output v x) ↔ Releases prime P l at heard v x
+  output-exactly-prime = output-exactly prime P l at
 
-  pub ended-receive-refused : Ended (at .stage) → (heard : List ℕ) → Refuses (receiveAnswer prime P l at heard)
-  unfolding receiveAnswer
-  ended-receive-refused e heard = refuses (askReceive p P l at heard) _ (no-receiving e heard)
-
--- what receiving round r of gate j leads to
-module _ (P : Party) (l : List ℕ) (j held : ℕ) (heard : List ℕ) (r : Round) where
-  -- the sum of the revealed words
-  abbrev pub revealed : ℕ
-  revealed = heardSum prime (P .parties) checkWords 0 heard
-
-  -- "A check stops a run exactly if the revealed words do not sum to zero"
-  pub stops-if : isReveal r ≡ true → (revealed ≡ 0 → ⊥) → outcome prime P l j held heard r ≡ Abort (nextPosition prime P j held heard r)
-  unfolding outcome passes
-  stops-if e n = rw (e, ne-eqb revealed 0 n)
-
-  pub stops-only-if : {x : Position} → outcome prime P l j held heard r ≡ Abort x → (isReveal r ≡ true) × (revealed ≡ 0 → ⊥)
-  unfolding outcome passes
-  stops-only-if {x} h = go (isReveal r) (eqb revealed 0) refl refl h
-    where
-      a : Answer
-      a = cond (releases r) (Output (read (layout (P .circuit)) l (Value 0)) (nextPosition prime P j held heard r)) (Next (nextPosition prime P j held heard r))
-
-      lives : (b : Bool) (v : ℕ) (y : Position) → cond b (Output v y) (Next y) ≡ Abort x → ⊥
-      lives true v y h = let z : _≡_ {A = ℕ} 0 1 = cc in omega arith
-      lives false v y h = let z : _≡_ {A = ℕ} 0 1 = cc in omega arith
-
-      go : (b z : Bool) → isReveal r ≡ b → eqb revealed 0 ≡ z → cond (cond b z true) a (Abort (nextPosition prime P j held heard r)) ≡ Abort x → (isReveal r ≡ true) × (revealed ≡ 0 → ⊥)
-      go true true e f h = absurd (lives (releases r) _ _ h)
-      go true false e f h = (e, eqb-false revealed 0 f)
-      go false true e f h = absurd (lives (releases r) _ _ h)
-      go false false e f h = absurd (lives (releases r) _ _ h)
-
-  -- "no score is released before its own check": only the second check's reveal releases, only where it passes, and what it releases is the value it checked
-  pub releases-only : {v : ℕ} {x : Position} → outcome prime P l j held heard r ≡ Output v x
-      → (r ≡ RevealOutput) × (revealed ≡ 0) × (v ≡ read (layout (P .circuit)) l (Value 0))
-  unfolding outcome passes
-  releases-only {v} {x} h = go r (eqb revealed 0) refl h
-    where
-      w : ℕ
-      w = read (layout (P .circuit)) l (Value 0)
-
-      y : Round → Position
-      y s = nextPosition prime P j held heard s
-
-      never : {A : Type 0} (b : Bool) (s : Round) → cond b (Next (y s)) (Abort (y s)) ≡ Output v x → A
-      never true s h = let z : _≡_ {A = ℕ} 0 1 = cc in absurd (omega arith)
-      never false s h = let z : _≡_ {A = ℕ} 0 1 = cc in absurd (omega arith)
-
-      go : (s : Round) (z : Bool) → eqb revealed 0 ≡ z → cond (cond (isReveal s) z true) (cond (releases s) (Output w (y s)) (Next (y s))) (Abort (y s)) ≡ Output v x
-          → (s ≡ RevealOutput) × (revealed ≡ 0) × (v ≡ w)
-      go Input z f h = never true Input (unfold isReveal releases in h)
-      go Multiply z f h = never true Multiply (unfold isReveal releases in h)
-      go CommitOpened z f h = never true CommitOpened (unfold isReveal releases in h)
-      go RevealOpened z f h = never z RevealOpened (unfold isReveal releases in h)
-      go OpenOutput z f h = never true OpenOutput (unfold isReveal releases in h)
-      go CommitOutput z f h = never true CommitOutput (unfold isReveal releases in h)
-      go RevealOutput true f h = let k : Output w (y RevealOutput) ≡ Output v x = unfold isReveal releases in h in (refl, eqb-true revealed 0 f, cc)
-      go RevealOutput false f h = let k : Abort (y RevealOutput) ≡ Output v x = unfold isReveal releases in h in let z : _≡_ {A = ℕ} 0 1 = cc in absurd (omega arith)
+  pub abort-exactly-prime : (heard : List ℕ) (x : Position) → (receiveAnswer prime P l at heard ≡ Abort x) ↔ Stops prime P l at heard x
+  abort-exactly-prime = abort-exactly prime P l at

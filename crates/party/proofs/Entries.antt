@@ -20,7 +20,7 @@ use Rattle.party.specs.Entry.{Answer, Refusal, Next, Output, Abort, answ
 use Rattle.party.specs.Code.{leadsBy, leadsTo}
 
 -- a refusal is the answer, and nothing is written
-refused-answer : {v : Verdict} {number index : ℕ} (a : Answer) → v ≡ Refused number index → Refusal number index ≡ answer v a
+pub refused-answer : {v : Verdict} {number index : ℕ} (a : Answer) → v ≡ Refused number index → Refusal number index ≡ answer v a
 unfolding answer
 refused-answer a e = rw e
 
@@ -28,7 +28,7 @@ refused-leaves : {v : Verdict} {number index : ℕ} (later before : List ℕ) �
 unfolding leave
 refused-leaves later before e = rw e
 
-accepted-answer : {v : Verdict} (a : Answer) → v ≡ Accepted → a ≡ answer v a
+pub accepted-answer : {v : Verdict} (a : Answer) → v ≡ Accepted → a ≡ answer v a
 unfolding answer
 accepted-answer a e = rw e
 
@@ -47,7 +47,7 @@ receiving-at s r e other f = rw e
 
 -- the three parts of a call's questions: those of all that is lent, the position, and those of its half
 module _ (q : ℕ) (P : Party) (l : List ℕ) (at : Position) (half : Verdict) where
-  abbrev asked : Verdict
+  abbrev pub asked : Verdict
   asked = askLent q P l then ask 13 0 (occurs q (P .circuit) at) then half
 
   lent-refuses : {number index : ℕ} → askLent q P l ≡ Refused number index → asked ≡ Refused number index
@@ -59,7 +59,7 @@ module _ (q : ℕ) (P : Party) (l : List ℕ) (at : Position) (half : Verdict) w
     unfolding _then_ ask
     place-refuses f = rw (e, f)
 
-    half-decides : occurs q (P .circuit) at ≡ true → asked ≡ half
+    pub half-decides : occurs q (P .circuit) at ≡ true → asked ≡ half
     unfolding _then_ ask
     half-decides f = rw (e, f)
 

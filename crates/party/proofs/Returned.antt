@@ -9,7 +9,7 @@ use lib.Dec.{ltb, eqb}
 use borrow.Author.Tests.{ltb-true, lt-ltb, eq-eqb}
 use Rattle.field.specs.Prime.{p, prime}
 use Rattle.field.specs.Prime.Laws.{sub-lt}
-use Rattle.circuit.specs.Verdict.{Verdict, Accepted, Refused, ask, _then_}
+use Rattle.circuit.specs.Verdict.{Verdict, Accepted, Refused, _then_}
 use Rattle.circuit.specs.Gate.{gates}
 use Rattle.circuit.specs.Round.{Round, isCommit, rounds, among}
 use Rattle.circuit.proofs.Tests.{by-cases, both-right}
@@ -18,12 +18,14 @@ use Rattle.steps.specs.Scratch.{layout, read, Value}
 use Rattle.steps.specs.Position.{Position, Stage, Send, Receive, Finished, Aborted, holding, keep, occurs, stageOccurs, mayHold, whenSending, whenReceiving}
 use Rattle.steps.specs.Party.{Party}
 use Rattle.steps.specs.Send.{checkShare, holds}
-use Rattle.steps.specs.Receive.{next, passes}
+use Rattle.steps.specs.Receive.{passes}
 use Rattle.party.specs.Ask.{askSend, askReceive}
 use Rattle.party.specs.Entry.{Answer, Refusal, Next, Output, Abort, answer, releases, sendAnswer, receiveAnswer, nextPosition, outcome}
 use Rattle.steps.proofs.Following.{next-possible, next-holds}
 use Rattle.party.proofs.Occurring.{held-some, held-none}
 use Rattle.party.proofs.Accepted.{gate-occurs, stage-occurs}
+use Rattle.party.proofs.Entries.{sending-at, receiving-at}
+use Rattle.party.proofs.Answers.{answered, receives-at}
 
 -- a position can occur where its gate and its stage do, and its check share is an element where one is held and else 0
 can-occur : (q : ℕ) (c : List ℕ) (at : Position) → at .gate < gates c → stageOccurs c (at .gate) (at .stage) ≡ true
@@ -37,12 +39,6 @@ can-occur q c at l s some none =
 held-low : (q : ℕ) (c : List ℕ) (at : Position) → occurs q c at ≡ true → mayHold (at .stage) ≡ true → at .held < q
 unfolding occurs
 held-low q c at e m = ltb-true _ _ (subst (λ (b : Bool). cond b (ltb (at .held) q) (eqb (at .held) 0) ≡ true) m (both-right (ltb (at .gate) (gates c) && stageOccurs c (at .gate) (at .stage)) _ e))
-
--- an answer with a position is that of an accepted call
-accepted-answer : (v : Verdict) (a b : Answer) → answer v a ≡ b → ((number index : ℕ) → b ≡ Refusal number index → ⊥) → (v ≡ Accepted) × (a ≡ b)
-unfolding answer
-accepted-answer Accepted a b e f = (refl, e)
-accepted-answer (Refused number index) a b e f = absurd (f number index (sym e))
 
 not-refusal : (x : Position) (number index : ℕ) → Next x ≡ Refusal number index → ⊥
 not-refusal x number index e = let z : _≡_ {A = ℕ} 0 1 = cc in omega arith
@@ -81,17 +77,13 @@ module _ (P : Party) (l : List ℕ) (at : Position) where
   sends-at Finished f e = refused-no e
   sends-at Aborted f e = refused-no e
 
-  sent-at : (r : Round) → at .stage ≡ Send r → {A : Type 0} (other : A) (f : Round → A) → whenSending (at .stage) other f ≡ f r
-  unfolding whenSending
-  sent-at r e other f = rw e
-
   pub sent-position-occurs : (coefficients : List ℕ) (room : ℕ) {x : Position} → sendAnswer prime P l at coefficients room ≡ Next x → occurs p (P .circuit) x ≡ true
   unfolding sendAnswer askSend
   sent-position-occurs coefficients room {x} e =
-      let (ok, is) = accepted-answer _ _ _ e (not-refusal x) in
+      let (ok, is) = answered _ _ _ e (not-refusal x) in
       let here : occurs p (P .circuit) at ≡ true = ask-true 13 0 _ (then-left _ _ (then-right _ _ ok)) in
       let (r, sends) = sends-at (at .stage) _ (then-right _ _ (then-right _ _ ok)) in
-      let next-is = sym (sent-at r sends at _) ∙ next-of is in
+      let next-is = sym (sending-at (at .stage) r sends at _) ∙ next-of is in
       subst (λ (y : Position). occurs p (P .circuit) y ≡ true) next-is
       (can-occur p (P .circuit) _ (gate-occurs p (P .circuit) at here)
       (occurs-too r sends (stage-occurs p (P .circuit) at here)) (λ m. holds-low r coefficients) (λ m. holds-none r coefficients (unfold mayHold in m)))
@@ -101,18 +93,6 @@ module _ (P : Party) (l : List ℕ) (at : Position) where
 
       occurs-too : (r : Round) → at .stage ≡ Send r → stageOccurs (P .circuit) (at .gate) (at .stage) ≡ true → stageOccurs (P .circuit) (at .gate) (Receive r) ≡ true
       occurs-too r e h = unfold stageOccurs in (rw e at h)
-
-  -- the half of an accepted receiving
-  receives-at : (s : Stage) (f : Round → Verdict) → whenReceiving s (Refused 14 0) f ≡ Accepted → (r : Round) × (s ≡ Receive r)
-  unfolding whenReceiving
-  receives-at (Send r) f e = refused-no e
-  receives-at (Receive r) f e = (r, refl)
-  receives-at Finished f e = refused-no e
-  receives-at Aborted f e = refused-no e
-
-  received-at : (r : Round) → at .stage ≡ Receive r → {A : Type 0} (other : A) (f : Round → A) → whenReceiving (at .stage) other f ≡ f r
-  unfolding whenReceiving
-  received-at r e other f = rw e
 
   -- the position that follows a round of the circuit
   next-occurs : (heard : List ℕ) (r : Round) → occurs p (P .circuit) at ≡ true → at .stage ≡ Receive r → occurs p (P .circuit) (nextPosition prime P (at .gate) (at .held) heard r) ≡ true
@@ -147,5 +127,5 @@ module _ (P : Party) (l : List ℕ) (at : Position) where
           let parts = then-right _ _ e in
           let here : occurs p (P .circuit) at ≡ true = ask-true 13 0 _ (then-left _ _ parts) in
           let (r, is) = receives-at (at .stage) _ (then-right _ _ parts) in
-          at-round r is here (subst (Yields x) (received-at r is (Next at) (outcome prime P l (at .gate) (at .held) heard)) y)
+          at-round r is here (subst (Yields x) (receiving-at (at .stage) r is (Next at) (outcome prime P l (at .gate) (at .held) heard)) y)
       go (Refused number index) e y = absurd y

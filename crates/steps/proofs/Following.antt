@@ -6,7 +6,7 @@ use mathlib.Core.Bool.{Bool, true, false, cond, not}
 use mathlib.Core.List.{List}
 use native.Mathlib.Omega.{arith}
 use lib.Dec.{eqb, ltb}
-use borrow.Author.Tests.{ltb-true, lt-ltb, le-ltb, eq-eqb, ne-eqb}
+use borrow.Author.Tests.{ltb-true, lt-ltb, le-ltb, eqb-true, eq-eqb, ne-eqb}
 use Rattle.field.specs.Ops.{Ops}
 use Rattle.circuit.specs.Gate.{Gate, In, Add, Sub, Plus, Times, Mul, Out, kind, gate, gates}
 use Rattle.circuit.specs.Kind.{shape, hasValue, isLinear, isIn, isMul, isOut}
@@ -79,6 +79,15 @@ module _ (O : Ops) (n : ℕ) (heard : List ℕ) where
   pub passes-other : (r : Round) → isReveal r ≡ false → passes O n r heard ≡ true
   unfolding passes
   passes-other r e = rw e
+
+  -- so a reveal that passes has a zero sum, and a round that does not pass is a reveal whose sum is not zero
+  pub zero-passed : (r : Round) → isReveal r ≡ true → passes O n r heard ≡ true → heardSum O n checkWords 0 heard ≡ 0
+  unfolding passes
+  zero-passed r e h = eqb-true _ 0 (rw e at h)
+
+  pub nonzero-stopped : (r : Round) → passes O n r heard ≡ false → (isReveal r ≡ true) × (heardSum O n checkWords 0 heard ≡ 0 → ⊥)
+  nonzero-stopped r h =
+      by-cases (isReveal r) (λ e. (e, λ z. false-no (sym h ∙ passes-zero r e refl z))) (λ e. false-no (sym h ∙ passes-other r e))
 
 -- linear gates open nothing
 linear-unchecked : (g : Gate) (u : ℕ) → isLinear g ≡ true → uncheckedAfter g u ≡ u
@@ -246,7 +255,7 @@ module _ (c : List ℕ) where
         record { within = h; occurs = e }
 
     -- a check share is held after a commitment alone, so a commitment is followed by its reveal or by nothing
-    aborted-holds : (r : Round) → passes O n r heard ≡ false → false ≡ isCommit r
+    pub aborted-holds : (r : Round) → passes O n r heard ≡ false → false ≡ isCommit r
     unfolding passes isReveal isCommit
     aborted-holds Input z = refl
     aborted-holds Multiply z = refl
