@@ -1,34 +1,36 @@
--- A check stops a run exactly if the revealed words do not sum to zero. Where a run stands after k rounds depends on the circuit and on
--- which checks passed alone; so this holds of any preprocessing.
+-- A check stops a run exactly if the revealed words do not sum to zero, a run that no check stops takes document 01's number of rounds, and
+-- no run takes more. Where a run stands after k rounds depends on the circuit and on which checks passed alone; so this holds of any
+-- preprocessing.
 -- Assumes nothing.
-use Prim.Native.Nat.{ℕ, zero, suc, _+_, _-_, _*_, _<_}
+use Prim.Native.Nat.{ℕ, zero, suc, _+_, _-_, _*_, _<_, _≤_}
 use mathlib.Core.Path.{_≡_, refl, sym, ap, subst, _∙_}
 use mathlib.Core.Bool.{Bool, true, false, cond, _&&_}
 use mathlib.Core.List.{List, [], _++_, append-nil}
 use native.Mathlib.Omega.{arith}
-use lib.Dec.{eqb}
-use borrow.Author.Tests.{eqb-false, ne-eqb}
 use Rattle.field.specs.Ops.{Ops}
 use Rattle.field.specs.Field.{Field}
 use Rattle.field.specs.Prime.{prime}
 use Rattle.field.proofs.PrimeField.{primeField}
 use Rattle.circuit.specs.Gate.{gates}
 use Rattle.circuit.specs.Round.{Round, Input, Multiply, CommitOpened, RevealOpened, OpenOutput, CommitOutput, RevealOutput, isReveal}
-use Rattle.circuit.specs.Round.{checkWords, rounds, overRun}
+use Rattle.circuit.specs.Round.{overRun, roundCount}
 use Rattle.circuit.specs.Valid.{Valid}
 use Rattle.circuit.proofs.Valid.{valid}
 use Rattle.steps.specs.Position.{Point, Stage, Send, Receive, Finished, Aborted, finished, aborted, follow}
-use Rattle.steps.specs.Receive.{heardSum, passes, next, received}
+use Rattle.steps.specs.Receive.{passes, next, received}
 use Rattle.party.specs.Entry.{releases}
 use Rattle.joint.specs.Joint.{Joint, party}
-use Rattle.joint.specs.Run.{State, Run, begun, said, step, released, run, whole, mostRounds}
+use Rattle.joint.specs.Run.{State, Run, begun, said, step, released, still, run, whole, mostRounds}
+use Rattle.joint.specs.Formula.{roundFormula, mostRoundsOfAll}
 use Rattle.theorems.specs.Premises.{Accepts, after}
 use Rattle.theorems.specs.Abort.{Fails, StopsAt, Stops}
 use Rattle.steps.proofs.InOrder.{differ}
+use Rattle.steps.proofs.Following.{passes-not, nonzero-stopped}
 use Rattle.steps.proofs.Points.{Fits, FitsStage, spentStage, spent, goes-start, fits-follow, spent-follow, spent-le}
 use Rattle.joint.proofs.Spending.{rounds-le}
-use Rattle.theorems.proofs.Rounds.{ones}
-use Rattle.theorems.proofs.Runs.{Idle, longer, run-ended, first, last-first, first-longer, after-step, after-idle, rounds-first}
+use Rattle.theorems.proofs.Rounds.{ones, formula-is, at-most-766}
+use Rattle.theorems.proofs.Runs.{Idle, longer, run-ended, first, last-first, first-longer, first-idle, after-step, after-idle}
+use Rattle.theorems.proofs.Runs.{rounds-first, rounds-next}
 
 module _ (O : Ops) (J : Joint) (scratch : List ℕ) where
   -- the state after k rounds
@@ -45,33 +47,28 @@ module _ (O : Ops) (J : Joint) (scratch : List ℕ) where
 
   -- A check that does not pass is a failing one.
   fails : (k : ℕ) (r : Round) → state k .point .stage ≡ Send r → passed k r ≡ false → Fails O J scratch k r
-  unfolding passes
-  fails k r e h = go (isReveal r) refl h
-    where
-      sum : ℕ
-      sum = heardSum O (J .parties) checkWords 0 (said O J (state k) r)
-
-      go : (b : Bool) → isReveal r ≡ b → cond b (eqb sum 0) true ≡ false → Fails O J scratch k r
-      go true q h = record { sending = e; reveals = q; nonzero = eqb-false sum 0 h }
-      go false q h = differ refl h
+  fails k r e h =
+      let (reveals, nonzero) = nonzero-stopped O (J .parties) (said O J (state k) r) r h in
+      record { sending = e; reveals = reveals; nonzero = nonzero }
 
   -- A failing check does not pass.
   not-passed : (k : ℕ) (r : Round) → Fails O J scratch k r → passed k r ≡ false
-  unfolding passes
-  not-passed k r f = rw (f .reveals) (ne-eqb _ 0 (f .nonzero))
+  not-passed k r f = passes-not O (J .parties) (said O J (state k) r) r (f .reveals) refl (f .nonzero)
 
-  -- where a run stands after k rounds: it is going, and k rounds lie behind it; it is finished; or a check failed before
+  -- where a run stands after k rounds: it is going, and k rounds lie behind it; it is finished, and made all rounds of the circuit; or a
+  -- check failed before
   data Standing (k : ℕ) : Type 0 where
     going : (r : Round) → state k .point .stage ≡ Send r → FitsStage (J .circuit) (state k .point .gate) (Send r)
         → spent (J .circuit) ones (state k .point) ≡ k
         → Standing k
-    over : state k .point ≡ finished (J .circuit) → Standing k
+    over : state k .point ≡ finished (J .circuit) → first O J scratch k .rounds ≡ roundCount (J .circuit) → Standing k
     failed : (m : ℕ) (r : Round) → Fails O J scratch m r → state k .point .stage ≡ Aborted → Standing k
 
   -- A point that fits is one where a round is sent, or the end.
-  stands : (k : ℕ) → Fits (J .circuit) (state k .point) → spent (J .circuit) ones (state k .point) ≡ k → Standing k
-  unfolding finished
-  stands k f s = go (state k .point .stage) refl
+  stands : (k : ℕ) → Fits (J .circuit) (state k .point) → spent (J .circuit) ones (state k .point) ≡ k → first O J scratch k .rounds ≡ k
+      → Standing k
+  unfolding finished roundCount spentStage
+  stands k f s made = go (state k .point .stage) refl
     where
       fits : (g : Stage) → state k .point .stage ≡ g → FitsStage (J .circuit) (state k .point .gate) g
       fits g e = subst (FitsStage (J .circuit) (state k .point .gate)) e f
@@ -79,7 +76,9 @@ module _ (O : Ops) (J : Joint) (scratch : List ℕ) where
       go : (g : Stage) → state k .point .stage ≡ g → Standing k
       go (Send r) e = going r e (fits (Send r) e) s
       go (Receive r) e = absurd (fits (Receive r) e)
-      go Finished e = over (λ i. record { gate = fits Finished e i; stage = e i })
+      go Finished e =
+          over (λ i. record { gate = fits Finished e i; stage = e i })
+          (made ∙ sym s ∙ ap (spentStage (J .circuit) ones (state k .point .gate)) e)
       go Aborted e = absurd (fits Aborted e)
 
   -- The point after a round that passes ..
@@ -107,6 +106,7 @@ module _ (O : Ops) (J : Joint) (scratch : List ℕ) where
       go true h =
           stands (suc k) (rw (after-passed k r e h) (fits-follow (J .circuit) (state k .point .gate) r f))
           (rw (after-passed k r e h) (omega (arith, spent-follow (J .circuit) ones (state k .point .gate) r f, behind)))
+          (rounds-next O J scratch k r e)
       go false h = failed k r (fails k r e h) (ap (λ (p : Point). p .stage) (after-failed k r e h) ∙ (unfold aborted in refl))
 
   -- Where nothing is sent a run stands as it stood.
@@ -120,36 +120,66 @@ module _ (O : Ops) (J : Joint) (scratch : List ℕ) where
   module _ {n q : ℕ} (ok : Valid n q (J .circuit)) where
     -- Where a run stands after any number of rounds.
     standing : (k : ℕ) → Standing k
-    unfolding after begun overRun
-    standing zero = stands 0 (goes-start (J .circuit) ok .fits) (goes-start (J .circuit) ok .spent-is ones)
+    unfolding after begun overRun run still
+    standing zero = stands 0 (goes-start (J .circuit) ok .fits) (goes-start (J .circuit) ok .spent-is ones) refl
     standing (suc k) = go (standing k)
       where
         go : Standing k → Standing (suc k)
         go (going r e f s) = standing-step k r e f s
-        go (over e) = over (resting k (idle-finished e) ∙ e)
+        go (over e n) = over (resting k (idle-finished e) ∙ e) (ap (λ (R : Run). R .rounds) (first-idle O J scratch k (idle-finished e)) ∙ n)
         go (failed m r f e) = failed m r f (ap (λ (p : Point). p .stage) (resting k (subst Idle (sym e) tt)) ∙ e)
 
-    -- A run that is still going has rounds left.
-    rounds-left : (k : ℕ) (r : Round) → state k .point .stage ≡ Send r → k < allowed
-    rounds-left k r e = go (standing k)
+    -- A round that is sent after k rounds is one of the circuit's.
+    rounds-within : (k : ℕ) (r : Round) → state k .point .stage ≡ Send r → k < roundCount (J .circuit)
+    unfolding roundCount
+    rounds-within k r e = go (standing k)
       where
-        go : Standing k → k < allowed
+        go : Standing k → k < overRun ones (J .circuit) (gates (J .circuit))
         go (going t q f s) =
             let behind : spentStage (J .circuit) ones (state k .point .gate) (Send t) ≡ k =
             ap (spentStage (J .circuit) ones (state k .point .gate)) (sym q) ∙ s in
-            omega (arith, spent-le (J .circuit) ones (state k .point .gate) t f, rounds-le (J .circuit) (gates (J .circuit)))
-        go (over q) = absurd (subst Idle e (idle-finished q))
+            omega (arith, spent-le (J .circuit) ones (state k .point .gate) t f)
+        go (over q n) = absurd (subst Idle e (idle-finished q))
         go (failed m t f q) = absurd (subst Idle (sym q ∙ e) tt)
+
+    -- So a run that is still going has rounds left.
+    rounds-left : (k : ℕ) (r : Round) → state k .point .stage ≡ Send r → k < allowed
+    unfolding roundCount
+    rounds-left k r e = omega (arith, rounds-within k r e, rounds-le (J .circuit) (gates (J .circuit)))
+
+    -- After all rounds that it is given a run is finished, or a check failed.
+    data Ending : Type 0 where
+      completes : state allowed .point ≡ finished (J .circuit) → first O J scratch allowed .rounds ≡ roundCount (J .circuit) → Ending
+      stops : (m : ℕ) (r : Round) → Fails O J scratch m r → state allowed .point .stage ≡ Aborted → Ending
+
+    ending : Ending
+    ending = go (standing allowed)
+      where
+        go : Standing allowed → Ending
+        go (going r e f s) = absurd (omega (arith, rounds-left allowed r e))
+        go (over e n) = completes e n
+        go (failed m r f e) = stops m r f e
 
     -- A run without a failing check finishes.
     finishing : ((k : ℕ) (r : Round) → Fails O J scratch k r → ⊥) → whole O J scratch .last .point ≡ finished (J .circuit)
     unfolding whole
-    finishing none = ap (λ (s : State). s .point) (last-first O J scratch allowed) ∙ go (standing allowed)
+    finishing none = ap (λ (s : State). s .point) (last-first O J scratch allowed) ∙ go ending
       where
-        go : Standing allowed → state allowed .point ≡ finished (J .circuit)
-        go (going r e f s) = absurd (omega (arith, rounds-left allowed r e))
-        go (over e) = e
-        go (failed m r f e) = absurd (none m r f)
+        go : Ending → state allowed .point ≡ finished (J .circuit)
+        go (completes e n) = e
+        go (stops m r f e) = absurd (none m r f)
+
+    -- A run that finishes made all rounds of the circuit.
+    rounds-finished : whole O J scratch .last .point ≡ finished (J .circuit) → whole O J scratch .rounds ≡ roundCount (J .circuit)
+    unfolding whole finished
+    rounds-finished h = go ending
+      where
+        go : Ending → first O J scratch allowed .rounds ≡ roundCount (J .circuit)
+        go (completes e n) = n
+        go (stops m r f e) =
+            let g : Aborted ≡ Finished = sym e ∙ ap (λ (s : State). s .point .stage) (sym (last-first O J scratch allowed)) ∙ ap (λ (p : Point). p .stage) h in
+            let z : _≡_ {A = ℕ} 0 1 = cc in
+            absurd (omega arith)
 
     module _ (k : ℕ) (r : Round) (f : Fails O J scratch k r) where
       -- The failing check is the last round of the run.
@@ -222,6 +252,15 @@ module _ (O : Ops) (J : Joint) (scratch : List ℕ) where
             transcript = last-said;
           }
 
+    -- No run makes more rounds than the circuit has.
+    rounds-most : whole O J scratch .rounds ≤ roundCount (J .circuit)
+    unfolding whole
+    rounds-most = go ending
+      where
+        go : Ending → first O J scratch allowed .rounds ≤ roundCount (J .circuit)
+        go (completes e n) = omega (arith, n)
+        go (stops m r f e) = omega (arith, stops-at m r f .rounds, rounds-within m r (f .sending))
+
 -- A failing check stops the run, and nothing else does.
 pub aborts : {O : Ops} (F : Field O) (J : Joint) (scratch : List ℕ) → Accepts O (J .parties) (J .circuit) → Stops O J scratch
 aborts {O} F J scratch accepts =
@@ -231,3 +270,33 @@ aborts {O} F J scratch accepts =
 -- The same at the operations of the prime.
 pub aborts-prime : (J : Joint) (scratch : List ℕ) → Accepts prime (J .parties) (J .circuit) → Stops prime J scratch
 aborts-prime = aborts primeField
+
+-- The rounds of a run of an accepted circuit, on any preprocessing, inputs, coefficients and scratch.
+module _ (O : Ops) (J : Joint) (scratch : List ℕ) (accepts : Accepts O (J .parties) (J .circuit)) where
+  ok : Valid (J .parties) (O .size) (J .circuit)
+  ok = valid (J .parties) (O .size) (J .circuit) (accepts .circuit)
+
+  -- "A run takes I + M + 5 × outs − 2 × (outs with nothing unchecked) rounds": a run that finishes ..
+  pub finished-rounds : whole O J scratch .last .point ≡ finished (J .circuit) → whole O J scratch .rounds ≡ roundFormula (J .circuit)
+  finished-rounds h = rounds-finished O J scratch ok h ∙ sym (formula-is (J .circuit))
+
+  -- .. which is a run in which no check fails.
+  pub passed-rounds : ((k : ℕ) (r : Round) → Fails O J scratch k r → ⊥) → whole O J scratch .rounds ≡ roundFormula (J .circuit)
+  passed-rounds none = finished-rounds (finishing O J scratch ok none)
+
+  -- A run that a check stops takes no more, and so "at most 766".
+  pub most-rounds : (whole O J scratch .rounds ≤ roundFormula (J .circuit)) × (whole O J scratch .rounds ≤ mostRoundsOfAll)
+  most-rounds =
+      let few : whole O J scratch .rounds ≤ roundFormula (J .circuit) = rw formula-is (rounds-most O J scratch ok) in
+      (few, omega (arith, at-most-766 ok))
+
+-- The same at the operations of the prime.
+module _ (J : Joint) (scratch : List ℕ) (accepts : Accepts prime (J .parties) (J .circuit)) where
+  pub finished-rounds-prime : whole prime J scratch .last .point ≡ finished (J .circuit) → whole prime J scratch .rounds ≡ roundFormula (J .circuit)
+  finished-rounds-prime = finished-rounds prime J scratch accepts
+
+  pub passed-rounds-prime : ((k : ℕ) (r : Round) → Fails prime J scratch k r → ⊥) → whole prime J scratch .rounds ≡ roundFormula (J .circuit)
+  passed-rounds-prime = passed-rounds prime J scratch accepts
+
+  pub most-rounds-prime : (whole prime J scratch .rounds ≤ roundFormula (J .circuit)) × (whole prime J scratch .rounds ≤ mostRoundsOfAll)
+  most-rounds-prime = most-rounds prime J scratch accepts

@@ -16,7 +16,7 @@ use Rattle.circuit.specs.Gate.{Gate, In, Add, Sub, Plus, Times, Mul, Out, gate,
 use Rattle.circuit.specs.Kind.{hasValue, isLinear}
 use Rattle.circuit.specs.Count.{unchecked}
 use Rattle.circuit.specs.Round.{Round, Input, Multiply, CommitOpened, RevealOpened, OpenOutput, CommitOutput, RevealOutput, rounds}
-use Rattle.circuit.specs.Round.{following, words, openedIn, overRun, roundCount, wordCount}
+use Rattle.circuit.specs.Round.{following, words, openedIn, overRun, wordCount}
 use Rattle.steps.specs.Part.{Part}
 use Rattle.steps.specs.Scratch.{layout, wire, read, Value, ValueMac}
 use Rattle.steps.specs.Position.{Point, Stage, Send, Receive, Finished, Aborted, finished, follow, whenSending}
@@ -26,7 +26,6 @@ use Rattle.joint.specs.Joint.{Joint, party}
 use Rattle.joint.specs.Run.{State, Run, begun, said, released, still, run, whole, mostRounds}
 use Rattle.joint.specs.Plain.{value, scoreOf, scores}
 use Rattle.joint.specs.Good.{wholeKey}
-use Rattle.joint.specs.Formula.{roundFormula}
 use Rattle.theorems.specs.Premises.{Honest, after}
 use Rattle.theorems.specs.Accuracy.{Accurate, theKey, openAfter}
 use Rattle.theorems.specs.Abort.{Fails}
@@ -40,9 +39,8 @@ use Rattle.steps.proofs.Points.{follow-leaves, spent-follow}
 use Rattle.theorems.proofs.Sent.{gate-at, length-said, revealed-sum}
 use Rattle.theorems.proofs.Honest.{pending, length-pending, Inv, HoldsAt, fits-at, holds-at, checks-at, afterOut, following-input}
 use Rattle.theorems.proofs.Honest.{following-multiply, following-out, carries-pending, passing, point-step, inv-step, inv-begun}
-use Rattle.theorems.proofs.Rounds.{ones, formula-is, at-most-766}
 use Rattle.theorems.proofs.Runs.{Idle, longer, first as firstly, last-first, first-longer, first-idle, after-step, after-idle}
-use Rattle.theorems.proofs.Abort.{aborts}
+use Rattle.theorems.proofs.Abort.{aborts, finished-rounds, most-rounds}
 
 -- A linear gate has no score.
 scores-linear : (O : Ops) (J : Joint) (x : ℕ) → isLinear (gate (J .circuit) x) ≡ true → scores O J (suc x) ≡ scores O J x
@@ -249,9 +247,8 @@ module _ {O : Ops} (F : Field O) (J : Joint) (scratch : List ℕ) (honest : Hone
   abbrev wordsOf : ℕ → Round → ℕ
   wordsOf j r = words (gate (J .circuit) j) r
 
-  -- what a run of k rounds has told: as many rounds and words as lie behind the point, and the scores of the gates that are done
+  -- what a run of k rounds has told: as many words as lie behind the point, and the scores of the gates that are done
   record Told (k : ℕ) : Type 0 where
-    made : firstly O J scratch k .rounds ≡ spent (J .circuit) ones (state k .point)
     said-so-far : length (firstly O J scratch k .transcript) ≡ J .parties * spent (J .circuit) wordsOf (state k .point)
     given-out : firstly O J scratch k .outputs ≡ scores O J (done (J .circuit) (state k .point))
 
@@ -261,7 +258,6 @@ module _ {O : Ops} (F : Field O) (J : Joint) (scratch : List ℕ) (honest : Hone
   told-begun =
       let start = goes-start (J .circuit) (has .valid) in
       record {
-        made = sym (start .spent-is ones);
         said-so-far = omega (arith, ap (λ (m : ℕ). J .parties * m) (start .spent-is wordsOf));
         given-out = sym (start .done-is (scores O J) (scores-linear O J));
       }
@@ -271,13 +267,12 @@ module _ {O : Ops} (F : Field O) (J : Joint) (scratch : List ℕ) (honest : Hone
   unfolding longer doneStage
   told-step k r e t =
       record {
-        made = omega (arith, t .made, behind ones, spent-next ones, ap (λ (R : Run). R .rounds) (first-longer O J scratch k r e));
         said-so-far =
             omega (
               arith,
               t .said-so-far,
-              ap (λ (m : ℕ). J .parties * m) (behind wordsOf),
-              ap (λ (m : ℕ). J .parties * m) (spent-next wordsOf),
+              ap (λ (m : ℕ). J .parties * m) behind,
+              ap (λ (m : ℕ). J .parties * m) spent-next,
               longer-by,
             );
         given-out =
@@ -297,11 +292,11 @@ module _ {O : Ops} (F : Field O) (J : Joint) (scratch : List ℕ) (honest : Hone
       place : state (suc k) .point ≡ follow (J .circuit) at-k r
       place = ap (λ (s : State). s .point) (after-step O J scratch k r e) ∙ point-step F J has (state k) (inv-after k) r e
 
-      behind : (f : ℕ → Round → ℕ) → spent (J .circuit) f (state k .point) ≡ spent (J .circuit) f (sending at-k r)
-      behind f = ap (spentStage (J .circuit) f at-k) e
+      behind : spent (J .circuit) wordsOf (state k .point) ≡ spent (J .circuit) wordsOf (sending at-k r)
+      behind = ap (spentStage (J .circuit) wordsOf at-k) e
 
-      spent-next : (f : ℕ → Round → ℕ) → spent (J .circuit) f (state (suc k) .point) ≡ spent (J .circuit) f (sending at-k r) + f at-k r
-      spent-next f = rw place (spent-follow (J .circuit) f at-k r fits)
+      spent-next : spent (J .circuit) wordsOf (state (suc k) .point) ≡ spent (J .circuit) wordsOf (sending at-k r) + wordsOf at-k r
+      spent-next = rw place (spent-follow (J .circuit) wordsOf at-k r fits)
 
       longer-by : length (firstly O J scratch (suc k) .transcript) ≡ length (firstly O J scratch k .transcript) + J .parties * wordsOf at-k r
       longer-by =
@@ -314,7 +309,6 @@ module _ {O : Ops} (F : Field O) (J : Joint) (scratch : List ℕ) (honest : Hone
   told-idle : (k : ℕ) → Idle (state k .point .stage) → Told k → Told (suc k)
   told-idle k h t =
       record {
-        made = rw (first-idle O J scratch k h, after-idle O J scratch k h) (t .made);
         said-so-far = rw (first-idle O J scratch k h, after-idle O J scratch k h) (t .said-so-far);
         given-out = rw (first-idle O J scratch k h, after-idle O J scratch k h) (t .given-out);
       }
@@ -339,25 +333,20 @@ module _ {O : Ops} (F : Field O) (J : Joint) (scratch : List ℕ) (honest : Hone
   unfolding whole
   at-end = ap (λ (s : State). s .point) (sym (last-first O J scratch all)) ∙ finishing
 
-  -- Every round of the circuit lies behind it.
-  spent-all : (f : ℕ → Round → ℕ) → spent (J .circuit) f (state all .point) ≡ overRun f (J .circuit) (gates (J .circuit))
-  unfolding spentStage finished
-  spent-all f = ap (spent (J .circuit) f) at-end
+  -- Every word of the circuit lies behind it.
+  spent-all : spent (J .circuit) wordsOf (state all .point) ≡ wordCount (J .circuit)
+  unfolding spentStage finished wordCount
+  spent-all = ap (spent (J .circuit) wordsOf) at-end
 
-  -- The run takes the circuit's rounds ..
-  rounds-are : whole O J scratch .rounds ≡ roundFormula (J .circuit)
-  unfolding whole roundCount
-  rounds-are = told all .made ∙ spent-all ones ∙ sym (formula-is (J .circuit))
-
-  -- .. releases the scores on plain inputs ..
+  -- The run releases the scores on plain inputs ..
   outputs-are : whole O J scratch .outputs ≡ scores O J (gates (J .circuit))
   unfolding whole finished doneStage
   outputs-are = told all .given-out ∙ ap (λ (p : Point). scores O J (done (J .circuit) p)) at-end
 
   -- .. and each party sends the circuit's words.
   words-are : length (whole O J scratch .transcript) ≡ J .parties * wordCount (J .circuit)
-  unfolding whole wordCount
-  words-are = told all .said-so-far ∙ ap (λ (m : ℕ). J .parties * m) (spent-all wordsOf)
+  unfolding whole
+  words-are = told all .said-so-far ∙ ap (λ (m : ℕ). J .parties * m) spent-all
 
   -- All that accuracy claims.
   accurate-run : Accurate O J scratch
@@ -369,8 +358,8 @@ module _ {O : Ops} (F : Field O) (J : Joint) (scratch : List ℕ) (honest : Hone
         opened-macs = opened-macs-are;
         finishes = finishing;
         outputs = outputs-are;
-        rounds = rounds-are;
-        at-most = rw rounds-are (at-most-766 (has .valid));
+        rounds = finished-rounds O J scratch (honest .accepts) finishing;
+        at-most = most-rounds O J scratch (honest .accepts) .1;
         words = words-are;
       }
 

@@ -1,5 +1,5 @@
 -- How many rounds a run takes: document 01's formula is the number of rounds of the circuit, it is at most 766, and 766 is reached. Likewise
--- document 01's numbers of words and of coefficients.
+-- the numbers of words and of coefficients, and the lengths of preprocessing and scratch, by the circuit's in, mul and out gates.
 -- Assumes nothing.
 use Prim.Native.Nat.{ℕ, zero, suc, _+_, _-_, _*_, _≤_}
 use mathlib.Core.Path.{_≡_, refl}
@@ -13,15 +13,15 @@ use Rattle.field.specs.Prime.{p}
 use Rattle.circuit.specs.Verdict.{Accepted}
 use Rattle.circuit.specs.Gate.{Gate, In, Add, Sub, Plus, Times, Mul, Out, gate, gates, kind}
 use Rattle.circuit.specs.Kind.{shape, hasValue, isIn, isMul, isOut}
-use Rattle.circuit.specs.Count.{total, count, inCount, outCount, unchecked, uncheckedAfter}
+use Rattle.circuit.specs.Count.{total, count, prepAt, prepSize, capacity, inCount, outCount, unchecked, uncheckedAfter}
 use Rattle.circuit.specs.Round.{Round, isCommit, outRounds, roundsOf}
 use Rattle.circuit.specs.Round.{rounds, words, openedIn, coefficientsIn, overRounds, overRun, roundCount, wordCount, coefficientCount}
 use Rattle.circuit.specs.Accept.{fewestGates, mostGates, askCircuit}
 use Rattle.circuit.specs.Valid.{Names, Valid}
+use Rattle.steps.specs.Scratch.{layout, scratchSize}
 use Rattle.joint.specs.Formula.{mulCount, bareOuts, roundFormula, mostRoundsOfAll}
 use Rattle.joint.proofs.Computing.{computing}
-use Rattle.steps.proofs.InOrder.{differ}
-use Rattle.steps.proofs.InOrder.{outs}
+use Rattle.steps.proofs.InOrder.{differ, outs}
 
 -- one for each round
 abbrev pub ones : ℕ → Round → ℕ
@@ -142,7 +142,8 @@ unfolding overRun checkedOuts count total rounds
 words-before c zero = refl
 words-before c (suc j) = omega (arith, words-before c j, words-of (unchecked c j) (gate c j))
 
--- "I + 2M + 3 outs + 2 (outs with something unchecked)": the words that a party sends in a run.
+-- The words that a party sends in a run: one for each in gate, two for each mul gate, three for each out gate, and two for each out gate with
+-- something unchecked.
 pub words-are : (c : List ℕ) → wordCount c ≡ inCount c + 2 * mulCount c + 3 * outCount c + 2 * checkedOuts c (gates c)
 unfolding wordCount inCount mulCount outCount
 words-are c = words-before c (gates c)
@@ -183,7 +184,7 @@ none-unchecked u (Times x k) e = differ e refl
 none-unchecked u (Mul x y) e = differ e refl
 none-unchecked u (Out x) e = refl
 
--- An accepted circuit ends with an out gate, so its run takes two coefficients for each mul gate and one for each out gate.
+-- An accepted circuit ends with an out gate, so its run takes "all draws in order of use, 2M + outs of them".
 pub coefficients-are : {n q : ℕ} {c : List ℕ} → Valid n q c → coefficientCount c ≡ 2 * mulCount c + outCount c
 unfolding coefficientCount mulCount outCount unchecked
 coefficients-are {n} {q} {c} ok = go (gates c) (ok .two) (ok .last)
@@ -195,6 +196,38 @@ coefficients-are {n} {q} {c} ok = go (gates c) (ok .two) (ok .last)
         → overRun (λ j r. coefficientsIn (unchecked c j) r) c m ≡ 2 * count isMul c m + count isOut c m
     go zero l h = absurd (omega arith)
     go (suc m) l h = omega (arith, coefficients-before c (suc m), none m h)
+
+-- What in and mul gates take of the preprocessing, and what mul gates open.
+shape-of : (g : Gate)
+    → (shape g .prep ≡ 3 * cond (isIn g) 1 0 + 6 * cond (isMul g) 1 0) × (shape g .openings ≡ 2 * cond (isMul g) 1 0)
+unfolding shape isIn isMul kind
+shape-of (In s) = (refl, refl)
+shape-of (Add x y) = (refl, refl)
+shape-of (Sub x y) = (refl, refl)
+shape-of (Plus x k) = (refl, refl)
+shape-of (Times x k) = (refl, refl)
+shape-of (Mul x y) = (refl, refl)
+shape-of (Out x) = (refl, refl)
+
+-- The same of the gates before j.
+shapes-before : (c : List ℕ) (j : ℕ)
+    → (total (λ g. shape g .prep) c j ≡ 3 * count isIn c j + 6 * count isMul c j) × (total (λ g. shape g .openings) c j ≡ 2 * count isMul c j)
+unfolding count total
+shapes-before c zero = (refl, refl)
+shapes-before c (suc j) =
+    let (preps, openings) = shapes-before c j in
+    let (prep, opening) = shape-of (gate c j) in
+    (omega arith, omega arith)
+
+-- "With I in lines and M mul lines, material has 1 + 3 × I + 6 × M numbers."
+pub prep-is : (c : List ℕ) → prepSize c ≡ 1 + 3 * inCount c + 6 * mulCount c
+unfolding prepSize prepAt inCount mulCount
+prep-is c = omega (arith, shapes-before c (gates c) .0)
+
+-- "Scratch is one list, L being the number of lines: L shares, L MAC shares, 2M + 1 opened values, 2M + 1 MAC shares of those."
+pub scratch-is : (c : List ℕ) → scratchSize (layout c) ≡ 2 * gates c + 2 * (2 * mulCount c + 1)
+unfolding scratchSize layout capacity mulCount
+scratch-is c = omega (arith, shapes-before c (gates c) .1)
 
 -- k times a mul gate and an out gate
 mulOuts : ℕ → List ℕ

@@ -164,3 +164,8 @@ module _ (O : Ops) (J : Joint) where
         go (Receive t) q earlier = idle (subst Idle (sym q) tt)
         go Finished q earlier = idle (subst Idle (sym q) tt)
         go Aborted q earlier = idle (subst Idle (sym q) tt)
+
+    -- .. and one more with the round that it sends next.
+    pub rounds-next : (k : ℕ) (r : Round) → after O J scratch k .point .stage ≡ Send r → first (suc k) .rounds ≡ suc k
+    unfolding longer
+    rounds-next k r e = ap (λ (R : Run). R .rounds) (first-longer k r e) ∙ ap suc (rounds-first k r e)
