@@ -19,3 +19,4 @@ pub mod SameRound
 pub mod Twins
 pub mod Secrecy
 pub mod Corollaries
+pub mod Example

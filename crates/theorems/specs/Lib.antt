@@ -4,3 +4,4 @@ pub mod Accuracy
 pub mod Abort
 pub mod Matching
 pub mod Secrecy
+pub mod Example
