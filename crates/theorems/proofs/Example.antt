@@ -88,7 +88,9 @@ same-words =
     ap (λ (m : List ℕ). wordsOn prime m inputs₂) (sym (example .match-is))
     ∙ both .words (example .first-accepted) (both .refusals refl refl ∙ example .first-accepted)
   where
-    both : Alike prime 2 circuit A (exampleRun prime preps inputs₁) (exampleRun prime (rule prime 2 circuit A inputs₁ inputs₂ preps) inputs₂) rooms blank unwritten blank unwritten
+    both : Alike prime 2 circuit A
+        (exampleRun prime preps inputs₁) (exampleRun prime (rule prime 2 circuit A inputs₁ inputs₂ preps) inputs₂)
+        rooms blank unwritten blank unwritten
     both =
         secrecy-prime 2 circuit A inputs₁ inputs₂ (example .compared) .alike preps (example .good) (docket .coefficients) rooms
         blank unwritten blank unwritten
