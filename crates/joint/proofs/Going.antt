@@ -7,6 +7,7 @@ use mathlib.Core.List.{List}
 use native.Mathlib.Omega.{arith}
 use lib.ListN.{length}
 use Rattle.field.specs.Prime.{prime}
+use Rattle.field.proofs.PrimeField.{primeField}
 use Rattle.circuit.specs.Gate.{gates}
 use Rattle.circuit.specs.Count.{unchecked}
 use Rattle.circuit.specs.Round.{Round, rounds, among, coefficientsIn}
@@ -15,7 +16,7 @@ use Rattle.steps.specs.Receive.{next, received}
 use Rattle.steps.specs.Code.{pointOf, Sited, Ready}
 use Rattle.steps.proofs.Following.{Possible, next-possible}
 use Rattle.steps.proofs.Points.{FitsStage}
-use Rattle.steps.proofs.Keeping.{received-stands, ready-next}
+use Rattle.steps.proofs.Keeping.{ready-stood, received-stands, ready-next}
 use Rattle.joint.specs.Joint.{Joint, band, party}
 use Rattle.joint.specs.Run.{said, step}
 use Rattle.joint.specs.declared.Frame.{Frame}
@@ -78,7 +79,7 @@ module _ (J : Joint) (f : Frame) (s : Course) (r : Round) (l : List ℕ) (g : Go
     unfolding siteOf party
     ready-then r′ e i h =
         ready-next (party J i) (band (f .scratch) l i) (band (f .scratch) l′ i) (f .layout) (siteOf (J .circuit) s i) (siteOf (J .circuit) s′ i) r r′ nextIn (g .ready i h)
-        (rw (received-is i h) (received-stands (party J i) (band (f .scratch) l i) (f .layout) (siteOf (J .circuit) s i) heardIn r (g .ready i h)))
+        (rw (received-is i h) (received-stands primeField (party J i) (band (f .scratch) l i) (s .point .gate) heardIn r (ready-stood (g .ready i h))))
         (next-there .occurs) (sited i h) gate-is e
 
     -- what the next round asks, if there is one and the coefficients last

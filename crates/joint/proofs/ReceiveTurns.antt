@@ -8,6 +8,7 @@ use native.Mathlib.Omega.{arith}
 use lib.ListN.{length, drop, length-append}
 use lib.Seq.{drop-at}
 use Rattle.field.specs.Prime.{p, prime}
+use Rattle.field.proofs.PrimeField.{primeField}
 use Rattle.circuit.specs.Gate.{gate, first}
 use Rattle.circuit.specs.Kind.{shape}
 use Rattle.circuit.specs.Round.{Round, Input, Multiply, OpenOutput, RevealOutput}
@@ -63,7 +64,7 @@ module _ {f : Frame} {l : List ℕ} (b : Banded f l) where
       → (i : ℕ) → i < f .parties → length (settledLeft f c preps l a i) ≡ f .scratch
   unfolding layoutOf
   settled-each c preps a s i h =
-      settle-keeps c (layoutOf (f .layout)) i (keyIn f preps i) 0 (f .layout .gates - a) a (band (f .scratch) l i)
+      settle-keeps primeField c (layoutOf (f .layout)) i (keyIn f preps i) 0 (f .layout .gates - a) a (band (f .scratch) l i)
       (omega (arith, s i h .upto)) (band-room b i h) (s i h .worked) (λ t z. absurd (omega arith)) .len
       ∙ band-long b i h
 
@@ -73,7 +74,7 @@ module _ {f : Frame} {l : List ℕ} (b : Banded f l) where
       sym (joined-bands (f .parties) (f .scratch) l (b .room))
       ∙ ap (λ (zs : List ℕ). zs ++ drop (f .parties * f .scratch) l)
       (joined-ext (f .parties) (band (f .scratch) l) (settledLeft f c preps l a)
-      (λ i k. sym (settle-none c (layoutOf (f .layout)) i (keyIn f preps i) (f .layout .gates - a) a (band (f .scratch) l i) (omega (arith, e)))))
+      (λ i k. sym (settle-none prime c (layoutOf (f .layout)) i (keyIn f preps i) (f .layout .gates - a) a (band (f .scratch) l i) (omega (arith, e)))))
 
 -- bands that came back as F i
 module _ {f : Frame} {l : List ℕ} (b : Banded f l) (F : ℕ → List ℕ) (each : (i : ℕ) → i < f .parties → length (F i) ≡ f .scratch)

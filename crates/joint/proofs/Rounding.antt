@@ -10,6 +10,7 @@ use lib.ListN.{length, getD, take, drop, length-append, length-drop}
 use lib.Seq.{length-take-le, take-at, drop-at, drop-drop}
 use borrow.Rule.Slice.PartMut.{putMid}
 use Rattle.field.specs.Prime.{p, prime, Is}
+use Rattle.field.proofs.PrimeField.{primeField}
 use Rattle.circuit.specs.Gate.{Gate, gateSize, gate, gates}
 use Rattle.circuit.specs.Count.{unchecked}
 use Rattle.circuit.specs.Round.{Round, Input, Multiply, CommitOpened, RevealOpened, OpenOutput, CommitOutput, RevealOutput, words, coefficientsIn}
@@ -24,6 +25,7 @@ use Rattle.steps.specs.declared.Point.{Point}
 use Rattle.steps.specs.Code.{pointOf, Below, Ready, Receives}
 use Rattle.party.specs.Ask.{mostParties}
 use Rattle.party.specs.Entry.{releases}
+use Rattle.steps.proofs.Keeping.{ready-stood}
 use Rattle.joint.specs.Joint.{Joint, joined, band, party}
 use Rattle.joint.specs.Run.{takes, said, step, released}
 use Rattle.joint.specs.declared.Frame.{Frame}
@@ -91,13 +93,13 @@ module _ {J : Joint} {f : Frame} {s : Course} {r : Round} {l t o places : List �
 
     said-long : length saidHere ≡ J .parties * k
     unfolding stateOf pointOf
-    said-long = length-said J (stateOf f s l) r (occurs J f s r l (u .going)) ∙ ap (λ (x : ℕ). J .parties * x) (sym k-is)
+    said-long = length-said prime J (stateOf f s l) r (occurs J f s r l (u .going)) ∙ ap (λ (x : ℕ). J .parties * x) (sym k-is)
 
     said-low : Below saidHere
     unfolding said stateOf siteOf pointOf
     said-low =
-        below-joined (J .parties) (saidBy J (stateOf f s l) r)
-        (λ i h. sent-low (party J i) (band (f .scratch) l i) (f .layout) (siteOf (J .circuit) s i) (getD (s .held) i 0) r (u .going .ready i h) (u .going .held-low i h))
+        below-joined (omega arith) (J .parties) (saidBy J (stateOf f s l) r)
+        (λ i h. sent-low primeField (party J i) (band (f .scratch) l i) (s .point .gate) (getD (s .held) i 0) r (ready-stood (u .going .ready i h)) (u .going .held-low i h))
 
     -- the parties have sent: ws came back
     module _ {ws : List ℕ} (d : ws ≡ saidHere) where

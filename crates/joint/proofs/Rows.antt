@@ -6,6 +6,7 @@ use mathlib.Core.Bool.{true}
 use mathlib.Core.List.{List}
 use native.Mathlib.Omega.{arith}
 use lib.ListN.{length}
+use Rattle.field.proofs.PrimeField.{primeField}
 use Rattle.circuit.specs.Gate.{gateSize, kind, gate}
 use Rattle.circuit.specs.Kind.{isMul}
 use Rattle.circuit.specs.Round.{Round, Multiply, rounds, among}
@@ -13,7 +14,7 @@ use Rattle.circuit.proofs.Rounds.{gate-at-round}
 use Rattle.steps.specs.Position.{reach}
 use Rattle.steps.specs.Code.{pointOf, Stands, Receives, Hears}
 use Rattle.steps.proofs.Received.{hears, reach-asks, stands}
-use Rattle.steps.proofs.Keeping.{received-stands}
+use Rattle.steps.proofs.Keeping.{ready-stood, received-stands}
 use Rattle.joint.specs.Joint.{Joint, band, party}
 use Rattle.joint.specs.declared.Frame.{Frame}
 use Rattle.joint.specs.declared.Course.{Course}
@@ -53,5 +54,5 @@ module _ (J : Joint) (f : Frame) (s : Course) (r : Round) (heard l₀ : List ℕ
     pub each-band : (i : ℕ) → i < J .parties → length (receivedBy J (stateOf f s l₀) r heard i) ≡ f .scratch
     unfolding stateOf siteOf pointOf
     each-band i h =
-        received-stands (party J i) (band (f .scratch) l₀ i) (f .layout) (siteOf (J .circuit) s i) heard r (asks i h .ready) .len
+        received-stands primeField (party J i) (band (f .scratch) l₀ i) (s .point .gate) heard r (ready-stood (asks i h .ready)) .len
         ∙ length-band (f .scratch) (J .parties) l₀ long i h

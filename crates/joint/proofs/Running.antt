@@ -187,7 +187,7 @@ module _ (J : Joint) (f : Frame) where
         -- how many words were said, and where the round led
         said-many : length (said prime J (stateOf f s l) r) ≡ J .parties * words (gate (J .circuit) (s .point .gate)) r
         unfolding stateOf pointOf
-        said-many = length-said J (stateOf f s l) r (fits .1)
+        said-many = length-said prime J (stateOf f s l) r (fits .1)
 
         outputs-length : length o′ ≡ length o
         outputs-length =

@@ -8,6 +8,7 @@ use native.Mathlib.Numerals.{add-one}
 use lib.ListN.{length, getD, drop, take, length-drop}
 use lib.Seq.{getD-drop, take-all}
 use Rattle.field.specs.Prime.{p, prime}
+use Rattle.field.proofs.PrimeField.{primeField}
 use Rattle.circuit.specs.Gate.{Gate, Mul, Out, gateSize, gate, gates, first, second}
 use Rattle.circuit.specs.Kind.{shape, hasValue}
 use Rattle.circuit.specs.Count.{capacity, unchecked, uncheckedAfter}
@@ -86,7 +87,7 @@ module _ (P : Party) (l : List ℕ) (y : Layout) (at : Site) where
     pub worked-there : Worked (P .circuit) (layoutOf y) l (at .gate)
     worked-there = rw (k .lay) (k .worked)
 
-    pub opened-there : OpenedTo (layoutOf y) l (openedIn (unchecked (P .circuit) (at .gate)) r)
+    pub opened-there : OpenedTo p (layoutOf y) l (openedIn (unchecked (P .circuit) (at .gate)) r)
     opened-there = rw (k .lay) (k .opened)
 
     pub within-there : at .gate < y .gates
@@ -140,7 +141,7 @@ module _ (P : Party) (l : List ℕ) (y : Layout) (at : Site) where
         → Settles (P .circuit) (layoutOf y) (getD (P .prep) 0 0) l′ (at .gate + 1)
     unfolding layoutOf
     input-settles i m e d =
-        let s = input-keeps (P .circuit) (layoutOf y) l (at .gate) (room-there Input k) (worked-there Input k) 0 i (getD (P .prep) 0 0) m e (within-there Input k) (λ t z. absurd (omega arith)) in
+        let s = input-keeps primeField (P .circuit) (layoutOf y) l (at .gate) (room-there Input k) (worked-there Input k) 0 i (getD (P .prep) 0 0) m e (within-there Input k) (λ t z. absurd (omega arith)) in
         rw d (settles Input k _ (s .len) (s .worked))
 
   module _ (k : Ready P l y at Multiply) where
@@ -191,7 +192,7 @@ module _ (P : Party) (l : List ℕ) (y : Layout) (at : Site) where
         → Settles (P .circuit) (layoutOf y) (getD (P .prep) 0 0) l′ (at .gate + 1)
     unfolding layoutOf openedIn
     multiply-settles i x z m e d le ld f =
-        let s = multiply-keeps (P .circuit) (layoutOf y) l (at .gate) (room-there Multiply k) (worked-there Multiply k) i (getD (P .prep) 0 0) x z m (at .unchecked) e d (within-there Multiply k) multiply-entries le ld (rw (k .sited .unchecked) (opened-there Multiply k)) in
+        let s = multiply-keeps primeField (P .circuit) (layoutOf y) l (at .gate) (room-there Multiply k) (worked-there Multiply k) i (getD (P .prep) 0 0) x z m (at .unchecked) e d (within-there Multiply k) multiply-entries le ld (rw (k .sited .unchecked) (opened-there Multiply k)) in
         rw f (settles Multiply k _ (s .len) (s .worked))
 
   module _ (k : Ready P l y at OpenOutput) where

@@ -62,7 +62,7 @@ module _ (P : Party) (l : List ℕ) (y : Layout) (at : Site) (held : ℕ) (coeff
   module _ (r : Round) (s : Sends P l y at r held coefficients room) where
     -- a commitment has a coefficient for each entry that it checks
     pub sends-check : {k : ℕ} → isCommit r ≡ true → k ≡ openedIn (unchecked (P .circuit) (at .gate)) r
-        → (S.scratchSize (layoutOf y) ≤ length l) × (getD (P .prep) 0 0 < p) × (k ≤ length coefficients) × Below coefficients × OpenedTo (layoutOf y) l k
+        → (S.scratchSize (layoutOf y) ≤ length l) × (getD (P .prep) 0 0 < p) × (k ≤ length coefficients) × Below coefficients × OpenedTo p (layoutOf y) l k
     unfolding coefficientsIn
     sends-check {k} c e =
         let d : length coefficients ≡ openedIn (unchecked (P .circuit) (at .gate)) r = s .coefficient-count ∙ rw c in

@@ -7,7 +7,10 @@ use mathlib.Core.List.{List}
 use native.Mathlib.Omega.{arith}
 use native.Mathlib.Numerals.{add-one}
 use lib.ListN.{length}
+use Rattle.field.specs.Ops.{Ops}
+use Rattle.field.specs.Field.{Field}
 use Rattle.field.specs.Prime.{p, prime}
+use Rattle.field.proofs.PrimeField.{primeField}
 use Rattle.circuit.specs.Gate.{Gate, In, Add, Sub, Plus, Times, Mul, Out, gate}
 use Rattle.circuit.specs.Kind.{isLinear}
 use Rattle.circuit.specs.Valid.{Names}
@@ -16,28 +19,28 @@ use Rattle.steps.specs.Part.{Part}
 use Rattle.steps.specs.Scratch.{Layout, scratchSize, putWire}
 use Rattle.steps.specs.Position.{reach}
 use Rattle.steps.specs.Receive.{afterLinear, settle}
-use Rattle.steps.specs.Code.{Reads, Worked, Settles}
+use Rattle.steps.specs.Code.{WorkedBelow, Reads, Worked, Settles}
 use Rattle.steps.proofs.Slots.{length-put}
 use Rattle.steps.proofs.Writing.{Elements, OpenedTo, worked-put, opened-put, plus-elements, minus-elements, scale-elements, shift-elements}
 
--- a wire of elements is written at gate j
-pub record Written (y : Layout) (l : List ℕ) (j : ℕ) (l′ : List ℕ) : Type 0 where
+-- a wire of numbers below q is written at gate j
+pub record Written (q : ℕ) (y : Layout) (l : List ℕ) (j : ℕ) (l′ : List ℕ) : Type 0 where
   pub part : Part
-  pub low : Elements part
+  pub low : Elements q part
   pub is : l′ ≡ putWire y l j part
 
 -- what a linear gate leaves
-pub linear-written : (i key : ℕ) (y : Layout) (l : List ℕ) (j : ℕ) (g : Gate)
+pub linear-written : {O : Ops} (F : Field O) (i key : ℕ) (y : Layout) (l : List ℕ) (j : ℕ) (g : Gate)
     → isLinear g ≡ true
-    → Written y l j (afterLinear prime i key y l j g)
+    → Written (O .size) y l j (afterLinear O i key y l j g)
 unfolding afterLinear isLinear
-linear-written i key y l j (In s) e = false-no e
-linear-written i key y l j (Add x z) e = record { part = _; low = plus-elements _ _; is = refl }
-linear-written i key y l j (Sub x z) e = record { part = _; low = minus-elements _ _; is = refl }
-linear-written i key y l j (Plus x k) e = record { part = _; low = shift-elements _ _ _ _; is = refl }
-linear-written i key y l j (Times x k) e = record { part = _; low = scale-elements _ _; is = refl }
-linear-written i key y l j (Mul x z) e = false-no e
-linear-written i key y l j (Out x) e = false-no e
+linear-written F i key y l j (In s) e = false-no e
+linear-written F i key y l j (Add x z) e = record { part = _; low = plus-elements F _ _; is = refl }
+linear-written F i key y l j (Sub x z) e = record { part = _; low = minus-elements F _ _; is = refl }
+linear-written F i key y l j (Plus x k) e = record { part = _; low = shift-elements F _ _ _ _; is = refl }
+linear-written F i key y l j (Times x k) e = record { part = _; low = scale-elements F _ _; is = refl }
+linear-written F i key y l j (Mul x z) e = false-no e
+linear-written F i key y l j (Out x) e = false-no e
 
 -- what a gate names can be read
 pub reads : (n : ℕ) (c : List ℕ) (y : Layout) (l : List ℕ) (j : ℕ) (g : Gate) → Names n p c j g → Worked c y l j → Reads y l g
@@ -49,20 +52,20 @@ reads n c y l j (Times x k) m w = (w x (m .0 .earlier) (m .0 .valued), m .1)
 reads n c y l j (Mul x z) m w = tt
 reads n c y l j (Out x) m w = tt
 
-module _ (c : List ℕ) (y : Layout) where
-  -- what a gate or several leave: as many numbers, what was worked out and the first u opened entries
-  pub record Keeps (u : ℕ) (l₀ : List ℕ) (j : ℕ) (l : List ℕ) : Type 0 where
-    pub len : length l ≡ length l₀
-    pub worked : Worked c y l j
-    pub opened : OpenedTo y l u
+-- what a gate or several leave: as many numbers, what was worked out and the first u opened entries, all below q
+pub record Keeps (q : ℕ) (c : List ℕ) (y : Layout) (u : ℕ) (l₀ : List ℕ) (j : ℕ) (l : List ℕ) : Type 0 where
+  pub len : length l ≡ length l₀
+  pub worked : WorkedBelow q c y l j
+  pub opened : OpenedTo q y l u
 
+module _ {q : ℕ} (c : List ℕ) (y : Layout) where
   pub written-keeps : (u : ℕ) (l : List ℕ) (j : ℕ) (l′ : List ℕ)
-      → Written y l j l′
+      → Written q y l j l′
       → scratchSize y ≤ length l
       → j < y .gates
-      → Worked c y l j
-      → OpenedTo y l u
-      → Keeps u l (suc j) l′
+      → WorkedBelow q c y l j
+      → OpenedTo q y l u
+      → Keeps q c y u l (suc j) l′
   written-keeps u l j l′ w room h k o =
       rw (w .is)
       (record {
@@ -119,42 +122,46 @@ module _ (c : List ℕ) (n b : ℕ) where
     pub reaching-linear : j < reach c (n - b) b → (j < n) × (isLinear (gate c j) ≡ true)
     reaching-linear h = let k = before-stop c (n - j) j (omega (arith, h, inv .place)) in (omega (arith, k .0), k .1)
 
+-- the linear gates keep what was worked out and opened
+pub settle-keeps : {O : Ops} (F : Field O) (c : List ℕ) (y : Layout) (i key u left j : ℕ) (l : List ℕ)
+    → j + left ≤ y .gates
+    → scratchSize y ≤ length l
+    → WorkedBelow (O .size) c y l j
+    → OpenedTo (O .size) y l u
+    → Keeps (O .size) c y u l (reach c left j) (settle O i key c y left j l)
+unfolding settle reach
+settle-keeps F c y i key u zero j l e room w o = record { len = refl; worked = w; opened = o }
+settle-keeps {O} F c y i key u (suc left) j l e room w o =
+    go (isLinear (gate c j)) refl (settle-keeps F c y i key u left (suc j) (afterLinear O i key y l j (gate c j)))
+  where
+    l′ : List ℕ
+    l′ = afterLinear O i key y l j (gate c j)
+
+    go : (b : Bool)
+        → isLinear (gate c j) ≡ b
+        → (suc j + left ≤ y .gates
+        → scratchSize y ≤ length l′
+        → WorkedBelow (O .size) c y l′ (suc j)
+        → OpenedTo (O .size) y l′ u
+        → Keeps (O .size) c y u l′ (reach c left (suc j)) (settle O i key c y left (suc j) l′))
+        → Keeps (O .size) c y u l (cond b (reach c left (suc j)) j) (cond b (settle O i key c y left (suc j) l′) l)
+    go true q ih =
+        let k = written-keeps c y u l j l′ (linear-written F i key y l j (gate c j) q) room (omega arith) w o in
+        let r = ih (omega arith) (rw (k .len) room) (k .worked) (k .opened) in
+        record { len = r .len ∙ k .len; worked = r .worked; opened = r .opened }
+    go false q ih = record { len = refl; worked = w; opened = o }
+
+-- at the stop nothing is left to do
+pub settle-none : (O : Ops) (c : List ℕ) (y : Layout) (i key left j : ℕ) (l : List ℕ) → reach c left j ≤ j → settle O i key c y left j l ≡ l
+unfolding settle reach
+settle-none O c y i key zero j l h = refl
+settle-none O c y i key (suc left) j l h = go (isLinear (gate c j)) h
+  where
+    go : (b : Bool) → cond b (reach c left (suc j)) j ≤ j → cond b (settle O i key c y left (suc j) (afterLinear O i key y l j (gate c j))) l ≡ l
+    go true h = absurd (omega (arith, h, at-stop c left (suc j)))
+    go false h = refl
+
 module _ (c : List ℕ) (y : Layout) (i key : ℕ) where
-  -- the linear gates keep what was worked out and opened
-  pub settle-keeps : (u left j : ℕ) (l : List ℕ)
-      → j + left ≤ y .gates
-      → scratchSize y ≤ length l
-      → Worked c y l j
-      → OpenedTo y l u
-      → Keeps c y u l (reach c left j) (settle prime i key c y left j l)
-  unfolding settle reach
-  settle-keeps u zero j l e room w o = record { len = refl; worked = w; opened = o }
-  settle-keeps u (suc left) j l e room w o =
-      go (isLinear (gate c j)) refl (settle-keeps u left (suc j) (afterLinear prime i key y l j (gate c j)))
-    where
-      l′ : List ℕ
-      l′ = afterLinear prime i key y l j (gate c j)
-
-      go : (b : Bool)
-          → isLinear (gate c j) ≡ b
-          → (suc j + left ≤ y .gates → scratchSize y ≤ length l′ → Worked c y l′ (suc j) → OpenedTo y l′ u → Keeps c y u l′ (reach c left (suc j)) (settle prime i key c y left (suc j) l′))
-          → Keeps c y u l (cond b (reach c left (suc j)) j) (cond b (settle prime i key c y left (suc j) l′) l)
-      go true q ih =
-          let k = written-keeps c y u l j l′ (linear-written i key y l j (gate c j) q) room (omega arith) w o in
-          let r = ih (omega arith) (rw (k .len) room) (k .worked) (k .opened) in
-          record { len = r .len ∙ k .len; worked = r .worked; opened = r .opened }
-      go false q ih = record { len = refl; worked = w; opened = o }
-
-  -- at the stop nothing is left to do
-  pub settle-none : (left j : ℕ) (l : List ℕ) → reach c left j ≤ j → settle prime i key c y left j l ≡ l
-  unfolding settle reach
-  settle-none zero j l h = refl
-  settle-none (suc left) j l h = go (isLinear (gate c j)) h
-    where
-      go : (b : Bool) → cond b (reach c left (suc j)) j ≤ j → cond b (settle prime i key c y left (suc j) (afterLinear prime i key y l j (gate c j))) l ≡ l
-      go true h = absurd (omega (arith, h, at-stop c left (suc j)))
-      go false h = refl
-
   -- the linear gates began at gate b with the scratch l₀, and gate j is next with the scratch l
   pub record Settling (b : ℕ) (l₀ : List ℕ) (j : ℕ) (l : List ℕ) : Type 0 where
     pub upto : j ≤ y .gates
@@ -183,7 +190,7 @@ module _ (c : List ℕ) (y : Layout) (i key : ℕ) where
           → Settling b l₀ (j + 1) l′
       unfolding settle
       settling-again room h e f =
-          let k = written-keeps c y 0 l j _ (linear-written i key y l j (gate c j) e) (rw (inv .len) room) h (inv .worked) (λ t z. absurd (omega arith)) in
+          let k = written-keeps c y 0 l j _ (linear-written primeField i key y l j (gate c j) e) (rw (inv .len) room) h (inv .worked) (λ t z. absurd (omega arith)) in
           record {
             upto = omega arith;
             len = rw f (k .len ∙ inv .len);
@@ -192,4 +199,4 @@ module _ (c : List ℕ) (y : Layout) (i key : ℕ) where
           }
 
       pub settling-end : Reaching c (y .gates) b j → reach c (y .gates - b) b ≤ j → l ≡ settle prime i key c y (y .gates - b) b l₀
-      settling-end r h = rw (inv .same) (sym (settle-none (y .gates - j) j l (omega (arith, h, r .place))))
+      settling-end r h = rw (inv .same) (sym (settle-none prime c y i key (y .gates - j) j l (omega (arith, h, r .place))))

@@ -7,49 +7,53 @@ use mathlib.Core.List.{List}
 use native.Mathlib.Omega.{arith}
 use native.Mathlib.Decide.{ℕ-discrete}
 use lib.ListN.{length}
-use Rattle.field.specs.Prime.{p, prime}
-use Rattle.field.specs.Prime.Laws.{add-lt, sub-lt, mul-lt}
+use Rattle.field.specs.Ops.{Ops}
+use Rattle.field.specs.Field.{Field}
+use Rattle.field.proofs.Ring.{add-lt, sub-lt, mul-lt}
 use Rattle.circuit.specs.Gate.{gate}
 use Rattle.circuit.specs.Kind.{hasValue}
 use Rattle.circuit.proofs.Tests.{false-no}
 use Rattle.steps.specs.Part.{Part, plus, minus, scale, shift, product}
 use Rattle.steps.specs.Scratch.{Layout, scratchSize, wire, putWire, putOpened}
-use Rattle.steps.specs.Code.{Held, Worked, Opened}
+use Rattle.steps.specs.Code.{HeldBelow, WorkedBelow, OpenedBelow}
 use Rattle.steps.proofs.Slots.{wire-put-same, wire-put-other, wire-opened, value-put, value-mac-put, value-opened-same, value-mac-opened-same, value-opened-other, value-mac-opened-other}
 
--- both numbers of a part are elements
-pub record Elements (x : Part) : Type 0 where
-  pub share : x .share < p
-  pub mac : x .mac < p
+-- both numbers of a part are below q
+pub record Elements (q : ℕ) (x : Part) : Type 0 where
+  pub share : x .share < q
+  pub mac : x .mac < q
 
 -- what the parties compute is of elements
-pub plus-elements : (x z : Part) → Elements (plus prime x z)
-unfolding plus
-plus-elements x z = record { share = add-lt _ _; mac = add-lt _ _ }
+module _ {O : Ops} (F : Field O) where
+  open Ops O using (size)
 
-pub minus-elements : (x z : Part) → Elements (minus prime x z)
-unfolding minus
-minus-elements x z = record { share = sub-lt _ _; mac = sub-lt _ _ }
+  pub plus-elements : (x z : Part) → Elements size (plus O x z)
+  unfolding plus
+  plus-elements x z = record { share = add-lt F _ _; mac = add-lt F _ _ }
 
-pub scale-elements : (k : ℕ) (x : Part) → Elements (scale prime k x)
-unfolding scale
-scale-elements k x = record { share = mul-lt _ _; mac = mul-lt _ _ }
+  pub minus-elements : (x z : Part) → Elements size (minus O x z)
+  unfolding minus
+  minus-elements x z = record { share = sub-lt F _ _; mac = sub-lt F _ _ }
 
-pub shift-elements : (i key : ℕ) (x : Part) (k : ℕ) → Elements (shift prime i key x k)
-unfolding shift
-shift-elements i key x k = plus-elements x _
+  pub scale-elements : (k : ℕ) (x : Part) → Elements size (scale O k x)
+  unfolding scale
+  scale-elements k x = record { share = mul-lt F _ _; mac = mul-lt F _ _ }
 
-pub product-elements : (i key : ℕ) (a b c : Part) (e d : ℕ) → Elements (product prime i key a b c e d)
-unfolding product
-product-elements i key a b c e d = shift-elements i key _ _
+  pub shift-elements : (i key : ℕ) (x : Part) (k : ℕ) → Elements size (shift O i key x k)
+  unfolding shift
+  shift-elements i key x k = plus-elements x _
 
--- the first u opened entries are of elements
-abbrev pub OpenedTo : Layout → List ℕ → ℕ → Type 0
-OpenedTo y l u = (t : ℕ) → t < u → Opened y l t
+  pub product-elements : (i key : ℕ) (a b c : Part) (e d : ℕ) → Elements size (product O i key a b c e d)
+  unfolding product
+  product-elements i key a b c e d = shift-elements i key _ _
 
-module _ (y : Layout) (l : List ℕ) where
+-- the first u opened entries are of numbers below q
+abbrev pub OpenedTo : ℕ → Layout → List ℕ → ℕ → Type 0
+OpenedTo q y l u = (t : ℕ) → t < u → OpenedBelow q y l t
+
+module _ {q : ℕ} (y : Layout) (l : List ℕ) where
   -- a wire that reads alike can be read alike
-  held-alike : (l′ : List ℕ) (x : ℕ) → wire y l′ x ≡ wire y l x → Held y l x → Held y l′ x
+  held-alike : (l′ : List ℕ) (x : ℕ) → wire y l′ x ≡ wire y l x → HeldBelow q y l x → HeldBelow q y l′ x
   unfolding wire
   held-alike l′ x e h =
       record {
@@ -59,12 +63,12 @@ module _ (y : Layout) (l : List ℕ) where
       }
 
   -- what a wire holds is of elements
-  pub wire-elements : (x : ℕ) → Held y l x → Elements (wire y l x)
+  pub wire-elements : (x : ℕ) → HeldBelow q y l x → Elements q (wire y l x)
   unfolding wire
   wire-elements x h = record { share = h .share; mac = h .mac }
 
-  module _ (j : ℕ) (r : Part) (room : scratchSize y ≤ length l) (within : j < y .gates) (low : Elements r) where
-    held-put : Held y (putWire y l j r) j
+  module _ (j : ℕ) (r : Part) (room : scratchSize y ≤ length l) (within : j < y .gates) (low : Elements q r) where
+    held-put : HeldBelow q y (putWire y l j r) j
     unfolding wire
     held-put =
         let e : wire y (putWire y l j r) j ≡ r = wire-put-same y l j r room within in
@@ -75,16 +79,16 @@ module _ (y : Layout) (l : List ℕ) where
         }
 
     -- gate j is worked out once its wire is written
-    pub worked-put : (c : List ℕ) → Worked c y l j → Worked c y (putWire y l j r) (suc j)
+    pub worked-put : (c : List ℕ) → WorkedBelow q c y l j → WorkedBelow q c y (putWire y l j r) (suc j)
     worked-put c w x lx v = go (ℕ-discrete x j)
       where
-        go : Dec (x ≡ j) → Held y (putWire y l j r) x
+        go : Dec (x ≡ j) → HeldBelow q y (putWire y l j r) x
         go (yes e) = rw e held-put
         go (no e) =
             let h = w x (omega arith) v in
             held-alike (putWire y l j r) x (wire-put-other y l j x r within (h .within) e) h
 
-  pub opened-put : (j : ℕ) (r : Part) → j < y .gates → (u : ℕ) → OpenedTo y l u → OpenedTo y (putWire y l j r) u
+  pub opened-put : (j : ℕ) (r : Part) → j < y .gates → (u : ℕ) → OpenedTo q y l u → OpenedTo q y (putWire y l j r) u
   opened-put j r within u o t h =
       let e = o t h in
       record {
@@ -94,15 +98,15 @@ module _ (y : Layout) (l : List ℕ) where
       }
 
   module _ (u v m : ℕ) (within : u < y .capacity) where
-    pub worked-opened : (c : List ℕ) (j : ℕ) → Worked c y l j → Worked c y (putOpened y l u v m) j
+    pub worked-opened : (c : List ℕ) (j : ℕ) → WorkedBelow q c y l j → WorkedBelow q c y (putOpened y l u v m) j
     worked-opened c j w x lx a =
         let h = w x lx a in held-alike (putOpened y l u v m) x (wire-opened y l x u v m (h .within) within) h
 
     -- one opened entry more
-    pub opened-more : scratchSize y ≤ length l → v < p → m < p → OpenedTo y l u → OpenedTo y (putOpened y l u v m) (suc u)
+    pub opened-more : scratchSize y ≤ length l → v < q → m < q → OpenedTo q y l u → OpenedTo q y (putOpened y l u v m) (suc u)
     opened-more room lv lm o t h = go (ℕ-discrete t u)
       where
-        go : Dec (t ≡ u) → Opened y (putOpened y l u v m) t
+        go : Dec (t ≡ u) → OpenedBelow q y (putOpened y l u v m) t
         go (yes e) =
             rw e
             (record {
@@ -119,9 +123,9 @@ module _ (y : Layout) (l : List ℕ) where
             }
 
   -- a gate with no value needs no work
-  pub worked-skip : (c : List ℕ) (j : ℕ) → hasValue (gate c j) ≡ false → Worked c y l j → Worked c y l (suc j)
+  pub worked-skip : (c : List ℕ) (j : ℕ) → hasValue (gate c j) ≡ false → WorkedBelow q c y l j → WorkedBelow q c y l (suc j)
   worked-skip c j n w x lx v = go (ℕ-discrete x j)
     where
-      go : Dec (x ≡ j) → Held y l x
+      go : Dec (x ≡ j) → HeldBelow q y l x
       go (yes e) = false-no (sym n ∙ sym (ap (λ (k : ℕ). hasValue (gate c k)) e) ∙ v)
       go (no e) = w x (omega arith) v

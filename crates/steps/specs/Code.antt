@@ -58,9 +58,13 @@ stageOf Aborted = P.Aborted
 unfoldable pub pointOf : Point → P.Point
 pointOf x = record { gate = x .gate; stage = stageOf (x .stage) }
 
--- every number of a list is an element (past the end getD gives 0, which is one)
+-- every number of a list is below q, the size of a field (past the end getD gives 0)
+abbrev pub AllBelow : ℕ → List ℕ → Type 0
+AllBelow q xs = (k : ℕ) → getD xs k 0 < q
+
+-- every number of a list is an element
 abbrev pub Below : List ℕ → Type 0
-Below xs = (k : ℕ) → getD xs k 0 < p
+Below xs = AllBelow p xs
 
 -- the slot lies in the scratch
 abbrev pub Within : S.Layout → S.Slot → Type 0
@@ -69,21 +73,31 @@ Within y (S.Mac j) = j < y .gates
 Within y (S.Value t) = t < y .capacity
 Within y (S.ValueMac t) = t < y .capacity
 
--- the part of gate x can be read, and is of elements
-pub record Held (y : S.Layout) (l : List ℕ) (x : ℕ) : Type 0 where
+-- the part of gate x can be read, and is of numbers below q
+pub record HeldBelow (q : ℕ) (y : S.Layout) (l : List ℕ) (x : ℕ) : Type 0 where
   pub within : x < y .gates
-  pub share : S.read y l (S.Share x) < p
-  pub mac : S.read y l (S.Mac x) < p
+  pub share : S.read y l (S.Share x) < q
+  pub mac : S.read y l (S.Mac x) < q
 
 -- the gates before j that have a value are worked out
-abbrev pub Worked : List ℕ → S.Layout → List ℕ → ℕ → Type 0
-Worked c y l j = (x : ℕ) → x < j → hasValue (gate c x) ≡ true → Held y l x
+abbrev pub WorkedBelow : ℕ → List ℕ → S.Layout → List ℕ → ℕ → Type 0
+WorkedBelow q c y l j = (x : ℕ) → x < j → hasValue (gate c x) ≡ true → HeldBelow q y l x
 
--- opened entry t is of elements
-pub record Opened (y : S.Layout) (l : List ℕ) (t : ℕ) : Type 0 where
+-- opened entry t is of numbers below q
+pub record OpenedBelow (q : ℕ) (y : S.Layout) (l : List ℕ) (t : ℕ) : Type 0 where
   pub within : t < y .capacity
-  pub value : S.read y l (S.Value t) < p
-  pub mac : S.read y l (S.ValueMac t) < p
+  pub value : S.read y l (S.Value t) < q
+  pub mac : S.read y l (S.ValueMac t) < q
+
+-- the same of elements
+abbrev pub Held : S.Layout → List ℕ → ℕ → Type 0
+Held y l x = HeldBelow p y l x
+
+abbrev pub Worked : List ℕ → S.Layout → List ℕ → ℕ → Type 0
+Worked c y l j = WorkedBelow p c y l j
+
+abbrev pub Opened : S.Layout → List ℕ → ℕ → Type 0
+Opened y l t = OpenedBelow p y l t
 
 -- what a linear gate reads can be read, and its constant is an element
 abbrev pub Reads : S.Layout → List ℕ → Gate → Type 0

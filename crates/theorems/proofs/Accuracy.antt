@@ -30,13 +30,14 @@ use Rattle.theorems.specs.Premises.{Honest, after}
 use Rattle.theorems.specs.Accuracy.{Accurate, theKey, openAfter}
 use Rattle.theorems.specs.Abort.{Fails}
 use Rattle.steps.proofs.InOrder.{differ}
+use Rattle.joint.proofs.Said.{length-said}
 use Rattle.theorems.proofs.Given.{Given, given-honest}
 use Rattle.theorems.proofs.Closed.{Opening, Shown, every-at, keys, sumOf, wires, opened, openedValue, accurate, CarriesOpened}
 use Rattle.theorems.proofs.Closed.{carries-shown}
 use Rattle.theorems.proofs.Holds.{Holds}
 use Rattle.steps.proofs.Points.{FitsStage, sending, spentStage, spent, doneStage, done, goes-start, goes-resume, follow-stays}
 use Rattle.steps.proofs.Points.{follow-leaves, spent-follow}
-use Rattle.theorems.proofs.Sent.{gate-at, length-said, revealed-sum}
+use Rattle.theorems.proofs.Sent.{gate-at, revealed-sum}
 use Rattle.theorems.proofs.Honest.{pending, length-pending, Inv, HoldsAt, fits-at, holds-at, checks-at, afterOut, following-input}
 use Rattle.theorems.proofs.Honest.{following-multiply, following-out, carries-pending, passing, point-step, inv-step, inv-begun}
 use Rattle.theorems.proofs.Runs.{Idle, longer, first as firstly, last-first, first-longer, first-idle, after-step, after-idle}

@@ -1,6 +1,6 @@
 -- What the parties send in a round, whatever their scratch holds.
 -- Assumes nothing.
-use Prim.Native.Nat.{ℕ, _*_}
+use Prim.Native.Nat.{ℕ}
 use mathlib.Core.Path.{_≡_, refl, sym, ap, subst, _∙_}
 use mathlib.Core.Bool.{Bool, true, false, cond}
 use mathlib.Core.List.{List, [], _∷_}
@@ -11,7 +11,6 @@ use Rattle.field.specs.Ops.{Ops}
 use Rattle.field.specs.Field.{Field}
 use Rattle.field.specs.Sum.{sum}
 use Rattle.circuit.specs.Gate.{Gate, In, Add, Sub, Plus, Times, Mul, Out, gate}
-use Rattle.circuit.specs.Kind.{shape}
 use Rattle.circuit.specs.Count.{unchecked}
 use Rattle.circuit.specs.Round.{Round, Input, Multiply, CommitOpened, RevealOpened, OpenOutput, CommitOutput, RevealOutput, roundNumber}
 use Rattle.circuit.specs.Round.{isReveal, outRounds, roundsOf, rounds, among, words, checkWords}
@@ -21,7 +20,7 @@ use Rattle.steps.specs.Receive.{heardSum}
 use Rattle.joint.specs.Joint.{Joint, party}
 use Rattle.joint.specs.Run.{State, said}
 use Rattle.steps.proofs.InOrder.{differ}
-use Rattle.joint.proofs.Words.{length-joined, heard-sum}
+use Rattle.joint.proofs.Words.{heard-sum}
 use Rattle.steps.proofs.InOrder.{same-round, outs}
 
 -- the kind of a gate that has round r
@@ -77,30 +76,10 @@ pub gate-at : (c : List ℕ) (j : ℕ) (r : Round) → among r (rounds c j) ≡ 
 unfolding rounds
 gate-at c j r h = gate-of (unchecked c j) (gate c j) r h
 
--- A party sends as many words as the round has.
-pub length-sent : (O : Ops) (P : Party) (l : List ℕ) (j held : ℕ) (r : Round) → Wants r (gate (P .circuit) j)
-    → length (sent O P l j held r) ≡ words (gate (P .circuit) j) r
-unfolding sent words shape
-length-sent O P l j held Input h = rw (h .1)
-length-sent O P l j held Multiply h = rw (h .2)
-length-sent O P l j held CommitOpened h = refl
-length-sent O P l j held RevealOpened h = refl
-length-sent O P l j held OpenOutput h = rw (h .1)
-length-sent O P l j held CommitOutput h = refl
-length-sent O P l j held RevealOutput h = refl
-
 module _ (O : Ops) (J : Joint) (s : State) (r : Round) where
   -- the words of party i
   abbrev pub saidBy : ℕ → List ℕ
   saidBy i = sent O (party J i) (s .scratch i) (s .point .gate) (s .held i) r
-
-  -- All parties together send as many words each as the round has.
-  pub length-said : among r (rounds (J .circuit) (s .point .gate)) ≡ true
-      → length (said O J s r) ≡ J .parties * words (gate (J .circuit) (s .point .gate)) r
-  unfolding said party
-  length-said h =
-      length-joined (J .parties) _ saidBy
-      (λ i l. length-sent O (party J i) (s .scratch i) (s .point .gate) (s .held i) r (gate-at (J .circuit) (s .point .gate) r h))
 
 -- At a reveal the sum of what is heard is that of the check shares held.
 pub revealed-sum : {O : Ops} (F : Field O) (J : Joint) (s : State) (r : Round) → isReveal r ≡ true
