@@ -111,7 +111,7 @@ module _ {n q : ℕ} {c l : List ℕ} {j : ℕ} where
       rw (g .1) (k .worked (g .0) (m .earlier) (m .valued))
 
   -- there is room for a product's two entries
-  entries : Stood n q c l j Multiply → unchecked c j + 1 < layout c .capacity
+  pub entries : Stood n q c l j Multiply → unchecked c j + 1 < layout c .capacity
   unfolding layout shape
   entries k =
       let g = gate-at-round c j Multiply (k .occurs) in
@@ -121,7 +121,7 @@ module _ {n q : ℕ} {c l : List ℕ} {j : ℕ} where
 module _ {O : Ops} (F : Field O) where
   open Ops O using (size)
 
-  heard-low : (n k t : ℕ) (heard : List ℕ) → heardSum O n k t heard < size
+  pub heard-low : (n k t : ℕ) (heard : List ℕ) → heardSum O n k t heard < size
   unfolding heardSum
   heard-low n k t heard = sum-lt F n _
 

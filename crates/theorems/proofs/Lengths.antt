@@ -24,7 +24,7 @@ use Rattle.joint.proofs.Bands.{band-front, band-joined}
 
 module _ (O : Ops) where
   -- A gate that needs no round writes in place ..
-  length-afterLinear : (i key : ℕ) (y : Layout) (l : List ℕ) (j : ℕ) (g : Gate) → length (afterLinear O i key y l j g) ≡ length l
+  pub length-afterLinear : (i key : ℕ) (y : Layout) (l : List ℕ) (j : ℕ) (g : Gate) → length (afterLinear O i key y l j g) ≡ length l
   unfolding afterLinear
   length-afterLinear i key y l j (In s) = refl
   length-afterLinear i key y l j (Add x z) = length-put y l j _
@@ -52,7 +52,7 @@ module _ (O : Ops) where
     length-onward j l = length-settle _ _ _ _ _ _ l
 
     -- Receiving a round keeps the length.
-    length-received : (l : List ℕ) (j : ℕ) (r : Round) (heard : List ℕ) → length (received O P l j r heard) ≡ length l
+    pub length-received : (l : List ℕ) (j : ℕ) (r : Round) (heard : List ℕ) → length (received O P l j r heard) ≡ length l
     unfolding received
     length-received l j Input heard = length-onward j _ ∙ (unfold afterInput in length-put _ l j _)
     length-received l j Multiply heard =

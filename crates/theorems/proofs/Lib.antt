@@ -20,3 +20,4 @@ pub mod Twins
 pub mod Secrecy
 pub mod Corollaries
 pub mod Example
+pub mod Front

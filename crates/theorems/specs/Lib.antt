@@ -5,3 +5,4 @@ pub mod Abort
 pub mod Matching
 pub mod Secrecy
 pub mod Example
+pub mod Apart
