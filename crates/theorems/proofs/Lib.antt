@@ -21,3 +21,5 @@ pub mod Secrecy
 pub mod Corollaries
 pub mod Example
 pub mod Front
+pub mod Passing
+pub mod Calls
