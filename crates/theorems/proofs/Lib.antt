@@ -23,3 +23,4 @@ pub mod Example
 pub mod Front
 pub mod Passing
 pub mod Calls
+pub mod Standing
