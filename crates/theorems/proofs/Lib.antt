@@ -24,3 +24,5 @@ pub mod Front
 pub mod Passing
 pub mod Calls
 pub mod Standing
+pub mod Joined
+pub mod Apart

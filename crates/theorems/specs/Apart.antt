@@ -31,7 +31,7 @@ pub record Apart : Type 0 where
   pub out : ℕ → ℕ → List ℕ
 
 -- what party i lends at every call
-unfoldable pub partyIn : Apart → ℕ → Party
+abbrev pub partyIn : Apart → ℕ → Party
 partyIn D i =
     record { parties = D .parties; me = i; circuit = D .circuit; prep = D .prep i; inputs = D .inputs i }
 
@@ -130,7 +130,7 @@ module _ (O : Ops) (D : Apart) where
   spoken (suc k) = spoken k ++ heardIn k (apart k)
 
 -- the joint run of the same lists, joined in party order, on all coefficients in order of use
-unfoldable pub jointly : Apart → List ℕ → Joint
+abbrev pub jointly : Apart → List ℕ → Joint
 jointly D coefficients =
     record {
       parties = D .parties;
