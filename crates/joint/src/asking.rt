@@ -78,8 +78,13 @@ pub fn ask_lent(
     transcript: usize,
     outputs: usize,
 ) -> Verdict
-    requires { ⌜ Valid (f .parties) p (now c) × (f .parties ≤ mostParties) × Framed (f .parties) (now c) f × Totalled (now c) (f .layout .gates) totals ⌝ }
-    ensures { λ r. ⌜ verdictOf r ≡ (listsOf (now (preps .entry)) (f .parties * prepSize (now (c .entry))) (now (inputs .entry)) (inCount (now (c .entry))) room (f .parties * scratchSize (layout (now (c .entry)))) then roomsOf (now (coefficients .entry)) (coefficientCount (now (c .entry))) (f .parties * wordCount (now (c .entry))) transcript (outCount (now (c .entry))) outputs) ⌝ }
+    requires { ⌜ Valid (f .parties) p (now c)
+        × (f .parties ≤ mostParties)
+        × Framed (f .parties) (now c) f
+        × Totalled (now c) (f .layout .gates) totals ⌝ }
+    ensures { λ r. ⌜ verdictOf r
+        ≡ (listsOf (now (preps .entry)) (f .parties * prepSize (now (c .entry))) (now (inputs .entry)) (inCount (now (c .entry))) room (f .parties * scratchSize (layout (now (c .entry))))
+        then roomsOf (now (coefficients .entry)) (coefficientCount (now (c .entry))) (f .parties * wordCount (now (c .entry))) transcript (outCount (now (c .entry))) outputs) ⌝ }
 {
     match party::asking::ask_lists(
         preps,

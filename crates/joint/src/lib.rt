@@ -13,7 +13,7 @@ use steps::Point;
 ghost use mathlib.Core.Path.{_≡_};
 ghost use Rattle.field.specs.Prime.{prime};
 ghost use Rattle.joint.specs.Entry.{jointAnswer, jointScratch, jointTranscript, jointOutputs};
-ghost use Rattle.joint.specs.Code.{jointAnswerOf};
+ghost use Rattle.joint.specs.Code.{jointAnswerOf, jointOf};
 
 // A refusal's number and index; the rounds made; the gate at which the run is aborted, and the rounds made.
 pub enum JointAnswer {
@@ -60,10 +60,18 @@ pub fn joint_run(
     transcript: &mut [u32],
     outputs: &mut [u32],
 ) -> JointAnswer
-    ensures answer { λ r. ⌜ jointAnswerOf r ≡ jointAnswer prime (record { parties = parties; circuit = now (c .entry); preps = now (preps .entry); inputs = now (inputs .entry); coefficients = now (coefficients .entry) }) (now (scratch .entry)) (now (transcript .entry)) (now (outputs .entry)) ⌝ }
-    ensures scratch { λ r. ⌜ now (scratch .exit) ≡ jointScratch prime (record { parties = parties; circuit = now (c .entry); preps = now (preps .entry); inputs = now (inputs .entry); coefficients = now (coefficients .entry) }) (now (scratch .entry)) (now (transcript .entry)) (now (outputs .entry)) ⌝ }
-    ensures transcript { λ r. ⌜ now (transcript .exit) ≡ jointTranscript prime (record { parties = parties; circuit = now (c .entry); preps = now (preps .entry); inputs = now (inputs .entry); coefficients = now (coefficients .entry) }) (now (scratch .entry)) (now (transcript .entry)) (now (outputs .entry)) ⌝ }
-    ensures outputs { λ r. ⌜ now (outputs .exit) ≡ jointOutputs prime (record { parties = parties; circuit = now (c .entry); preps = now (preps .entry); inputs = now (inputs .entry); coefficients = now (coefficients .entry) }) (now (scratch .entry)) (now (transcript .entry)) (now (outputs .entry)) ⌝ }
+    ensures answer { λ r. ⌜ jointAnswerOf r
+        ≡ jointAnswer prime (jointOf parties (now (c .entry)) (now (preps .entry)) (now (inputs .entry)) (now (coefficients .entry)))
+        (now (scratch .entry)) (now (transcript .entry)) (now (outputs .entry)) ⌝ }
+    ensures scratch { λ r. ⌜ now (scratch .exit)
+        ≡ jointScratch prime (jointOf parties (now (c .entry)) (now (preps .entry)) (now (inputs .entry)) (now (coefficients .entry)))
+        (now (scratch .entry)) (now (transcript .entry)) (now (outputs .entry)) ⌝ }
+    ensures transcript { λ r. ⌜ now (transcript .exit)
+        ≡ jointTranscript prime (jointOf parties (now (c .entry)) (now (preps .entry)) (now (inputs .entry)) (now (coefficients .entry)))
+        (now (scratch .entry)) (now (transcript .entry)) (now (outputs .entry)) ⌝ }
+    ensures outputs { λ r. ⌜ now (outputs .exit)
+        ≡ jointOutputs prime (jointOf parties (now (c .entry)) (now (preps .entry)) (now (inputs .entry)) (now (coefficients .entry)))
+        (now (scratch .entry)) (now (transcript .entry)) (now (outputs .entry)) ⌝ }
 {
     match asking::ask_setting(parties, c) {
         Verdict::Refused { number, index } => {

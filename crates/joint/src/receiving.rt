@@ -22,7 +22,8 @@ ghost use Rattle.joint.specs.Code.{jointOf, siteOf, stateOf, Lent, prepF
 // In gate j, whose record stands at number at of each party's preprocessing; e is the owner's word.
 fn receive_inputs(f: Frame, j: usize, at: usize, preps: &[u32], scratch: &mut [u32], e: u32)
     requires { ⌜ Prepared f (now preps) at 2 × Banded f (now scratch) × (j < f .layout .gates) × (e < p) ⌝ }
-    ensures { λ r. ⌜ now (scratch .exit) ≡ rebanded f (λ i. afterInput prime i (keyIn f (now (preps .entry)) i) (layoutOf (f .layout)) (band (f .scratch) (now (scratch .entry)) i) j (prepFrom f (now (preps .entry)) at i) e) (now (scratch .entry)) ⌝ }
+    ensures { λ r. ⌜ now (scratch .exit)
+        ≡ rebanded f (λ i. afterInput prime i (keyIn f (now (preps .entry)) i) (layoutOf (f .layout)) (band (f .scratch) (now (scratch .entry)) i) j (prepFrom f (now (preps .entry)) at i) e) (now (scratch .entry)) ⌝ }
 {
     let mut start = 0;
     let mut i = 0;
@@ -58,8 +59,11 @@ fn receive_products(
     e: u32,
     d: u32,
 )
-    requires { ⌜ Prepared f (now preps) at 6 × Banded f (now scratch) × EachBand f (now scratch) (λ i l. Multiplies (keyIn f (now preps) i) (layoutOf (f .layout)) l j x z (prepFrom f (now preps) at i) u e d) ⌝ }
-    ensures { λ r. ⌜ now (scratch .exit) ≡ rebanded f (λ i. afterMultiply prime i (keyIn f (now (preps .entry)) i) (layoutOf (f .layout)) (band (f .scratch) (now (scratch .entry)) i) j x z (prepFrom f (now (preps .entry)) at i) u e d) (now (scratch .entry)) ⌝ }
+    requires { ⌜ Prepared f (now preps) at 6
+        × Banded f (now scratch)
+        × EachBand f (now scratch) (λ i l. Multiplies (keyIn f (now preps) i) (layoutOf (f .layout)) l j x z (prepFrom f (now preps) at i) u e d) ⌝ }
+    ensures { λ r. ⌜ now (scratch .exit)
+        ≡ rebanded f (λ i. afterMultiply prime i (keyIn f (now (preps .entry)) i) (layoutOf (f .layout)) (band (f .scratch) (now (scratch .entry)) i) j x z (prepFrom f (now (preps .entry)) at i) u e d) (now (scratch .entry)) ⌝ }
 {
     let mut start = 0;
     let mut i = 0;
@@ -89,7 +93,8 @@ fn receive_products(
 // An out gate that names x; e is the sum of the shown shares.
 fn receive_outputs(f: Frame, x: usize, scratch: &mut [u32], e: u32)
     requires { ⌜ Banded f (now scratch) × (0 < f .layout .capacity) × EachBand f (now scratch) (λ i l. Held (layoutOf (f .layout)) l x) ⌝ }
-    ensures { λ r. ⌜ now (scratch .exit) ≡ rebanded f (λ i. afterOpenOutput prime (layoutOf (f .layout)) (band (f .scratch) (now (scratch .entry)) i) x e) (now (scratch .entry)) ⌝ }
+    ensures { λ r. ⌜ now (scratch .exit)
+        ≡ rebanded f (λ i. afterOpenOutput prime (layoutOf (f .layout)) (band (f .scratch) (now (scratch .entry)) i) x e) (now (scratch .entry)) ⌝ }
 {
     let mut start = 0;
     let mut i = 0;
@@ -103,8 +108,12 @@ fn receive_outputs(f: Frame, x: usize, scratch: &mut [u32], e: u32)
 
 // The linear gates from gate from on, up to the stop that they reach.
 fn settle_all(f: Frame, c: &[u32], from: usize, stop: usize, preps: &[u32], scratch: &mut [u32])
-    requires { ⌜ Prepared f (now preps) 0 1 × Banded f (now scratch) × EachBand f (now scratch) (λ i l. Settles (now c) (layoutOf (f .layout)) (keyIn f (now preps) i) l from) × (stop ≡ reach (now c) (f .layout .gates - from) from) ⌝ }
-    ensures { λ r. ⌜ now (scratch .exit) ≡ rebanded f (λ i. settle prime i (keyIn f (now (preps .entry)) i) (now (c .entry)) (layoutOf (f .layout)) (f .layout .gates - from) from (band (f .scratch) (now (scratch .entry)) i)) (now (scratch .entry)) ⌝ }
+    requires { ⌜ Prepared f (now preps) 0 1
+        × Banded f (now scratch)
+        × EachBand f (now scratch) (λ i l. Settles (now c) (layoutOf (f .layout)) (keyIn f (now preps) i) l from)
+        × (stop ≡ reach (now c) (f .layout .gates - from) from) ⌝ }
+    ensures { λ r. ⌜ now (scratch .exit)
+        ≡ rebanded f (λ i. settle prime i (keyIn f (now (preps .entry)) i) (now (c .entry)) (layoutOf (f .layout)) (f .layout .gates - from) from (band (f .scratch) (now (scratch .entry)) i)) (now (scratch .entry)) ⌝ }
 {
     if stop <= from {
         return;
@@ -141,8 +150,13 @@ pub fn receive_all(
     scratch: &mut [u32],
     heard: &[u32],
 ) -> Point
-    requires { ⌜ Lent (jointOf (f .parties) (now c) (now preps) (now inputs) []) f × (f .parties * f .scratch ≤ length (now scratch)) × ((i : ℕ) → i < f .parties → Receives (party (jointOf (f .parties) (now c) (now preps) (now inputs) []) i) (band (f .scratch) (now scratch) i) (f .layout) (siteOf (now c) s i) (roundOf r) (now heard)) × (gateOf g ≡ gate (now c) (s .point .gate)) × (k ≡ words (gateOf g) (roundOf r)) ⌝ }
-    ensures { λ x. ⌜ (pointOf x ≡ next prime (f .parties) (now (c .entry)) (s .point .gate) (roundOf r) (now (heard .entry))) × (now (scratch .exit) ≡ rebanded f (receivedBy (jointOf (f .parties) (now (c .entry)) (now (preps .entry)) (now (inputs .entry)) []) (stateOf f s (now (scratch .entry))) (roundOf r) (now (heard .entry))) (now (scratch .entry))) ⌝ }
+    requires { ⌜ Lent (jointOf (f .parties) (now c) (now preps) (now inputs) []) f
+        × (f .parties * f .scratch ≤ length (now scratch))
+        × ((i : ℕ) → i < f .parties → Receives (party (jointOf (f .parties) (now c) (now preps) (now inputs) []) i) (band (f .scratch) (now scratch) i) (f .layout) (siteOf (now c) s i) (roundOf r) (now heard))
+        × (gateOf g ≡ gate (now c) (s .point .gate))
+        × (k ≡ words (gateOf g) (roundOf r)) ⌝ }
+    ensures { λ x. ⌜ (pointOf x ≡ next prime (f .parties) (now (c .entry)) (s .point .gate) (roundOf r) (now (heard .entry)))
+        × (now (scratch .exit) ≡ rebanded f (receivedBy (jointOf (f .parties) (now (c .entry)) (now (preps .entry)) (now (inputs .entry)) []) (stateOf f s (now (scratch .entry))) (roundOf r) (now (heard .entry))) (now (scratch .entry))) ⌝ }
 {
     let from = s.point;
     let j = from.gate;

@@ -55,8 +55,13 @@ fn release(
     outputs: &mut [u32],
     at: usize,
 ) -> usize
-    requires { ⌜ Framed (f .parties) (now c) f × (f .scratch ≤ length (now scratch)) × Below (now heard) × (at ≤ length (now outputs)) × (releases (roundOf r) ≡ true → (f .parties ≤ length (now heard)) × (at < length (now outputs))) ⌝ }
-    ensures { λ k. ⌜ (k ≡ at + length (freed (f .parties) (now (c .entry)) (roundOf r) (band (f .scratch) (now (scratch .entry)) 0) (now (heard .entry)))) × (now (outputs .exit) ≡ writtenAt at (freed (f .parties) (now (c .entry)) (roundOf r) (band (f .scratch) (now (scratch .entry)) 0) (now (heard .entry))) (now (outputs .entry))) ⌝ }
+    requires { ⌜ Framed (f .parties) (now c) f
+        × (f .scratch ≤ length (now scratch))
+        × Below (now heard)
+        × (at ≤ length (now outputs))
+        × (releases (roundOf r) ≡ true → (f .parties ≤ length (now heard)) × (at < length (now outputs))) ⌝ }
+    ensures { λ k. ⌜ (k ≡ at + length (freed (f .parties) (now (c .entry)) (roundOf r) (band (f .scratch) (now (scratch .entry)) 0) (now (heard .entry))))
+        × (now (outputs .exit) ≡ writtenAt at (freed (f .parties) (now (c .entry)) (roundOf r) (band (f .scratch) (now (scratch .entry)) 0) (now (heard .entry))) (now (outputs .entry))) ⌝ }
 {
     if !is_release(r) {
         return at;
@@ -79,7 +84,12 @@ fn pass_gate(
     t: Tally,
     places: &mut [usize],
 ) -> Tally
-    requires { ⌜ Valid parties p (now c) × (parties ≤ mostParties) × (j < gates (now c)) × Tallied (now c) 0 j t × Placed parties (now c) j (now places) × Onward (now c) j next ⌝ }
+    requires { ⌜ Valid parties p (now c)
+        × (parties ≤ mostParties)
+        × (j < gates (now c))
+        × Tallied (now c) 0 j t
+        × Placed parties (now c) j (now places)
+        × Onward (now c) j next ⌝ }
     ensures { λ r. ⌜ Tallied (now (c .entry)) 0 next r × Placed parties (now (c .entry)) next (now (places .exit)) ⌝ }
 {
     if next <= j {
@@ -103,8 +113,10 @@ fn one_round(
     transcript: &mut [u32],
     outputs: &mut [u32],
 ) -> Course
-    requires { ⌜ Turning (jointOf (f .parties) (now c) (now preps) (now inputs) (now coefficients)) f s (roundOf r) (now scratch) (now transcript) (now outputs) × Placed (f .parties) (now c) (s .point .gate) (now places) ⌝ }
-    ensures { λ x. ⌜ Turned (jointOf (f .parties) (now (c .entry)) (now (preps .entry)) (now (inputs .entry)) (now (coefficients .entry))) f s (roundOf r) (now (scratch .entry)) (now (transcript .entry)) (now (outputs .entry)) x (now (scratch .exit)) (now (transcript .exit)) (now (outputs .exit)) × Placed (f .parties) (now (c .entry)) (x .point .gate) (now (places .exit)) ⌝ }
+    requires { ⌜ Turning (jointOf (f .parties) (now c) (now preps) (now inputs) (now coefficients)) f s (roundOf r) (now scratch) (now transcript) (now outputs)
+        × Placed (f .parties) (now c) (s .point .gate) (now places) ⌝ }
+    ensures { λ x. ⌜ Turned (jointOf (f .parties) (now (c .entry)) (now (preps .entry)) (now (inputs .entry)) (now (coefficients .entry))) f s (roundOf r) (now (scratch .entry)) (now (transcript .entry)) (now (outputs .entry)) x (now (scratch .exit)) (now (transcript .exit)) (now (outputs .exit))
+        × Placed (f .parties) (now (c .entry)) (x .point .gate) (now (places .exit)) ⌝ }
 {
     let here = s.point;
     let t = s.tally;
@@ -214,7 +226,8 @@ pub fn run(
     transcript: &mut [u32],
     outputs: &mut [u32],
 ) -> JointAnswer
-    requires { ⌜ Runnable (jointOf (f .parties) (now c) (now preps) (now inputs) (now coefficients)) f (now scratch) (now transcript) (now outputs) × Placed (f .parties) (now c) 0 (now places) ⌝ }
+    requires { ⌜ Runnable (jointOf (f .parties) (now c) (now preps) (now inputs) (now coefficients)) f (now scratch) (now transcript) (now outputs)
+        × Placed (f .parties) (now c) 0 (now places) ⌝ }
     ensures { λ a. ⌜ Ran (jointOf (f .parties) (now (c .entry)) (now (preps .entry)) (now (inputs .entry)) (now (coefficients .entry))) (now (scratch .entry)) (now (transcript .entry)) (now (outputs .entry)) a (now (scratch .exit)) (now (transcript .exit)) (now (outputs .exit)) ⌝ }
 {
     let mut s = origin();

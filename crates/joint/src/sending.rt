@@ -30,8 +30,13 @@ fn input_words(
     inputs: &[u32],
     out: &mut [u32],
 )
-    requires { ⌜ (f .parties ≤ mostParties) × Prepared f (now preps) at 3 × Below (now inputs) × (f .parties ≤ length (now places)) × (length (now out) ≡ f .parties) ⌝ }
-    ensures { λ r. ⌜ now (out .exit) ≡ joined (f .parties) (λ i. inputWord prime i owner (prepFrom f (now (preps .entry)) at i) (getD (now (inputs .entry)) (getD (now (places .entry)) i 0) 0) ∷ []) ⌝ }
+    requires { ⌜ (f .parties ≤ mostParties)
+        × Prepared f (now preps) at 3
+        × Below (now inputs)
+        × (f .parties ≤ length (now places))
+        × (length (now out) ≡ f .parties) ⌝ }
+    ensures { λ r. ⌜ now (out .exit)
+        ≡ joined (f .parties) (λ i. inputWord prime i owner (prepFrom f (now (preps .entry)) at i) (getD (now (inputs .entry)) (getD (now (places .entry)) i 0) 0) ∷ []) ⌝ }
 {
     let mut i = 0;
     while i < f.parties {
@@ -44,8 +49,12 @@ fn input_words(
 
 // The share that each party shows at an out gate into out, of the gate x that it names.
 fn output_words(f: Frame, x: usize, scratch: &[u32], out: &mut [u32])
-    requires { ⌜ (f .parties ≤ mostParties) × Banded f (now scratch) × EachBand f (now scratch) (λ i l. Held (layoutOf (f .layout)) l x) × (length (now out) ≡ f .parties) ⌝ }
-    ensures { λ r. ⌜ now (out .exit) ≡ joined (f .parties) (λ i. wire (layoutOf (f .layout)) (band (f .scratch) (now (scratch .entry)) i) x .share ∷ []) ⌝ }
+    requires { ⌜ (f .parties ≤ mostParties)
+        × Banded f (now scratch)
+        × EachBand f (now scratch) (λ i l. Held (layoutOf (f .layout)) l x)
+        × (length (now out) ≡ f .parties) ⌝ }
+    ensures { λ r. ⌜ now (out .exit)
+        ≡ joined (f .parties) (λ i. wire (layoutOf (f .layout)) (band (f .scratch) (now (scratch .entry)) i) x .share ∷ []) ⌝ }
 {
     let mut i = 0;
     while i < f.parties {
@@ -66,7 +75,12 @@ fn check_shares(
     scratch: &[u32],
     coefficients: &[u32],
 ) -> [u32; 8]
-    requires { ⌜ (f .parties ≤ mostParties) × Prepared f (now preps) 0 1 × Banded f (now scratch) × (u + k ≤ length (now coefficients)) × Below (now coefficients) × EachBand f (now scratch) (λ i l. (t : ℕ) → t < k → Opened (layoutOf (f .layout)) l t) ⌝ }
+    requires { ⌜ (f .parties ≤ mostParties)
+        × Prepared f (now preps) 0 1
+        × Banded f (now scratch)
+        × (u + k ≤ length (now coefficients))
+        × Below (now coefficients)
+        × EachBand f (now scratch) (λ i l. (t : ℕ) → t < k → Opened (layoutOf (f .layout)) l t) ⌝ }
     ensures { λ hs. ⌜ EachIs f (λ i. checkShare prime (layoutOf (f .layout)) (band (f .scratch) (now (scratch .entry)) i) k (keyIn f (now (preps .entry)) i) (part u (u + k) (now (coefficients .entry)))) hs ⌝ }
 {
     let v = u + k;
@@ -123,8 +137,12 @@ fn multiply_words(
     scratch: &[u32],
     out: &mut [u32],
 )
-    requires { ⌜ Prepared f (now preps) at 4 × Banded f (now scratch) × EachBand f (now scratch) (λ i l. Held (layoutOf (f .layout)) l x × Held (layoutOf (f .layout)) l z) × (length (now out) ≡ f .parties * 2) ⌝ }
-    ensures { λ r. ⌜ now (out .exit) ≡ joined (f .parties) (λ i. maskedFirst prime (layoutOf (f .layout)) (band (f .scratch) (now (scratch .entry)) i) x (prepFrom f (now (preps .entry)) at i) .share ∷ maskedSecond prime (layoutOf (f .layout)) (band (f .scratch) (now (scratch .entry)) i) z (prepFrom f (now (preps .entry)) at i) .share ∷ []) ⌝ }
+    requires { ⌜ Prepared f (now preps) at 4
+        × Banded f (now scratch)
+        × EachBand f (now scratch) (λ i l. Held (layoutOf (f .layout)) l x × Held (layoutOf (f .layout)) l z)
+        × (length (now out) ≡ f .parties * 2) ⌝ }
+    ensures { λ r. ⌜ now (out .exit)
+        ≡ joined (f .parties) (λ i. maskedFirst prime (layoutOf (f .layout)) (band (f .scratch) (now (scratch .entry)) i) x (prepFrom f (now (preps .entry)) at i) .share ∷ maskedSecond prime (layoutOf (f .layout)) (band (f .scratch) (now (scratch .entry)) i) z (prepFrom f (now (preps .entry)) at i) .share ∷ []) ⌝ }
 {
     let mut a = 0;
     let mut i = 0;
@@ -160,8 +178,11 @@ pub fn send_all(
     coefficients: &[u32],
     out: &mut [u32],
 ) -> [u32; 8]
-    requires { ⌜ Going (jointOf (f .parties) (now c) (now preps) (now inputs) (now coefficients)) f s (roundOf r) (now scratch) × Placed (f .parties) (now c) (s .point .gate) (now places) × (length (now out) ≡ f .parties * words (gate (now c) (s .point .gate)) (roundOf r)) ⌝ }
-    ensures { λ h. ⌜ ((i : ℕ) → i < f .parties → Is (step prime (jointOf (f .parties) (now (c .entry)) (now (preps .entry)) (now (inputs .entry)) (now (coefficients .entry))) (stateOf f s (now (scratch .entry))) (roundOf r) .held i) (getD h i 0)) × (now (out .exit) ≡ said prime (jointOf (f .parties) (now (c .entry)) (now (preps .entry)) (now (inputs .entry)) (now (coefficients .entry))) (stateOf f s (now (scratch .entry))) (roundOf r)) ⌝ }
+    requires { ⌜ Going (jointOf (f .parties) (now c) (now preps) (now inputs) (now coefficients)) f s (roundOf r) (now scratch)
+        × Placed (f .parties) (now c) (s .point .gate) (now places)
+        × (length (now out) ≡ f .parties * words (gate (now c) (s .point .gate)) (roundOf r)) ⌝ }
+    ensures { λ h. ⌜ ((i : ℕ) → i < f .parties → Is (step prime (jointOf (f .parties) (now (c .entry)) (now (preps .entry)) (now (inputs .entry)) (now (coefficients .entry))) (stateOf f s (now (scratch .entry))) (roundOf r) .held i) (getD h i 0))
+        × (now (out .exit) ≡ said prime (jointOf (f .parties) (now (c .entry)) (now (preps .entry)) (now (inputs .entry)) (now (coefficients .entry))) (stateOf f s (now (scratch .entry))) (roundOf r)) ⌝ }
 {
     let t = s.tally;
     let holds = s.held;

@@ -14,51 +14,61 @@ use Rattle.circuit.specs.Gate.{gate, gates}
 use Rattle.circuit.specs.Kind.{hasValue}
 use Rattle.circuit.specs.Count.{prepSize, capacity, inputCount, unchecked}
 use Rattle.circuit.specs.Round.{Round, Input, Multiply, CommitOpened, RevealOpened, OpenOutput, CommitOutput, RevealOutput, rounds, among, openedIn}
+use Rattle.circuit.specs.Accept.{askCircuit}
 use Rattle.circuit.specs.Valid.{Valid}
 use Rattle.circuit.proofs.Tests.{both-left, both-right}
 use Rattle.circuit.proofs.Verdicts.{ask-true, then-left, then-right, each-below, elements-below}
+use Rattle.circuit.proofs.Valid.{valid}
 use Rattle.circuit.proofs.Counts.{unchecked-fits}
 use Rattle.steps.specs.Scratch.{Slot, Share, Mac, Value, ValueMac, layout, scratchSize, read}
 use Rattle.steps.specs.Position.{Position, stageOccurs, occurs}
 use Rattle.steps.specs.Party.{Party}
-use Rattle.steps.specs.Code.{Below, Worked, Opened, Sited, Ready, Sends, Receives, layoutOf}
+use Rattle.steps.specs.Code.{AllBelow, Worked, Opened, Sited, Ready, Sends, Receives, layoutOf}
 use Rattle.steps.specs.declared.Layout.{Layout}
 use Rattle.steps.specs.declared.Site.{Site}
 use Rattle.party.specs.Ask.{fewestParties, mostParties, askParties, slotQuestion, askSlots, askWorked, askSendRound, askReceiveRound, askLent}
-use Rattle.party.proofs.Lending.{lent-split, setting-valid}
 
--- what 1 to 12 make sure of
-pub record Lends (P : Party) (l : List ℕ) : Type 0 where
-  pub valid : Valid (P .parties) p (P .circuit)
+-- what 1 to 12 make sure of, in a field of q elements
+pub record Lends (q : ℕ) (P : Party) (l : List ℕ) : Type 0 where
+  pub parties : askParties (P .parties) ≡ Accepted
+  pub circuit : askCircuit (P .parties) q (P .circuit) ≡ Accepted
+  pub valid : Valid (P .parties) q (P .circuit)
   pub prep-long : length (P .prep) ≡ prepSize (P .circuit)
-  pub prep-low : Below (P .prep)
+  pub prep-low : AllBelow q (P .prep)
   pub inputs-long : length (P .inputs) ≡ inputCount (P .circuit) (P .me)
-  pub inputs-low : Below (P .inputs)
+  pub inputs-low : AllBelow q (P .inputs)
   pub room : scratchSize (layout (P .circuit)) ≤ length l
 
 positive : 0 < p
 positive = omega arith
 
-pub lends : (P : Party) (l : List ℕ) → askLent p P l ≡ Accepted → Lends P l
-lends P l e =
-    let both = sym (lent-split P l) ∙ e in
-    let after-7 = then-right _ _ both in
+pub lends : {q : ℕ} → 0 < q → (P : Party) (l : List ℕ) → askLent q P l ≡ Accepted → Lends q P l
+unfolding askLent
+lends {q} some P l e =
+    let after-1 = then-right _ _ e in
+    let after-2 = then-right _ _ after-1 in
+    let after-7 = then-right _ _ after-2 in
     let after-8 = then-right _ _ after-7 in
     let after-9 = then-right _ _ after-8 in
     let after-10 = then-right _ _ after-9 in
     record {
-      valid = setting-valid (P .parties) (P .me) (P .circuit) (then-left _ _ both);
+      parties = then-left _ _ e;
+      circuit = then-left _ _ after-2;
+      valid = valid (P .parties) q (P .circuit) (then-left _ _ after-2);
       prep-long = eqb-true _ _ (ask-true 8 0 _ (then-left _ _ after-7));
-      prep-low = elements-below 9 p (P .prep) positive (then-left _ _ after-8);
+      prep-low = elements-below 9 q (P .prep) some (then-left _ _ after-8);
       inputs-long = eqb-true _ _ (ask-true 10 0 _ (then-left _ _ after-9));
-      inputs-low = elements-below 11 p (P .inputs) positive (then-left _ _ after-10);
+      inputs-low = elements-below 11 q (P .inputs) some (then-left _ _ after-10);
       room = leb-true _ _ (ask-true 12 0 _ (then-right _ _ after-10));
     }
+
+pub lends-prime : (P : Party) (l : List ℕ) → askLent p P l ≡ Accepted → Lends p P l
+lends-prime = lends positive
 
 -- question 1
 pub parties-few : (P : Party) (l : List ℕ) → askLent p P l ≡ Accepted → P .parties ≤ mostParties
 unfolding askParties
-parties-few P l e = leb-true _ _ (both-right (leb fewestParties (P .parties)) _ (ask-true 1 0 _ (then-left _ _ (then-left _ _ (sym (lent-split P l) ∙ e)))))
+parties-few P l e = leb-true _ _ (both-right (leb fewestParties (P .parties)) _ (ask-true 1 0 _ (lends-prime P l e .parties)))
 
 -- a wanted slot that passes question 15 is an element
 slot-low : (c l : List ℕ) (wanted : Bool) (s : Slot) → slotQuestion p c l wanted s ≡ Accepted → wanted ≡ true → read (layout c) l s < p
@@ -124,7 +134,7 @@ module _ (q : ℕ) (c : List ℕ) (at : Position) (e : occurs q c at ≡ true) w
   stage-occurs = both-right (ltb (at .gate) (gates c)) (stageOccurs c (at .gate) (at .stage)) (both-left _ _ e)
 
 -- what a step asks
-module _ (P : Party) (l : List ℕ) (y : Layout) (at : Site) (r : Round) (lent : Lends P l) (lay : layoutOf y ≡ layout (P .circuit)) (sited : Sited (P .circuit) (P .me) at)
+module _ (P : Party) (l : List ℕ) (y : Layout) (at : Site) (r : Round) (lent : Lends p P l) (lay : layoutOf y ≡ layout (P .circuit)) (sited : Sited (P .circuit) (P .me) at)
     (occurs : among r (rounds (P .circuit) (at .gate)) ≡ true) where
   pub ready : askWorked p (P .circuit) l (at .gate) r ≡ Accepted → Ready P l y at r
   ready e =

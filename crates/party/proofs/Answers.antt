@@ -20,7 +20,8 @@ use Rattle.steps.specs.Receive.{heardSum, passes, next}
 use Rattle.steps.proofs.Following.{passes-zero, passes-not, zero-passed, nonzero-stopped, aborted-holds}
 use Rattle.party.specs.Ask.{askLent, askSend, askReceive}
 use Rattle.party.specs.Entry.{Answer, Refusal, Next, Output, Abort, answer, releases, sendAnswer, receiveAnswer, outcome, nextPosition}
-use Rattle.party.proofs.Entries.{refused-answer, accepted-answer, receiving-at, half-decides}
+use Rattle.party.proofs.Entries.{refused-answer, accepted-answer, receiving-at}
+use Rattle.party.proofs.Halves.{half-decides}
 
 -- an answer that is no refusal is that of an accepted call
 pub answered : (v : Verdict) (a b : Answer) → answer v a ≡ b → ((number index : ℕ) → b ≡ Refusal number index → ⊥) → (v ≡ Accepted) × (a ≡ b)
@@ -80,7 +81,7 @@ module _ (O : Ops) (P : Party) (l : List ℕ) (at : Position) where
   -- "14 (a finished or stopped place has neither)": where 1 to 13 accept such a position, 14 refuses both halves
   module _ (ended : Ended (at .stage)) (ok : (askLent size P l then ask 13 0 (occurs size (P .circuit) at)) ≡ Accepted) where
     half : (v : Verdict) → (askLent size P l then ask 13 0 (occurs size (P .circuit) at) then v) ≡ v
-    half v = half-decides size P l at v (then-left _ _ ok) (ask-true 13 0 _ (then-right (askLent size P l) _ ok))
+    half v = sym (half-decides size P l at v (then-left _ _ ok) (ask-true 13 0 _ (then-right (askLent size P l) _ ok)) refl)
 
     pub ended-send-refused : (coefficients : List ℕ) (room : ℕ) → sendAnswer O P l at coefficients room ≡ Refusal 14 0
     unfolding sendAnswer askSend

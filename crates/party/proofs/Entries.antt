@@ -1,4 +1,4 @@
--- What an entry answers and leaves, by the question that decides.
+-- What an entry answers and leaves, by what its questions come to.
 -- Assumes nothing.
 use Prim.Native.Nat.{ℕ, suc, _-_}
 use mathlib.Core.Path.{_≡_, refl, sym, ap, _∙_}
@@ -8,14 +8,14 @@ use lib.ListN.{length}
 use lib.Dec.{ltb}
 use Rattle.circuit.specs.Gate.{gates}
 use Rattle.field.specs.Prime.{p, prime}
-use Rattle.circuit.specs.Verdict.{Verdict, Accepted, Refused, ask, _then_}
+use Rattle.circuit.specs.Verdict.{Verdict, Accepted, Refused}
 use Rattle.circuit.specs.Round.{Round, rounds, following}
 use Rattle.steps.specs.Scratch.{layout, read, Value}
-use Rattle.steps.specs.Position.{Position, Point, Stage, Send, Receive, Finished, Aborted, holding, start, keep, occurs, whenSending, whenReceiving, finished, aborted, begin, reach, enter, resume, proceed, follow}
+use Rattle.steps.specs.Position.{Position, Point, Stage, Send, Receive, Finished, Aborted, holding, start, keep, whenSending, whenReceiving, finished, aborted, begin, reach, enter, resume, proceed, follow}
 use Rattle.steps.specs.Party.{Party}
 use Rattle.steps.specs.Send.{sent, holds, overwrite}
 use Rattle.steps.specs.Receive.{passes, next, received}
-use Rattle.party.specs.Ask.{askLent, askSendRound, askReceiveRound, askSend, askReceive}
+use Rattle.party.specs.Ask.{askLent, askSend, askReceive}
 use Rattle.party.specs.Entry.{Answer, Refusal, Next, Output, Abort, answer, leave, releases, openAnswer, sendAnswer, sendOut, nextPosition, outcome, receiveAnswer, receiveScratch}
 use Rattle.party.specs.Code.{leadsBy, leadsTo}
 
@@ -45,24 +45,6 @@ pub receiving-at : (s : Stage) (r : Round) → s ≡ Receive r → {A : Type 0} 
 unfolding whenReceiving
 receiving-at s r e other f = rw e
 
--- the three parts of a call's questions: those of all that is lent, the position, and those of its half
-module _ (q : ℕ) (P : Party) (l : List ℕ) (at : Position) (half : Verdict) where
-  abbrev pub asked : Verdict
-  asked = askLent q P l then ask 13 0 (occurs q (P .circuit) at) then half
-
-  lent-refuses : {number index : ℕ} → askLent q P l ≡ Refused number index → asked ≡ Refused number index
-  unfolding _then_
-  lent-refuses e = rw e
-
-  module _ (e : askLent q P l ≡ Accepted) where
-    place-refuses : occurs q (P .circuit) at ≡ false → asked ≡ Refused 13 0
-    unfolding _then_ ask
-    place-refuses f = rw (e, f)
-
-    pub half-decides : occurs q (P .circuit) at ≡ true → asked ≡ half
-    unfolding _then_ ask
-    half-decides f = rw (e, f)
-
 module _ (P : Party) (l : List ℕ) where
   pub open-refused : {number index : ℕ} → askLent p P l ≡ Refused number index → Refusal number index ≡ openAnswer prime P l
   unfolding openAnswer
@@ -77,46 +59,22 @@ module _ (P : Party) (l : List ℕ) (at : Position) (coefficients out : List ℕ
   abbrev pub Sending : Answer → List ℕ → Type 0
   Sending a later = (a ≡ sendAnswer prime P l at coefficients (length out)) × (later ≡ sendOut prime P l at coefficients out)
 
-  send-refused : {number index : ℕ} → askSend p P l at coefficients (length out) ≡ Refused number index → Sending (Refusal number index) out
+  pub send-refused : {number index : ℕ} → askSend p P l at coefficients (length out) ≡ Refused number index → Sending (Refusal number index) out
   unfolding sendAnswer sendOut
   send-refused e = (refused-answer _ e, refused-leaves _ _ e)
 
-  pub send-not-lent : {number index : ℕ} → askLent p P l ≡ Refused number index → Sending (Refusal number index) out
-  unfolding askSend
-  send-not-lent e = send-refused (lent-refuses p P l at _ e)
-
-  module _ (e : askLent p P l ≡ Accepted) where
-    pub send-nowhere : occurs p (P .circuit) at ≡ false → Sending (Refusal 13 0) out
-    unfolding askSend
-    send-nowhere f = send-refused (place-refuses p P l at _ e f)
-
-    module _ (f : occurs p (P .circuit) at ≡ true) where
-      decided : askSend p P l at coefficients (length out) ≡ whenSending (at .stage) (Refused 14 0) (askSendRound p (P .circuit) l (at .gate) coefficients (length out))
-      unfolding askSend
-      decided = half-decides p P l at _ e f
-
-      pub send-not-sending : whenSending {A = Verdict} (at .stage) (Refused 14 0) (askSendRound p (P .circuit) l (at .gate) coefficients (length out)) ≡ Refused 14 0 → Sending (Refusal 14 0) out
-      send-not-sending h = send-refused (decided ∙ h)
-
-      module _ (r : Round) (g : at .stage ≡ Send r) where
-        sending : askSend p P l at coefficients (length out) ≡ askSendRound p (P .circuit) l (at .gate) coefficients (length out) r
-        sending = decided ∙ sending-at (at .stage) r g _ _
-
-        pub send-round-refused : {number index : ℕ} → askSendRound p (P .circuit) l (at .gate) coefficients (length out) r ≡ Refused number index → Sending (Refusal number index) out
-        send-round-refused h = send-refused (sending ∙ h)
-
-        pub send-done : {a : Answer} {later : List ℕ} → askSendRound p (P .circuit) l (at .gate) coefficients (length out) r ≡ Accepted
-            → a ≡ Next (record { gate = at .gate; stage = Receive r; held = holds prime P l (at .gate) r coefficients })
-            → later ≡ overwrite (sent prime P l (at .gate) (at .held) r) out
-            → Sending a later
-        unfolding sendAnswer sendOut
-        send-done h i j = (
-          i ∙ ap Next (sym (picked at (λ r. record { gate = at .gate; stage = Receive r; held = holds prime P l (at .gate) r coefficients }))) ∙ accepted-answer _ (sending ∙ h),
-          j ∙ ap (λ (ws : List ℕ). overwrite ws out) (sym (picked [] (sent prime P l (at .gate) (at .held)))) ∙ accepted-leaves _ _ (sending ∙ h),
-        )
-          where
-            picked : {A : Type 0} (other : A) (f : Round → A) → whenSending (at .stage) other f ≡ f r
-            picked other f = sending-at (at .stage) r g other f
+  pub send-done : {a : Answer} {later : List ℕ} (r : Round) → askSend p P l at coefficients (length out) ≡ Accepted → at .stage ≡ Send r
+      → a ≡ Next (record { gate = at .gate; stage = Receive r; held = holds prime P l (at .gate) r coefficients })
+      → later ≡ overwrite (sent prime P l (at .gate) (at .held) r) out
+      → Sending a later
+  unfolding sendAnswer sendOut
+  send-done r e g i j = (
+    i ∙ ap Next (sym (picked at (λ r. record { gate = at .gate; stage = Receive r; held = holds prime P l (at .gate) r coefficients }))) ∙ accepted-answer _ e,
+    j ∙ ap (λ (ws : List ℕ). overwrite ws out) (sym (picked [] (sent prime P l (at .gate) (at .held)))) ∙ accepted-leaves _ _ e,
+  )
+    where
+      picked : {A : Type 0} (other : A) (f : Round → A) → whenSending (at .stage) other f ≡ f r
+      picked other f = sending-at (at .stage) r g other f
 
 -- a stage that is no abort
 abbrev GoesOn : Stage → Type 0
@@ -177,40 +135,16 @@ module _ (P : Party) (l : List ℕ) (at : Position) (heard : List ℕ) where
   abbrev pub Receiving : Answer → List ℕ → Type 0
   Receiving a later = (a ≡ receiveAnswer prime P l at heard) × (later ≡ receiveScratch prime P l at heard)
 
-  receive-refused : {number index : ℕ} → askReceive p P l at heard ≡ Refused number index → Receiving (Refusal number index) l
+  pub receive-refused : {number index : ℕ} → askReceive p P l at heard ≡ Refused number index → Receiving (Refusal number index) l
   unfolding receiveAnswer receiveScratch
   receive-refused e = (refused-answer _ e, refused-leaves _ _ e)
 
-  pub receive-not-lent : {number index : ℕ} → askLent p P l ≡ Refused number index → Receiving (Refusal number index) l
-  unfolding askReceive
-  receive-not-lent e = receive-refused (lent-refuses p P l at _ e)
-
-  module _ (e : askLent p P l ≡ Accepted) where
-    pub receive-nowhere : occurs p (P .circuit) at ≡ false → Receiving (Refusal 13 0) l
-    unfolding askReceive
-    receive-nowhere f = receive-refused (place-refuses p P l at _ e f)
-
-    module _ (f : occurs p (P .circuit) at ≡ true) where
-      judged : askReceive p P l at heard ≡ whenReceiving (at .stage) (Refused 14 0) (askReceiveRound p (P .circuit) (P .parties) l (at .gate) heard)
-      unfolding askReceive
-      judged = half-decides p P l at _ e f
-
-      pub receive-not-receiving : whenReceiving {A = Verdict} (at .stage) (Refused 14 0) (askReceiveRound p (P .circuit) (P .parties) l (at .gate) heard) ≡ Refused 14 0 → Receiving (Refusal 14 0) l
-      receive-not-receiving h = receive-refused (judged ∙ h)
-
-      module _ (r : Round) (g : at .stage ≡ Receive r) where
-        receiving : askReceive p P l at heard ≡ askReceiveRound p (P .circuit) (P .parties) l (at .gate) heard r
-        receiving = judged ∙ receiving-at (at .stage) r g _ _
-
-        pub receive-round-refused : {number index : ℕ} → askReceiveRound p (P .circuit) (P .parties) l (at .gate) heard r ≡ Refused number index → Receiving (Refusal number index) l
-        receive-round-refused h = receive-refused (receiving ∙ h)
-
-        pub receive-done : {a : Answer} {later : List ℕ} → askReceiveRound p (P .circuit) (P .parties) l (at .gate) heard r ≡ Accepted
-            → a ≡ outcome prime P l (at .gate) (at .held) heard r
-            → later ≡ received prime P l (at .gate) r heard
-            → Receiving a later
-        unfolding receiveAnswer receiveScratch
-        receive-done h i j = (
-          i ∙ sym (receiving-at (at .stage) r g (Next at) (outcome prime P l (at .gate) (at .held) heard)) ∙ accepted-answer _ (receiving ∙ h),
-          j ∙ sym (receiving-at (at .stage) r g l (λ r. received prime P l (at .gate) r heard)) ∙ accepted-leaves _ _ (receiving ∙ h),
-        )
+  pub receive-done : {a : Answer} {later : List ℕ} (r : Round) → askReceive p P l at heard ≡ Accepted → at .stage ≡ Receive r
+      → a ≡ outcome prime P l (at .gate) (at .held) heard r
+      → later ≡ received prime P l (at .gate) r heard
+      → Receiving a later
+  unfolding receiveAnswer receiveScratch
+  receive-done r e g i j = (
+    i ∙ sym (receiving-at (at .stage) r g (Next at) (outcome prime P l (at .gate) (at .held) heard)) ∙ accepted-answer _ e,
+    j ∙ sym (receiving-at (at .stage) r g l (λ r. received prime P l (at .gate) r heard)) ∙ accepted-leaves _ _ e,
+  )

@@ -1,13 +1,13 @@
--- The two halves of a round, from what the entries have asked to what they answer and leave.
+-- The questions of a whole call, one after another: what they come to, what their acceptance gives, and what an accepted call leaves.
 -- Assumes nothing.
 use Prim.Native.Nat.{ℕ, _*_, _<_, _≤_}
-use mathlib.Core.Path.{_≡_, refl, ap, subst, _∙_}
-use mathlib.Core.Bool.{true}
+use mathlib.Core.Path.{_≡_, refl, sym, ap, subst, _∙_}
+use mathlib.Core.Bool.{true, false}
 use mathlib.Core.List.{List}
 use native.Mathlib.Omega.{arith}
 use lib.ListN.{length}
 use Rattle.field.specs.Prime.{p, prime}
-use Rattle.circuit.specs.Verdict.{Accepted, Refused}
+use Rattle.circuit.specs.Verdict.{Verdict, Accepted, Refused, ask, _then_}
 use Rattle.circuit.specs.Gate.{gateSize, gates}
 use Rattle.circuit.specs.Count.{capacity, unchecked}
 use Rattle.circuit.specs.Round.{Round, rounds, among}
@@ -16,17 +16,17 @@ use Rattle.steps.specs.Position as At
 use Rattle.steps.specs.Party.{Party}
 use Rattle.steps.specs.Send.{overwrite, sent, holds}
 use Rattle.steps.specs.Receive.{next, received}
-use Rattle.steps.specs.Code.{layoutOf, stageOf, Sited, Sends, Receives}
+use Rattle.steps.specs.Code.{layoutOf, stageOf, Sited, Ready}
 use Rattle.steps.specs.declared.Layout.{Layout}
 use Rattle.steps.specs.declared.Site.{Site}
-use Rattle.party.specs.Ask.{askSendRound, askReceiveRound}
+use Rattle.party.specs.Ask.{mostParties, askLent, askSendRound, askReceiveRound, askSend, askReceive}
 use Rattle.party.specs.Entry as E
-use Rattle.party.specs.Code.{positionOf, Asked, LentTo, RoundAt, leadsTo}
+use Rattle.party.specs.Code.{positionOf, Posed, lentOf, LentOk, Sendable, Receivable, leadsTo}
 use Rattle.party.specs.declared.Position.{Position}
+use Rattle.party.specs.declared.Lent as D
 use Rattle.circuit.proofs.Counts.{unchecked-fits}
-use Rattle.party.specs.Ask.{mostParties}
-use Rattle.party.proofs.Accepted.{Lends, lends, parties-few, gate-occurs, stage-occurs, entries-fit, sends, receives}
-use Rattle.party.proofs.Entries.{Sending, send-round-refused, send-done, Receiving, receive-round-refused, receive-done, outcome-is}
+use Rattle.party.proofs.Accepted.{Lends, lends-prime, parties-few, gate-occurs, stage-occurs, entries-fit, sends, receives}
+use Rattle.party.proofs.Entries.{sending-at, receiving-at, Sending, send-done, Receiving, receive-done, outcome-is}
 
 pub lay-gates : (c : List ℕ) (y : Layout) → layoutOf y ≡ layout c → y .gates ≡ gates c
 unfolding layoutOf layout
@@ -36,12 +36,49 @@ pub lay-capacity : (c : List ℕ) (y : Layout) → layoutOf y ≡ layout c → y
 unfolding layoutOf layout
 lay-capacity c y e = ap (λ z. z .capacity) e
 
+-- the three parts of a call's questions: those of all that is lent, the position, and those of its half
+module _ (q : ℕ) (P : Party) (l : List ℕ) (at : At.Position) (half : Verdict) where
+  abbrev pub asked : Verdict
+  asked = askLent q P l then ask 13 0 (At.occurs q (P .circuit) at) then half
+
+  pub lent-refuses : {number index : ℕ} → askLent q P l ≡ Refused number index → Refused number index ≡ asked
+  unfolding _then_
+  lent-refuses e = rw e
+
+  module _ (e : askLent q P l ≡ Accepted) where
+    pub place-refuses : At.occurs q (P .circuit) at ≡ false → Refused 13 0 ≡ asked
+    unfolding _then_ ask
+    place-refuses f = rw (e, f)
+
+    pub half-decides : {v : Verdict} → At.occurs q (P .circuit) at ≡ true → v ≡ half → v ≡ asked
+    unfolding _then_ ask
+    half-decides f g = rw (e, f) g
+
+-- what a call has once 1 to 12 accept: the layout, and the site of the position's gate if there is such a gate
+pub record LentTo (P : Party) (l : List ℕ) (y : Layout) (site : Site) (gate : ℕ) : Type 0 where
+  pub accepted : askLent p P l ≡ Accepted
+  pub lay : layoutOf y ≡ layout (P .circuit)
+  pub here : site .gate ≡ gate
+  pub sited : gate < gates (P .circuit) → Sited (P .circuit) (P .me) site
+
+pub lent-to : (P : Party) (l : List ℕ) (gate : ℕ) {x : D.Lent} {y : Layout} {site : Site}
+    → lentOf x ≡ askLent p P l → LentOk (P .circuit) (P .me) gate x → x ≡ D.Lent.Accepted y site → LentTo P l y site gate
+unfolding lentOf
+lent-to P l gate {y} {site} e h g =
+    let ok = (rw g at h) in
+    record { accepted = sym e ∙ ap lentOf g; lay = ok .0; here = ok .1; sited = ok .2 }
+
+-- and once the position can occur
+pub record RoundAt (P : Party) (l : List ℕ) (y : Layout) (site : Site) (at : Position) : Type 0 where
+  pub lent : LentTo P l y site (at .gate)
+  pub can : At.occurs p (P .circuit) (positionOf at) ≡ true
+
 module _ (P : Party) (l : List ℕ) (y : Layout) (site : Site) where
   -- what question 13 asks
   pub can-asks : (j : ℕ) → LentTo P l y site j
       → (gateSize * y .gates ≤ length (P .circuit)) × (y .gates ≡ gates (P .circuit)) × (j < y .gates → site .unchecked ≡ unchecked (P .circuit) j)
   can-asks j h = (
-    omega (arith, lends P l (h .accepted) .valid .whole, count),
+    omega (arith, lends-prime P l (h .accepted) .valid .whole, count),
     count,
     λ less. subst (λ (k : ℕ). site .unchecked ≡ unchecked (P .circuit) k) (h .here) (h .sited (omega (arith, count)) .unchecked),
   )
@@ -49,23 +86,23 @@ module _ (P : Party) (l : List ℕ) (y : Layout) (site : Site) where
       count : y .gates ≡ gates (P .circuit)
       count = lay-gates (P .circuit) y (h .lay)
 
+  pub few-parties : (j : ℕ) → LentTo P l y site j → P .parties ≤ mostParties
+  few-parties j h = parties-few P l (h .accepted)
+
+  -- the first opened entry can be read
+  pub output-slot : {r : Round} → Ready P l y site r → (scratchSize (layoutOf y) ≤ length l) × (0 < y .capacity)
+  output-slot h = (rw (h .lay) (h .room), rw (lay-capacity (P .circuit) y (h .lay)) (omega (arith, unchecked-fits (P .circuit) 0 (omega arith))))
+
   module _ (at : Position) (h : RoundAt P l y site at) where
-    lent : Lends P l
-    lent = lends P l (h .lent .accepted)
+    lent : Lends p P l
+    lent = lends-prime P l (h .lent .accepted)
 
     there : Sited (P .circuit) (P .me) site
     unfolding positionOf
     there = h .lent .sited (gate-occurs p (P .circuit) (positionOf at) (h .can))
 
-    -- the first opened entry can be read
-    pub output-slot : (scratchSize (layoutOf y) ≤ length l) × (0 < y .capacity)
-    output-slot = (rw (h .lent .lay) (lent .room), rw (lay-capacity (P .circuit) y (h .lent .lay)) (omega (arith, unchecked-fits (P .circuit) 0 (omega arith))))
-
-    pub few-parties : P .parties ≤ mostParties
-    few-parties = parties-few P l (h .lent .accepted)
-
     -- what questions 15 to 21 ask
-    pub round-asks : (r : Round) → Asked (P .circuit) l y site r
+    pub round-asks : (r : Round) → Posed (P .circuit) l y site r
     round-asks r =
         record {
           laid = record { whole = lent .valid .whole; few = lent .valid .few; lay = h .lent .lay; room = lent .room };
@@ -87,43 +124,59 @@ module _ (P : Party) (l : List ℕ) (y : Layout) (site : Site) where
       unfolding At.stageOccurs
       receiving-occurs g = rw (h .lent .here) (rw g at stands)
 
-      module _ (g : stageOf (at .stage) ≡ At.Send r) (coefficients : List ℕ) where
-        pub half-sends : (room held : ℕ) → askSendRound p (P .circuit) l (site .gate) coefficients room r ≡ Accepted → Sends P l y site r held coefficients room
-        half-sends room held e = sends P l y site r lent (h .lent .lay) there (sending-occurs g) held coefficients room e
+      -- all questions of a call, by those of its round
+      module _ (g : stageOf (at .stage) ≡ At.Send r) (coefficients : List ℕ) (room : ℕ) where
+        pub send-asked : {v : Verdict} → v ≡ askSendRound p (P .circuit) l (site .gate) coefficients room r → v ≡ askSend p P l (positionOf at) coefficients room
+        unfolding positionOf askSend
+        send-asked e =
+            half-decides p P l (positionOf at) _ (h .lent .accepted) (h .can)
+            (e ∙ ap (λ (k : ℕ). askSendRound p (P .circuit) l k coefficients room r) (h .lent .here) ∙ sym (sending-at (stageOf (at .stage)) r g _ _))
 
-      module _ (g : stageOf (at .stage) ≡ At.Send r) (coefficients out : List ℕ) where
-        pub sent-refused : {number index : ℕ} → askSendRound p (P .circuit) l (site .gate) coefficients (length out) r ≡ Refused number index
-            → Sending P l (positionOf at) coefficients out (E.Refusal number index) out
-        unfolding positionOf
-        sent-refused e = send-round-refused P l (positionOf at) coefficients out (h .lent .accepted) (h .can) r g (rw (h .lent .here) at e)
-
-        pub sent-done : {held : ℕ} {later : List ℕ} → askSendRound p (P .circuit) l (site .gate) coefficients (length out) r ≡ Accepted
-            → held ≡ holds prime P l (site .gate) r coefficients
-            → later ≡ overwrite (sent prime P l (site .gate) (at .held) r) out
-            → Sending P l (positionOf at) coefficients out (E.Next (record { gate = at .gate; stage = At.Receive r; held = held })) later
-        unfolding positionOf
-        sent-done e i j =
-            send-done P l (positionOf at) coefficients out (h .lent .accepted) (h .can) r g (rw (h .lent .here) at e)
-            (rw (i ∙ ap (λ (k : ℕ). holds prime P l k r coefficients) (h .lent .here)) refl)
-            (j ∙ ap (λ (k : ℕ). overwrite (sent prime P l k (at .held) r) out) (h .lent .here))
+        pub sendable : askSendRound p (P .circuit) l (site .gate) coefficients room r ≡ Accepted → Sendable P l at coefficients room y site r
+        sendable e =
+            record {
+              here = h .lent .here;
+              half = g;
+              sends = sends P l y site r lent (h .lent .lay) there (sending-occurs g) (at .held) coefficients room e;
+            }
 
       module _ (g : stageOf (at .stage) ≡ At.Receive r) (heard : List ℕ) where
-        pub half-receives : askReceiveRound p (P .circuit) (P .parties) l (site .gate) heard r ≡ Accepted → Receives P l y site r heard
-        half-receives e = receives P l y site r lent (h .lent .lay) there (receiving-occurs g) heard e
+        pub receive-asked : {v : Verdict} → v ≡ askReceiveRound p (P .circuit) (P .parties) l (site .gate) heard r → v ≡ askReceive p P l (positionOf at) heard
+        unfolding positionOf askReceive
+        receive-asked e =
+            half-decides p P l (positionOf at) _ (h .lent .accepted) (h .can)
+            (e ∙ ap (λ (k : ℕ). askReceiveRound p (P .circuit) (P .parties) l k heard r) (h .lent .here) ∙ sym (receiving-at (stageOf (at .stage)) r g _ _))
 
-        pub received-refused : {number index : ℕ} → askReceiveRound p (P .circuit) (P .parties) l (site .gate) heard r ≡ Refused number index
-            → Receiving P l (positionOf at) heard (E.Refusal number index) l
-        unfolding positionOf
-        received-refused e = receive-round-refused P l (positionOf at) heard (h .lent .accepted) (h .can) r g (rw (h .lent .here) at e)
+        pub receivable : askReceiveRound p (P .circuit) (P .parties) l (site .gate) heard r ≡ Accepted → Receivable P l at heard y site r
+        receivable e =
+            record {
+              here = h .lent .here;
+              half = g;
+              receives = receives P l y site r lent (h .lent .lay) there (receiving-occurs g) heard e;
+            }
 
-        pub received-done : {output : ℕ} {x : At.Point} {a : E.Answer} {later : List ℕ} → askReceiveRound p (P .circuit) (P .parties) l (site .gate) heard r ≡ Accepted
-            → output ≡ read (layoutOf y) l (Value 0)
-            → x ≡ next prime (P .parties) (P .circuit) (site .gate) r heard
-            → a ≡ leadsTo r (at .held) output x
-            → later ≡ received prime P l (site .gate) r heard
-            → Receiving P l (positionOf at) heard a later
-        unfolding positionOf
-        received-done e o x a j =
-            receive-done P l (positionOf at) heard (h .lent .accepted) (h .can) r g (rw (h .lent .here) at e)
-            (a ∙ rw (o, x, h .lent .lay, h .lent .here) (outcome-is P l (at .gate) (at .held) heard r))
-            (j ∙ ap (λ (k : ℕ). received prime P l k r heard) (h .lent .here))
+  -- an accepted call, once its step is done
+  module _ (at : Position) (r : Round) where
+    module _ (coefficients out : List ℕ) (s : Sendable P l at coefficients (length out) y site r) where
+      pub sent-done : {held : ℕ} {later : List ℕ} → askSend p P l (positionOf at) coefficients (length out) ≡ Accepted
+          → held ≡ holds prime P l (site .gate) r coefficients
+          → later ≡ overwrite (sent prime P l (site .gate) (at .held) r) out
+          → Sending P l (positionOf at) coefficients out (E.Next (record { gate = at .gate; stage = At.Receive r; held = held })) later
+      unfolding positionOf
+      sent-done e i j =
+          send-done P l (positionOf at) coefficients out r e (s .half)
+          (rw (i ∙ ap (λ (k : ℕ). holds prime P l k r coefficients) (s .here)) refl)
+          (j ∙ ap (λ (k : ℕ). overwrite (sent prime P l k (at .held) r) out) (s .here))
+
+    module _ (heard : List ℕ) (s : Receivable P l at heard y site r) where
+      pub received-done : {output : ℕ} {x : At.Point} {a : E.Answer} {later : List ℕ} → askReceive p P l (positionOf at) heard ≡ Accepted
+          → output ≡ read (layoutOf y) l (Value 0)
+          → x ≡ next prime (P .parties) (P .circuit) (site .gate) r heard
+          → a ≡ leadsTo r (at .held) output x
+          → later ≡ received prime P l (site .gate) r heard
+          → Receiving P l (positionOf at) heard a later
+      unfolding positionOf
+      received-done e o x a j =
+          receive-done P l (positionOf at) heard r e (s .half)
+          (a ∙ rw (o, x, s .receives .ready .lay, s .here) (outcome-is P l (at .gate) (at .held) heard r))
+          (j ∙ ap (λ (k : ℕ). received prime P l k r heard) (s .here))

@@ -8,5 +8,6 @@ pub mod Entries
 pub mod Lending
 pub mod Accepted
 pub mod Halves
+pub mod Passing
 pub mod Answers
 pub mod Returned

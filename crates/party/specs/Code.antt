@@ -5,27 +5,27 @@ use mathlib.Core.Path.{_≡_}
 use mathlib.Core.Bool.{Bool, true, cond}
 use mathlib.Core.List.{List}
 use lib.ListN.{length}
-use Rattle.field.specs.Prime.{p}
 use Rattle.circuit.specs.Verdict as Q
 use Rattle.circuit.specs.Gate.{gateSize, gate, gates}
 use Rattle.circuit.specs.Kind.{hasValue}
 use Rattle.circuit.specs.Count.{capacity, unchecked}
 use Rattle.circuit.specs.Round.{Round, openedIn}
 use Rattle.circuit.specs.Accept.{mostGates}
+use Rattle.circuit.specs.Code.{roundOf}
 use Rattle.steps.specs.Scratch as S
-use Rattle.steps.specs.Position as P
-use Rattle.steps.specs.Position.{occurs}
+use Rattle.steps.specs.Position as At
 use Rattle.steps.specs.Party.{Party}
-use Rattle.steps.specs.Code.{layoutOf, stageOf, Sited}
+use Rattle.steps.specs.Code.{layoutOf, stageOf, Sited, Sends, Receives}
 use Rattle.steps.specs.declared.Layout.{Layout}
 use Rattle.steps.specs.declared.Site.{Site}
-use Rattle.party.specs.Ask.{askLent}
 use Rattle.party.specs.Entry as E
 use Rattle.party.specs.declared.Sort.{Sort}
 use Rattle.party.specs.declared.Sort.the-variants.{Shares, Macs, Values, ValueMacs}
 use Rattle.party.specs.declared.Position.{Position}
 use Rattle.party.specs.declared.Answer.{Answer}
 use Rattle.party.specs.declared.Answer.the-variants.{Refusal, Next, Output, Abort}
+use Rattle.party.specs.declared.Asked.{Asked}
+use Rattle.party.specs.declared.Asked.the-variants.{Refused as AskedRefused, Accepted as AskedAccepted}
 use Rattle.party.specs.declared.Lent.{Lent}
 use Rattle.party.specs.declared.Lent.the-variants.{Refused as LentRefused, Accepted as LentAccepted}
 
@@ -42,7 +42,7 @@ wantedOf c Macs j = hasValue (gate c j)
 wantedOf c Values t = true
 wantedOf c ValueMacs t = true
 
-unfoldable pub positionOf : Position → P.Position
+unfoldable pub positionOf : Position → At.Position
 positionOf x = record { gate = x .gate; stage = stageOf (x .stage); held = x .held }
 
 -- a refusal's number and index, the next position, an output with it, an abort with it
@@ -60,7 +60,7 @@ pub record Laid (c l : List ℕ) (y : Layout) : Type 0 where
   pub room : S.scratchSize (S.layout c) ≤ length l
 
 -- and of a round's questions: the site is the gate's, and the opened entries fit
-pub record Asked (c l : List ℕ) (y : Layout) (at : Site) (r : Round) : Type 0 where
+pub record Posed (c l : List ℕ) (y : Layout) (at : Site) (r : Round) : Type 0 where
   pub laid : Laid c l y
   pub within : at .gate < gates c
   pub waiting : at .unchecked ≡ unchecked c (at .gate)
@@ -76,24 +76,36 @@ abbrev pub LentOk : List ℕ → ℕ → ℕ → Lent → Type 0
 LentOk c i j (LentRefused number index) = Unit {0}
 LentOk c i j (LentAccepted y at) = (layoutOf y ≡ S.layout c) × (at .gate ≡ j) × (j < gates c → Sited c i at)
 
--- what an entry has once 1 to 12 accept: the layout, and the site of the position's gate if there is such a gate
-pub record LentTo (P : Party) (l : List ℕ) (y : Layout) (site : Site) (gate : ℕ) : Type 0 where
-  pub accepted : askLent p P l ≡ Q.Accepted
-  pub lay : layoutOf y ≡ S.layout (P .circuit)
-  pub here : site .gate ≡ gate
-  pub sited : gate < gates (P .circuit) → Sited (P .circuit) (P .me) site
+-- what all questions of a sending or a receiving come to
+unfoldable pub askedOf : Asked → Q.Verdict
+askedOf (AskedRefused number index) = Q.Refused number index
+askedOf (AskedAccepted y at r) = Q.Accepted
 
--- and once the position can occur
-pub record RoundAt (P : Party) (l : List ℕ) (y : Layout) (site : Site) (at : Position) : Type 0 where
-  pub lent : LentTo P l y site (at .gate)
-  pub can : occurs p (P .circuit) (positionOf at) ≡ true
+-- where they accept: the round of the position, and what its step asks
+pub record Sendable (P : Party) (l : List ℕ) (at : Position) (coefficients : List ℕ) (room : ℕ) (y : Layout) (site : Site) (r : Round) : Type 0 where
+  pub here : site .gate ≡ at .gate
+  pub half : stageOf (at .stage) ≡ At.Send r
+  pub sends : Sends P l y site r (at .held) coefficients room
+
+abbrev pub SendOk : Party → List ℕ → Position → List ℕ → ℕ → Asked → Type 0
+SendOk P l at coefficients room (AskedRefused number index) = Unit {0}
+SendOk P l at coefficients room (AskedAccepted y site r) = Sendable P l at coefficients room y site (roundOf r)
+
+pub record Receivable (P : Party) (l : List ℕ) (at : Position) (heard : List ℕ) (y : Layout) (site : Site) (r : Round) : Type 0 where
+  pub here : site .gate ≡ at .gate
+  pub half : stageOf (at .stage) ≡ At.Receive r
+  pub receives : Receives P l y site r heard
+
+abbrev pub ReceiveOk : Party → List ℕ → Position → List ℕ → Asked → Type 0
+ReceiveOk P l at heard (AskedRefused number index) = Unit {0}
+ReceiveOk P l at heard (AskedAccepted y site r) = Receivable P l at heard y site (roundOf r)
 
 -- the answer by the point that follows round r: an abort, or else that point, with the output where r releases one
-unfoldable pub leadsBy : Round → ℕ → P.Position → P.Stage → E.Answer
-leadsBy r output at (P.Send s) = cond (E.releases r) (E.Output output at) (E.Next at)
-leadsBy r output at (P.Receive s) = cond (E.releases r) (E.Output output at) (E.Next at)
-leadsBy r output at P.Finished = cond (E.releases r) (E.Output output at) (E.Next at)
-leadsBy r output at P.Aborted = E.Abort at
+unfoldable pub leadsBy : Round → ℕ → At.Position → At.Stage → E.Answer
+leadsBy r output at (At.Send s) = cond (E.releases r) (E.Output output at) (E.Next at)
+leadsBy r output at (At.Receive s) = cond (E.releases r) (E.Output output at) (E.Next at)
+leadsBy r output at At.Finished = cond (E.releases r) (E.Output output at) (E.Next at)
+leadsBy r output at At.Aborted = E.Abort at
 
-unfoldable pub leadsTo : Round → ℕ → ℕ → P.Point → E.Answer
-leadsTo r held output x = leadsBy r output (P.holding x (P.keep r held)) (x .stage)
+unfoldable pub leadsTo : Round → ℕ → ℕ → At.Point → E.Answer
+leadsTo r held output x = leadsBy r output (At.holding x (At.keep r held)) (x .stage)

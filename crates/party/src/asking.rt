@@ -1,4 +1,5 @@
 // The questions at a party's entries.
+use crate::Asked;
 use crate::Lent;
 use crate::Position;
 use crate::Sort;
@@ -24,10 +25,11 @@ ghost use Rattle.circuit.specs.Accept.{askCircuit};
 ghost use Rattle.circuit.specs.Code.{verdictOf, roundOf};
 ghost use Rattle.steps.specs.Scratch.{layout};
 ghost use Rattle.steps.specs.Position.{mayHold, stageOccurs, occurs};
+ghost use Rattle.steps.specs.Party.{partyOf};
 ghost use Rattle.steps.specs.Send.{mark};
 ghost use Rattle.steps.specs.Code.{slotOf, stageOf, Within};
-ghost use Rattle.party.specs.Ask.{askParties, slotQuestion, askSlots, askWorked, askSendRound, askReceiveRound, askLent};
-ghost use Rattle.party.specs.Code.{sortOf, wantedOf, positionOf, Laid, Asked, lentOf, LentOk};
+ghost use Rattle.party.specs.Ask.{askParties, slotQuestion, askSlots, askWorked, askSendRound, askReceiveRound, askLent, askSend, askReceive};
+ghost use Rattle.party.specs.Code.{sortOf, wantedOf, positionOf, Laid, Posed, lentOf, LentOk, askedOf, SendOk, ReceiveOk};
 
 const FEWEST_PARTIES: usize = 2;
 
@@ -110,7 +112,12 @@ pub fn ask_lists(
     room: usize,
     scratch_size: usize,
 ) -> Verdict
-    ensures { λ r. ⌜ verdictOf r ≡ (ask 8 0 (eqb (length (now (prep .entry))) «prep_size») then elements 9 p (now (prep .entry)) then ask 10 0 (eqb (length (now (inputs .entry))) «input_count») then elements 11 p (now (inputs .entry)) then ask 12 0 (leb «scratch_size» room)) ⌝ }
+    ensures { λ r. ⌜ verdictOf r
+        ≡ (ask 8 0 (eqb (length (now (prep .entry))) «prep_size»)
+        then elements 9 p (now (prep .entry))
+        then ask 10 0 (eqb (length (now (inputs .entry))) «input_count»)
+        then elements 11 p (now (inputs .entry))
+        then ask 12 0 (leb «scratch_size» room)) ⌝ }
 {
     if prep.len() != prep_size {
         return Verdict::Refused {
@@ -191,7 +198,7 @@ fn stage_occurs(c: &[u32], count: usize, j: usize, waiting: usize, stage: Stage)
 }
 
 // Question 13.
-pub fn can_occur(c: &[u32], count: usize, waiting: usize, at: Position) -> bool
+fn can_occur(c: &[u32], count: usize, waiting: usize, at: Position) -> bool
     requires { ⌜ (gateSize * count ≤ length (now c)) × (count ≡ gates (now c)) × (at .gate < count → waiting ≡ unchecked (now c) (at .gate)) ⌝ }
     ensures { λ b. ⌜ b ≡ occurs p (now (c .entry)) (positionOf at) ⌝ }
 {
@@ -271,7 +278,7 @@ fn ask_slots(c: &[u32], l: &[u32], y: Layout, k: usize, sort: Sort) -> Verdict
 
 // Question 15: the gates before j, and the opened entries that are not yet checked.
 fn ask_worked(c: &[u32], l: &[u32], y: Layout, at: Site, r: Round) -> Verdict
-    requires { ⌜ Asked (now c) (now l) y at (roundOf r) ⌝ }
+    requires { ⌜ Posed (now c) (now l) y at (roundOf r) ⌝ }
     ensures { λ v. ⌜ verdictOf v ≡ askWorked p (now (c .entry)) (now (l .entry)) (at .gate) (roundOf r) ⌝ }
 {
     let j = at.gate;
@@ -298,7 +305,7 @@ fn ask_worked(c: &[u32], l: &[u32], y: Layout, at: Site, r: Round) -> Verdict
 }
 
 // Questions 15 to 18.
-pub fn ask_send_round(
+fn ask_send_round(
     c: &[u32],
     l: &[u32],
     y: Layout,
@@ -307,7 +314,7 @@ pub fn ask_send_round(
     coefficients: &[u32],
     room: usize,
 ) -> Verdict
-    requires { ⌜ Asked (now c) (now l) y at (roundOf r) ⌝ }
+    requires { ⌜ Posed (now c) (now l) y at (roundOf r) ⌝ }
     ensures { λ v. ⌜ verdictOf v ≡ askSendRound p (now (c .entry)) (now (l .entry)) (at .gate) (now (coefficients .entry)) room (roundOf r) ⌝ }
 {
     match ask_worked(c, l, y, at, r) {
@@ -338,7 +345,7 @@ pub fn ask_send_round(
 }
 
 // Questions 15 and 19 to 21.
-pub fn ask_receive_round(
+fn ask_receive_round(
     parties: usize,
     c: &[u32],
     l: &[u32],
@@ -347,7 +354,7 @@ pub fn ask_receive_round(
     r: Round,
     heard: &[u32],
 ) -> Verdict
-    requires { ⌜ Asked (now c) (now l) y at (roundOf r) × (parties ≤ 8) ⌝ }
+    requires { ⌜ Posed (now c) (now l) y at (roundOf r) × (parties ≤ 8) ⌝ }
     ensures { λ v. ⌜ verdictOf v ≡ askReceiveRound p (now (c .entry)) parties (now (l .entry)) (at .gate) (now (heard .entry)) (roundOf r) ⌝ }
 {
     match ask_worked(c, l, y, at, r) {
@@ -390,8 +397,8 @@ pub fn ask_lent(
     l: &[u32],
     gate: usize,
 ) -> Lent
-    ensures { λ r. ⌜ (lentOf r ≡ askLent p (record { parties = parties; me = me; circuit = now (c .entry); prep = now (prep .entry); inputs = now (inputs .entry) }) (now (l .entry)))
-        × LentOk (now (c .entry)) me gate r ⌝ }
+    ensures asked { λ r. ⌜ lentOf r ≡ askLent p (partyOf parties me (now (c .entry)) (now (prep .entry)) (now (inputs .entry))) (now (l .entry)) ⌝ }
+    ensures accepted { λ r. ⌜ LentOk (now (c .entry)) me gate r ⌝ }
 {
     match ask_setting(parties, me, c) {
         Verdict::Refused { number, index } => {
@@ -423,4 +430,105 @@ pub fn ask_lent(
             input: here.inputs,
         },
     )
+}
+
+// All questions of sending.
+pub fn ask_send(
+    parties: usize,
+    me: usize,
+    c: &[u32],
+    prep: &[u32],
+    inputs: &[u32],
+    l: &[u32],
+    at: Position,
+    coefficients: &[u32],
+    room: usize,
+) -> Asked
+    ensures asked { λ x. ⌜ askedOf x
+        ≡ askSend p (partyOf parties me (now (c .entry)) (now (prep .entry)) (now (inputs .entry)))
+        (now (l .entry)) (positionOf at) (now (coefficients .entry)) room ⌝ }
+    ensures accepted { λ x. ⌜ SendOk (partyOf parties me (now (c .entry)) (now (prep .entry)) (now (inputs .entry)))
+        (now (l .entry)) at (now (coefficients .entry)) room x ⌝ }
+{
+    let gate = at.gate;
+    match ask_lent(parties, me, c, prep, inputs, l, gate) {
+        Lent::Refused { number, index } => Asked::Refused { number, index },
+        Lent::Accepted(y, site) => {
+            if !can_occur(c, y.gates, site.unchecked, at) {
+                return Asked::Refused {
+                    number: 13,
+                    index: 0,
+                };
+            }
+            let stage = at.stage;
+            match stage {
+                Stage::Send(r) => match ask_send_round(c, l, y, site, r, coefficients, room) {
+                    Verdict::Refused { number, index } => Asked::Refused { number, index },
+                    Verdict::Accepted => Asked::Accepted(y, site, r),
+                },
+                Stage::Receive(_) => Asked::Refused {
+                    number: 14,
+                    index: 0,
+                },
+                Stage::Finished => Asked::Refused {
+                    number: 14,
+                    index: 0,
+                },
+                Stage::Aborted => Asked::Refused {
+                    number: 14,
+                    index: 0,
+                },
+            }
+        }
+    }
+}
+
+// All questions of receiving.
+pub fn ask_receive(
+    parties: usize,
+    me: usize,
+    c: &[u32],
+    prep: &[u32],
+    inputs: &[u32],
+    l: &[u32],
+    at: Position,
+    heard: &[u32],
+) -> Asked
+    ensures asked { λ x. ⌜ askedOf x
+        ≡ askReceive p (partyOf parties me (now (c .entry)) (now (prep .entry)) (now (inputs .entry)))
+        (now (l .entry)) (positionOf at) (now (heard .entry)) ⌝ }
+    ensures accepted { λ x. ⌜ ReceiveOk (partyOf parties me (now (c .entry)) (now (prep .entry)) (now (inputs .entry)))
+        (now (l .entry)) at (now (heard .entry)) x ⌝ }
+{
+    let gate = at.gate;
+    match ask_lent(parties, me, c, prep, inputs, l, gate) {
+        Lent::Refused { number, index } => Asked::Refused { number, index },
+        Lent::Accepted(y, site) => {
+            if !can_occur(c, y.gates, site.unchecked, at) {
+                return Asked::Refused {
+                    number: 13,
+                    index: 0,
+                };
+            }
+            let stage = at.stage;
+            match stage {
+                Stage::Receive(r) => match ask_receive_round(parties, c, l, y, site, r, heard) {
+                    Verdict::Refused { number, index } => Asked::Refused { number, index },
+                    Verdict::Accepted => Asked::Accepted(y, site, r),
+                },
+                Stage::Send(_) => Asked::Refused {
+                    number: 14,
+                    index: 0,
+                },
+                Stage::Finished => Asked::Refused {
+                    number: 14,
+                    index: 0,
+                },
+                Stage::Aborted => Asked::Refused {
+                    number: 14,
+                    index: 0,
+                },
+            }
+        }
+    }
 }

@@ -2,7 +2,6 @@
 pub mod asking;
 
 use circuit::Round;
-use circuit::Verdict;
 use steps::Layout;
 use steps::Point;
 use steps::Site;
@@ -16,10 +15,11 @@ ghost use mathlib.Core.Bool.{cond};
 ghost use lib.ListN.{length};
 ghost use Rattle.field.specs.Prime.{prime};
 ghost use Rattle.circuit.specs.Code.{roundOf};
-ghost use Rattle.steps.specs.Position.{Send, Receive, keep};
-ghost use Rattle.steps.specs.Code.{stageOf, pointOf};
+ghost use Rattle.steps.specs.Position.{keep};
+ghost use Rattle.steps.specs.Party.{partyOf};
+ghost use Rattle.steps.specs.Code.{pointOf};
 ghost use Rattle.party.specs.Entry.{Next, Output, releases, openAnswer, sendAnswer, sendOut, receiveAnswer, receiveScratch};
-ghost use Rattle.party.specs.Code.{positionOf, answerOf, LentTo, RoundAt, leadsTo};
+ghost use Rattle.party.specs.Code.{positionOf, answerOf, leadsTo};
 
 // The slots of one sort.
 pub enum Sort {
@@ -50,6 +50,12 @@ pub enum Lent {
     Accepted(Layout, Site),
 }
 
+// What all questions of a sending or a receiving come to: where they accept, what the step needs.
+pub enum Asked {
+    Refused { number: u32, index: usize },
+    Accepted(Layout, Site, Round),
+}
+
 // Opening a run: the position at which it starts.
 pub fn open_run(
     parties: usize,
@@ -59,7 +65,8 @@ pub fn open_run(
     inputs: &[u32],
     l: &[u32],
 ) -> Answer
-    ensures { λ r. ⌜ answerOf r ≡ openAnswer prime (record { parties = parties; me = me; circuit = now (c .entry); prep = now (prep .entry); inputs = now (inputs .entry) }) (now (l .entry)) ⌝ }
+    ensures { λ x. ⌜ answerOf x
+        ≡ openAnswer prime (partyOf parties me (now (c .entry)) (now (prep .entry)) (now (inputs .entry))) (now (l .entry)) ⌝ }
 {
     match asking::ask_lent(parties, me, c, prep, inputs, l, 0) {
         Lent::Refused { number, index } => Answer::Refusal { number, index },
@@ -83,124 +90,37 @@ pub fn send(
     coefficients: &[u32],
     out: &mut [u32],
 ) -> Answer
-    ensures { λ r. ⌜ (answerOf r ≡ sendAnswer prime (record { parties = parties; me = me; circuit = now (c .entry); prep = now (prep .entry); inputs = now (inputs .entry) }) (now (l .entry)) (positionOf at) (now (coefficients .entry)) (length (now (out .entry)))) × (now (out .exit) ≡ sendOut prime (record { parties = parties; me = me; circuit = now (c .entry); prep = now (prep .entry); inputs = now (inputs .entry) }) (now (l .entry)) (positionOf at) (now (coefficients .entry)) (now (out .entry))) ⌝ }
+    ensures answer { λ x. ⌜ answerOf x
+        ≡ sendAnswer prime (partyOf parties me (now (c .entry)) (now (prep .entry)) (now (inputs .entry)))
+        (now (l .entry)) (positionOf at) (now (coefficients .entry)) (length (now (out .entry))) ⌝ }
+    ensures out { λ x. ⌜ now (out .exit)
+        ≡ sendOut prime (partyOf parties me (now (c .entry)) (now (prep .entry)) (now (inputs .entry)))
+        (now (l .entry)) (positionOf at) (now (coefficients .entry)) (now (out .entry)) ⌝ }
 {
-    let gate = at.gate;
-    match asking::ask_lent(parties, me, c, prep, inputs, l, gate) {
-        Lent::Refused { number, index } => Answer::Refusal { number, index },
-        Lent::Accepted(y, site) => send_lent(
-            parties,
-            me,
-            c,
-            prep,
-            inputs,
-            l,
-            y,
-            site,
-            at,
-            coefficients,
-            out,
-        ),
-    }
-}
-
-// Sending once 1 to 12 are asked.
-fn send_lent(
-    parties: usize,
-    me: usize,
-    c: &[u32],
-    prep: &[u32],
-    inputs: &[u32],
-    l: &[u32],
-    y: Layout,
-    site: Site,
-    at: Position,
-    coefficients: &[u32],
-    out: &mut [u32],
-) -> Answer
-    requires { ⌜ LentTo (record { parties = parties; me = me; circuit = now c; prep = now prep; inputs = now inputs }) (now l) y site (at .gate) ⌝ }
-    ensures { λ r. ⌜ (answerOf r ≡ sendAnswer prime (record { parties = parties; me = me; circuit = now (c .entry); prep = now (prep .entry); inputs = now (inputs .entry) }) (now (l .entry)) (positionOf at) (now (coefficients .entry)) (length (now (out .entry)))) × (now (out .exit) ≡ sendOut prime (record { parties = parties; me = me; circuit = now (c .entry); prep = now (prep .entry); inputs = now (inputs .entry) }) (now (l .entry)) (positionOf at) (now (coefficients .entry)) (now (out .entry))) ⌝ }
-{
-    if !asking::can_occur(c, y.gates, site.unchecked, at) {
-        return Answer::Refusal {
-            number: 13,
-            index: 0,
-        };
-    }
-    let stage = at.stage;
-    match stage {
-        Stage::Send(r) => send_round(
-            parties,
-            me,
-            c,
-            prep,
-            inputs,
-            l,
-            y,
-            site,
-            r,
-            at,
-            coefficients,
-            out,
-        ),
-        Stage::Receive(_) => Answer::Refusal {
-            number: 14,
-            index: 0,
-        },
-        Stage::Finished => Answer::Refusal {
-            number: 14,
-            index: 0,
-        },
-        Stage::Aborted => Answer::Refusal {
-            number: 14,
-            index: 0,
-        },
-    }
-}
-
-// Sending once 1 to 14 are asked.
-fn send_round(
-    parties: usize,
-    me: usize,
-    c: &[u32],
-    prep: &[u32],
-    inputs: &[u32],
-    l: &[u32],
-    y: Layout,
-    site: Site,
-    r: Round,
-    at: Position,
-    coefficients: &[u32],
-    out: &mut [u32],
-) -> Answer
-    requires { ⌜ RoundAt (record { parties = parties; me = me; circuit = now c; prep = now prep; inputs = now inputs }) (now l) y site at × (stageOf (at .stage) ≡ Send (roundOf r)) ⌝ }
-    ensures { λ x. ⌜ (answerOf x ≡ sendAnswer prime (record { parties = parties; me = me; circuit = now (c .entry); prep = now (prep .entry); inputs = now (inputs .entry) }) (now (l .entry)) (positionOf at) (now (coefficients .entry)) (length (now (out .entry)))) × (now (out .exit) ≡ sendOut prime (record { parties = parties; me = me; circuit = now (c .entry); prep = now (prep .entry); inputs = now (inputs .entry) }) (now (l .entry)) (positionOf at) (now (coefficients .entry)) (now (out .entry))) ⌝ }
-{
-    match asking::ask_send_round(c, l, y, site, r, coefficients, out.len()) {
-        Verdict::Refused { number, index } => {
-            return Answer::Refusal { number, index };
+    match asking::ask_send(parties, me, c, prep, inputs, l, at, coefficients, out.len()) {
+        Asked::Refused { number, index } => Answer::Refusal { number, index },
+        Asked::Accepted(y, site, r) => {
+            let held = sending::send_step(
+                parties,
+                me,
+                c,
+                prep,
+                inputs,
+                l,
+                y,
+                site,
+                r,
+                at.held,
+                coefficients,
+                out,
+            );
+            Answer::Next(Position {
+                gate: at.gate,
+                stage: Stage::Receive(r),
+                held,
+            })
         }
-        Verdict::Accepted => {}
     }
-    let held = sending::send_step(
-        parties,
-        me,
-        c,
-        prep,
-        inputs,
-        l,
-        y,
-        site,
-        r,
-        at.held,
-        coefficients,
-        out,
-    );
-    Answer::Next(Position {
-        gate: at.gate,
-        stage: Stage::Receive(r),
-        held,
-    })
 }
 
 // Receiving: what the words of all lead to.
@@ -214,92 +134,21 @@ pub fn receive(
     at: Position,
     heard: &[u32],
 ) -> Answer
-    ensures { λ r. ⌜ (answerOf r ≡ receiveAnswer prime (record { parties = parties; me = me; circuit = now (c .entry); prep = now (prep .entry); inputs = now (inputs .entry) }) (now (l .entry)) (positionOf at) (now (heard .entry))) × (now (l .exit) ≡ receiveScratch prime (record { parties = parties; me = me; circuit = now (c .entry); prep = now (prep .entry); inputs = now (inputs .entry) }) (now (l .entry)) (positionOf at) (now (heard .entry))) ⌝ }
+    ensures answer { λ x. ⌜ answerOf x
+        ≡ receiveAnswer prime (partyOf parties me (now (c .entry)) (now (prep .entry)) (now (inputs .entry)))
+        (now (l .entry)) (positionOf at) (now (heard .entry)) ⌝ }
+    ensures scratch { λ x. ⌜ now (l .exit)
+        ≡ receiveScratch prime (partyOf parties me (now (c .entry)) (now (prep .entry)) (now (inputs .entry)))
+        (now (l .entry)) (positionOf at) (now (heard .entry)) ⌝ }
 {
-    let gate = at.gate;
-    match asking::ask_lent(parties, me, c, prep, inputs, l, gate) {
-        Lent::Refused { number, index } => Answer::Refusal { number, index },
-        Lent::Accepted(y, site) => receive_lent(
-            parties,
-            me,
-            c,
-            prep,
-            inputs,
-            l,
-            y,
-            site,
-            at,
-            heard,
-        ),
-    }
-}
-
-// Receiving once 1 to 12 are asked.
-fn receive_lent(
-    parties: usize,
-    me: usize,
-    c: &[u32],
-    prep: &[u32],
-    inputs: &[u32],
-    l: &mut [u32],
-    y: Layout,
-    site: Site,
-    at: Position,
-    heard: &[u32],
-) -> Answer
-    requires { ⌜ LentTo (record { parties = parties; me = me; circuit = now c; prep = now prep; inputs = now inputs }) (now l) y site (at .gate) ⌝ }
-    ensures { λ r. ⌜ (answerOf r ≡ receiveAnswer prime (record { parties = parties; me = me; circuit = now (c .entry); prep = now (prep .entry); inputs = now (inputs .entry) }) (now (l .entry)) (positionOf at) (now (heard .entry))) × (now (l .exit) ≡ receiveScratch prime (record { parties = parties; me = me; circuit = now (c .entry); prep = now (prep .entry); inputs = now (inputs .entry) }) (now (l .entry)) (positionOf at) (now (heard .entry))) ⌝ }
-{
-    if !asking::can_occur(c, y.gates, site.unchecked, at) {
-        return Answer::Refusal {
-            number: 13,
-            index: 0,
-        };
-    }
-    let stage = at.stage;
-    match stage {
-        Stage::Receive(r) => receive_round(parties, me, c, prep, inputs, l, y, site, r, at, heard),
-        Stage::Send(_) => Answer::Refusal {
-            number: 14,
-            index: 0,
-        },
-        Stage::Finished => Answer::Refusal {
-            number: 14,
-            index: 0,
-        },
-        Stage::Aborted => Answer::Refusal {
-            number: 14,
-            index: 0,
-        },
-    }
-}
-
-// Receiving once 1 to 14 are asked.
-fn receive_round(
-    parties: usize,
-    me: usize,
-    c: &[u32],
-    prep: &[u32],
-    inputs: &[u32],
-    l: &mut [u32],
-    y: Layout,
-    site: Site,
-    r: Round,
-    at: Position,
-    heard: &[u32],
-) -> Answer
-    requires { ⌜ RoundAt (record { parties = parties; me = me; circuit = now c; prep = now prep; inputs = now inputs }) (now l) y site at × (stageOf (at .stage) ≡ Receive (roundOf r)) ⌝ }
-    ensures { λ x. ⌜ (answerOf x ≡ receiveAnswer prime (record { parties = parties; me = me; circuit = now (c .entry); prep = now (prep .entry); inputs = now (inputs .entry) }) (now (l .entry)) (positionOf at) (now (heard .entry))) × (now (l .exit) ≡ receiveScratch prime (record { parties = parties; me = me; circuit = now (c .entry); prep = now (prep .entry); inputs = now (inputs .entry) }) (now (l .entry)) (positionOf at) (now (heard .entry))) ⌝ }
-{
-    match asking::ask_receive_round(parties, c, l, y, site, r, heard) {
-        Verdict::Refused { number, index } => {
-            return Answer::Refusal { number, index };
+    match asking::ask_receive(parties, me, c, prep, inputs, l, at, heard) {
+        Asked::Refused { number, index } => Answer::Refusal { number, index },
+        Asked::Accepted(y, site, r) => {
+            let output = scratch::read_slot(l, y, Slot::Value(0));
+            let next = receiving::receive_step(parties, me, c, prep, inputs, l, y, site, r, heard);
+            outcome_of(r, at.held, output, next)
         }
-        Verdict::Accepted => {}
     }
-    let output = scratch::read_slot(l, y, Slot::Value(0));
-    let next = receiving::receive_step(parties, me, c, prep, inputs, l, y, site, r, heard);
-    outcome_of(r, at.held, output, next)
 }
 
 // What a round that is received leads to.

@@ -14,3 +14,5 @@ pub mod Received
 pub mod Keeping
 pub mod InOrder
 pub mod Points
+pub mod Lengths
+pub mod Front

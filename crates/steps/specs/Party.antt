@@ -15,6 +15,10 @@ pub record Party : Type 0 where
   -- "Inputs: the seat's own, in line order."
   pub inputs : List ℕ
 
+-- what a call is lent, from the lists of the code
+abbrev pub partyOf : ℕ → ℕ → List ℕ → List ℕ → List ℕ → Party
+partyOf n i c prep inputs = record { parties = n; me = i; circuit = c; prep = prep; inputs = inputs }
+
 -- "Material: its key share; then .."
 unfoldable pub key : Party → ℕ
 key P = getD (P .prep) 0 0

@@ -21,7 +21,7 @@ ghost use Rattle.circuit.specs.Round.{Input, Multiply};
 ghost use Rattle.circuit.specs.Code.{gateOf, roundOf};
 ghost use Rattle.steps.specs.Part.{partAt, product};
 ghost use Rattle.steps.specs.Scratch.{scratchSize};
-ghost use Rattle.steps.specs.Party.{aAt, bAt, cAt};
+ghost use Rattle.steps.specs.Party.{partyOf, aAt, bAt, cAt};
 ghost use Rattle.steps.specs.Position.{Send, aborted, reach, enter, resume};
 ghost use Rattle.steps.specs.Receive.{heardSum, afterInput, afterMultiply, afterOpenOutput, afterLinear, settle, next, received};
 ghost use Rattle.steps.specs.Code.{IsPart, layoutOf, pointOf, Below, Held, Reads, Multiplies, Settles, Stands, Receives, heardFirst, Named, Hears, Summed};
@@ -252,7 +252,9 @@ pub fn next_point(
     heard: &[u32],
     e: u32,
 ) -> Point
-    requires { ⌜ Hears parties (now c) j (roundOf r) (now heard) × Stands (now c) count j stop waiting × (e ≡ heardFirst parties (gate (now c) j) (roundOf r) (now heard)) ⌝ }
+    requires { ⌜ Hears parties (now c) j (roundOf r) (now heard)
+        × Stands (now c) count j stop waiting
+        × (e ≡ heardFirst parties (gate (now c) j) (roundOf r) (now heard)) ⌝ }
     ensures { λ x. ⌜ pointOf x ≡ next prime parties (now (c .entry)) j (roundOf r) (now (heard .entry)) ⌝ }
 {
     match r {
@@ -289,8 +291,12 @@ fn receive_input(
     heard: &[u32],
     e: u32,
 )
-    requires { ⌜ Receives (record { parties = parties; me = me; circuit = now c; prep = now prep; inputs = now inputs }) (now l) y at Input (now heard) × (stop ≡ reach (now c) (y .gates - (at .gate + 1)) (at .gate + 1)) × Is (heardFirst parties (gate (now c) (at .gate)) Input (now heard)) e ⌝ }
-    ensures { λ x. ⌜ now (l .exit) ≡ received prime (record { parties = parties; me = me; circuit = now (c .entry); prep = now (prep .entry); inputs = now (inputs .entry) }) (now (l .entry)) (at .gate) Input (now (heard .entry)) ⌝ }
+    requires { ⌜ Receives (partyOf parties me (now c) (now prep) (now inputs)) (now l) y at Input (now heard)
+        × (stop ≡ reach (now c) (y .gates - (at .gate + 1)) (at .gate + 1))
+        × Is (heardFirst parties (gate (now c) (at .gate)) Input (now heard)) e ⌝ }
+    ensures { λ x. ⌜ now (l .exit)
+        ≡ received prime (partyOf parties me (now (c .entry)) (now (prep .entry)) (now (inputs .entry)))
+        (now (l .entry)) (at .gate) Input (now (heard .entry)) ⌝ }
 {
     let j = at.gate;
     let start = at.prep;
@@ -316,8 +322,13 @@ fn receive_multiply(
     e: u32,
     d: u32,
 )
-    requires { ⌜ Receives (record { parties = parties; me = me; circuit = now c; prep = now prep; inputs = now inputs }) (now l) y at Multiply (now heard) × (stop ≡ reach (now c) (y .gates - (at .gate + 1)) (at .gate + 1)) × Named (gate (now c) (at .gate)) x z × Summed parties (gate (now c) (at .gate)) Multiply (now heard) e d ⌝ }
-    ensures { λ r. ⌜ now (l .exit) ≡ received prime (record { parties = parties; me = me; circuit = now (c .entry); prep = now (prep .entry); inputs = now (inputs .entry) }) (now (l .entry)) (at .gate) Multiply (now (heard .entry)) ⌝ }
+    requires { ⌜ Receives (partyOf parties me (now c) (now prep) (now inputs)) (now l) y at Multiply (now heard)
+        × (stop ≡ reach (now c) (y .gates - (at .gate + 1)) (at .gate + 1))
+        × Named (gate (now c) (at .gate)) x z
+        × Summed parties (gate (now c) (at .gate)) Multiply (now heard) e d ⌝ }
+    ensures { λ r. ⌜ now (l .exit)
+        ≡ received prime (partyOf parties me (now (c .entry)) (now (prep .entry)) (now (inputs .entry)))
+        (now (l .entry)) (at .gate) Multiply (now (heard .entry)) ⌝ }
 {
     let j = at.gate;
     let start = at.prep;
@@ -344,8 +355,13 @@ fn receive_summed(
     e: u32,
     d: u32,
 )
-    requires { ⌜ Receives (record { parties = parties; me = me; circuit = now c; prep = now prep; inputs = now inputs }) (now l) y at (roundOf r) (now heard) × (stop ≡ reach (now c) (y .gates - (at .gate + 1)) (at .gate + 1)) × Named (gate (now c) (at .gate)) x z × Summed parties (gate (now c) (at .gate)) (roundOf r) (now heard) e d ⌝ }
-    ensures { λ u. ⌜ now (l .exit) ≡ received prime (record { parties = parties; me = me; circuit = now (c .entry); prep = now (prep .entry); inputs = now (inputs .entry) }) (now (l .entry)) (at .gate) (roundOf r) (now (heard .entry)) ⌝ }
+    requires { ⌜ Receives (partyOf parties me (now c) (now prep) (now inputs)) (now l) y at (roundOf r) (now heard)
+        × (stop ≡ reach (now c) (y .gates - (at .gate + 1)) (at .gate + 1))
+        × Named (gate (now c) (at .gate)) x z
+        × Summed parties (gate (now c) (at .gate)) (roundOf r) (now heard) e d ⌝ }
+    ensures { λ u. ⌜ now (l .exit)
+        ≡ received prime (partyOf parties me (now (c .entry)) (now (prep .entry)) (now (inputs .entry)))
+        (now (l .entry)) (at .gate) (roundOf r) (now (heard .entry)) ⌝ }
 {
     match r {
         Round::Input => receive_input(parties, me, c, prep, inputs, l, y, at, stop, heard, e),
@@ -393,8 +409,11 @@ pub fn receive_step(
     r: Round,
     heard: &[u32],
 ) -> Point
-    requires { ⌜ Receives (record { parties = parties; me = me; circuit = now c; prep = now prep; inputs = now inputs }) (now l) y at (roundOf r) (now heard) ⌝ }
-    ensures { λ x. ⌜ (pointOf x ≡ next prime parties (now (c .entry)) (at .gate) (roundOf r) (now (heard .entry))) × (now (l .exit) ≡ received prime (record { parties = parties; me = me; circuit = now (c .entry); prep = now (prep .entry); inputs = now (inputs .entry) }) (now (l .entry)) (at .gate) (roundOf r) (now (heard .entry))) ⌝ }
+    requires { ⌜ Receives (partyOf parties me (now c) (now prep) (now inputs)) (now l) y at (roundOf r) (now heard) ⌝ }
+    ensures point { λ x. ⌜ pointOf x ≡ next prime parties (now (c .entry)) (at .gate) (roundOf r) (now (heard .entry)) ⌝ }
+    ensures scratch { λ x. ⌜ now (l .exit)
+        ≡ received prime (partyOf parties me (now (c .entry)) (now (prep .entry)) (now (inputs .entry)))
+        (now (l .entry)) (at .gate) (roundOf r) (now (heard .entry)) ⌝ }
 {
     let j = at.gate;
     let g = circuit::gate_at(c, j);

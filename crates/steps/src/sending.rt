@@ -14,6 +14,7 @@ ghost use Rattle.field.specs.Prime.{p, prime, Is};
 ghost use Rattle.circuit.specs.Gate.{gateSize, gate, first, second};
 ghost use Rattle.circuit.specs.Code.{roundOf};
 ghost use Rattle.steps.specs.Scratch.{Value, ValueMac, scratchSize, read, wire};
+ghost use Rattle.steps.specs.Party.{partyOf};
 ghost use Rattle.steps.specs.Send.{inputWord, maskedFirst, maskedSecond, checkShare, sent, holds, overwrite};
 ghost use Rattle.steps.specs.Code.{IsPart, layoutOf, Below, Held, Opened, Sends};
 
@@ -85,7 +86,11 @@ fn opened_mac(l: &[u32], y: Layout, t: usize) -> u32
 
 // The check share over the first k opened entries. Its two sums are reduced once, at the end.
 pub fn check_share(l: &[u32], y: Layout, k: usize, key: u32, coefficients: &[u32]) -> u32
-    requires { ⌜ (scratchSize (layoutOf y) ≤ length (now l)) × (key < p) × (k ≤ length (now coefficients)) × Below (now coefficients) × ((t : ℕ) → t < k → Opened (layoutOf y) (now l) t) ⌝ }
+    requires { ⌜ (scratchSize (layoutOf y) ≤ length (now l))
+        × (key < p)
+        × (k ≤ length (now coefficients))
+        × Below (now coefficients)
+        × ((t : ℕ) → t < k → Opened (layoutOf y) (now l) t) ⌝ }
     ensures { λ r. ⌜ Is (checkShare prime (layoutOf y) (now (l .entry)) k key (now (coefficients .entry))) r ⌝ }
 {
     let mut values: u64 = 0;
@@ -101,8 +106,14 @@ pub fn check_share(l: &[u32], y: Layout, k: usize, key: u32, coefficients: &[u32
 }
 
 fn send_input(me: usize, c: &[u32], prep: &[u32], inputs: &[u32], at: Site, out: &mut [u32])
-    requires { ⌜ (gateSize * (at .gate) + gateSize ≤ length (now c)) × (at .prep + 2 < length (now prep)) × Below (now prep) × Below (now inputs) × (0 < length (now out)) ⌝ }
-    ensures { λ r. ⌜ now (out .exit) ≡ overwrite (inputWord prime me (first (gate (now (c .entry)) (at .gate))) (drop (at .prep) (now (prep .entry))) (getD (now (inputs .entry)) (at .input) 0) ∷ []) (now (out .entry)) ⌝ }
+    requires { ⌜ (gateSize * (at .gate) + gateSize ≤ length (now c))
+        × (at .prep + 2 < length (now prep))
+        × Below (now prep)
+        × Below (now inputs)
+        × (0 < length (now out)) ⌝ }
+    ensures { λ r. ⌜ now (out .exit)
+        ≡ overwrite (inputWord prime me (first (gate (now (c .entry)) (at .gate)))
+        (drop (at .prep) (now (prep .entry))) (getD (now (inputs .entry)) (at .input) 0) ∷ []) (now (out .entry)) ⌝ }
 {
     let owner = circuit::first_at(c, at.gate);
     let start = at.prep;
@@ -112,8 +123,15 @@ fn send_input(me: usize, c: &[u32], prep: &[u32], inputs: &[u32], at: Site, out:
 
 // The words of a mul gate that names x and z; m starts at the gate's record.
 pub fn multiply_words(l: &[u32], y: Layout, x: usize, z: usize, m: &[u32], out: &mut [u32])
-    requires { ⌜ (scratchSize (layoutOf y) ≤ length (now l)) × Held (layoutOf y) (now l) x × Held (layoutOf y) (now l) z × (3 < length (now m)) × Below (now m) × (1 < length (now out)) ⌝ }
-    ensures { λ r. ⌜ now (out .exit) ≡ overwrite (maskedFirst prime (layoutOf y) (now (l .entry)) x (now (m .entry)) .share ∷ maskedSecond prime (layoutOf y) (now (l .entry)) z (now (m .entry)) .share ∷ []) (now (out .entry)) ⌝ }
+    requires { ⌜ (scratchSize (layoutOf y) ≤ length (now l))
+        × Held (layoutOf y) (now l) x
+        × Held (layoutOf y) (now l) z
+        × (3 < length (now m))
+        × Below (now m)
+        × (1 < length (now out)) ⌝ }
+    ensures { λ r. ⌜ now (out .exit)
+        ≡ overwrite (maskedFirst prime (layoutOf y) (now (l .entry)) x (now (m .entry)) .share
+        ∷ maskedSecond prime (layoutOf y) (now (l .entry)) z (now (m .entry)) .share ∷ []) (now (out .entry)) ⌝ }
 {
     let e = masked_first(l, y, x, m);
     let d = masked_second(l, y, z, m);
@@ -122,8 +140,16 @@ pub fn multiply_words(l: &[u32], y: Layout, x: usize, z: usize, m: &[u32], out: 
 }
 
 fn send_multiply(c: &[u32], prep: &[u32], l: &[u32], y: Layout, at: Site, out: &mut [u32])
-    requires { ⌜ (gateSize * (at .gate) + gateSize ≤ length (now c)) × (at .prep + 3 < length (now prep)) × Below (now prep) × (scratchSize (layoutOf y) ≤ length (now l)) × Held (layoutOf y) (now l) (first (gate (now c) (at .gate))) × Held (layoutOf y) (now l) (second (gate (now c) (at .gate))) × (1 < length (now out)) ⌝ }
-    ensures { λ r. ⌜ now (out .exit) ≡ overwrite (maskedFirst prime (layoutOf y) (now (l .entry)) (first (gate (now (c .entry)) (at .gate))) (drop (at .prep) (now (prep .entry))) .share ∷ maskedSecond prime (layoutOf y) (now (l .entry)) (second (gate (now (c .entry)) (at .gate))) (drop (at .prep) (now (prep .entry))) .share ∷ []) (now (out .entry)) ⌝ }
+    requires { ⌜ (gateSize * (at .gate) + gateSize ≤ length (now c))
+        × (at .prep + 3 < length (now prep))
+        × Below (now prep)
+        × (scratchSize (layoutOf y) ≤ length (now l))
+        × Held (layoutOf y) (now l) (first (gate (now c) (at .gate)))
+        × Held (layoutOf y) (now l) (second (gate (now c) (at .gate)))
+        × (1 < length (now out)) ⌝ }
+    ensures { λ r. ⌜ now (out .exit)
+        ≡ overwrite (maskedFirst prime (layoutOf y) (now (l .entry)) (first (gate (now (c .entry)) (at .gate))) (drop (at .prep) (now (prep .entry))) .share
+        ∷ maskedSecond prime (layoutOf y) (now (l .entry)) (second (gate (now (c .entry)) (at .gate))) (drop (at .prep) (now (prep .entry))) .share ∷ []) (now (out .entry)) ⌝ }
 {
     let g = circuit::gate_at(c, at.gate);
     let start = at.prep;
@@ -138,8 +164,12 @@ fn send_multiply(c: &[u32], prep: &[u32], l: &[u32], y: Layout, at: Site, out: &
 }
 
 fn send_output(c: &[u32], l: &[u32], y: Layout, j: usize, out: &mut [u32])
-    requires { ⌜ (gateSize * j + gateSize ≤ length (now c)) × (scratchSize (layoutOf y) ≤ length (now l)) × Held (layoutOf y) (now l) (first (gate (now c) j)) × (0 < length (now out)) ⌝ }
-    ensures { λ r. ⌜ now (out .exit) ≡ overwrite (wire (layoutOf y) (now (l .entry)) (first (gate (now (c .entry)) j)) .share ∷ []) (now (out .entry)) ⌝ }
+    requires { ⌜ (gateSize * j + gateSize ≤ length (now c))
+        × (scratchSize (layoutOf y) ≤ length (now l))
+        × Held (layoutOf y) (now l) (first (gate (now c) j))
+        × (0 < length (now out)) ⌝ }
+    ensures { λ r. ⌜ now (out .exit)
+        ≡ overwrite (wire (layoutOf y) (now (l .entry)) (first (gate (now (c .entry)) j)) .share ∷ []) (now (out .entry)) ⌝ }
 {
     let x = circuit::first_at(c, j);
     let shown = scratch::wire_at(l, y, x);
@@ -161,8 +191,12 @@ pub fn send_step(
     coefficients: &[u32],
     out: &mut [u32],
 ) -> u32
-    requires { ⌜ Sends (record { parties = parties; me = me; circuit = now c; prep = now prep; inputs = now inputs }) (now l) y at (roundOf r) held (now coefficients) (length (now out)) ⌝ }
-    ensures { λ h. ⌜ Is (holds prime (record { parties = parties; me = me; circuit = now (c .entry); prep = now (prep .entry); inputs = now (inputs .entry) }) (now (l .entry)) (at .gate) (roundOf r) (now (coefficients .entry))) h × (now (out .exit) ≡ overwrite (sent prime (record { parties = parties; me = me; circuit = now (c .entry); prep = now (prep .entry); inputs = now (inputs .entry) }) (now (l .entry)) (at .gate) held (roundOf r)) (now (out .entry))) ⌝ }
+    requires { ⌜ Sends (partyOf parties me (now c) (now prep) (now inputs)) (now l) y at (roundOf r) held (now coefficients) (length (now out)) ⌝ }
+    ensures held { λ h. ⌜ Is (holds prime (partyOf parties me (now (c .entry)) (now (prep .entry)) (now (inputs .entry)))
+        (now (l .entry)) (at .gate) (roundOf r) (now (coefficients .entry))) h ⌝ }
+    ensures out { λ h. ⌜ now (out .exit)
+        ≡ overwrite (sent prime (partyOf parties me (now (c .entry)) (now (prep .entry)) (now (inputs .entry)))
+        (now (l .entry)) (at .gate) held (roundOf r)) (now (out .entry)) ⌝ }
 {
     match r {
         Round::Input => {

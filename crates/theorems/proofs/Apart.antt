@@ -36,13 +36,13 @@ use Rattle.steps.proofs.InOrder.{differ}
 use Rattle.steps.proofs.Points.{FitsStage, spentStage, fits-follow, spent-le}
 use Rattle.steps.proofs.Writing.{OpenedTo}
 use Rattle.steps.proofs.Keeping.{Stood}
+use Rattle.steps.proofs.Front.{worked-front, opened-to-front, value-front, sent-front, holds-front, received-front}
+use Rattle.party.proofs.Passing.{lent-alike, send-passes, receive-passes}
 use Rattle.joint.proofs.Words.{joined-ext, length-joined, getD-joined}
 use Rattle.joint.proofs.Said.{length-sent, length-said, below-part, below-joined, sent-low}
 use Rattle.theorems.specs.Premises.{after}
 use Rattle.theorems.specs.Apart.{Apart, partyIn, Local, moved, outputsIn, Unrefused, opens, sends, writes, receives, written, heardIn, round, apart, spoken}
 use Rattle.theorems.specs.Apart.{jointly, bands, told, Meets, Together}
-use Rattle.theorems.proofs.Front.{worked-front, opened-to-front, value-front, sent-front, holds-front, received-front}
-use Rattle.theorems.proofs.Passing.{lent-alike, send-passes, receive-passes}
 use Rattle.theorems.proofs.Calls.{sendingAt, receivingAt, localAt, sends-is, writes-is, receives-is, outcome-told, outcome-outputs, outcome-unrefused}
 use Rattle.theorems.proofs.Calls.{outputs-append, unrefused-append}
 use Rattle.theorems.proofs.Standing.{checksOutput, ShownAlike, Over, Sound, Course, going, over, stood, holds-low, holds-none, taking, sound-step, course-step}

@@ -13,17 +13,16 @@ use Rattle.circuit.specs.Verdict.{Accepted}
 use Rattle.circuit.specs.Count.{prepSize, inputCount, inCount}
 use Rattle.circuit.specs.Accept.{askCircuit}
 use Rattle.circuit.specs.Valid.{Valid}
-use Rattle.circuit.proofs.Valid.{valid}
 use Rattle.steps.specs.Scratch.{layout, scratchSize}
 use Rattle.steps.specs.Party.{Party}
 use Rattle.steps.specs.Code.{AllBelow}
 use Rattle.party.specs.Ask.{askParties, askLent}
+use Rattle.party.proofs.Accepted.{Lends, lends}
 use Rattle.joint.specs.Joint.{Joint, joined, band, inputsAt, party}
 use Rattle.joint.proofs.Inputs.{starts-suc, starts-mono}
 use Rattle.joint.proofs.Words.{length-joined}
 use Rattle.joint.proofs.Bands.{band-joined}
 use Rattle.theorems.specs.Apart.{Apart, partyIn, jointly, bands}
-use Rattle.theorems.proofs.Passing.{Lends, lends}
 
 -- lists as long as the parties' numbers of inputs
 module _ (c : List ℕ) (f : ℕ → List ℕ) where
@@ -72,7 +71,7 @@ module _ {O : Ops} (F : Field O) (D : Apart) (coefficients : List ℕ) (some : 0
   parties-accepted = passed 0 some .parties
 
   pub circuit-valid : Valid (D .parties) size (D .circuit)
-  circuit-valid = valid (D .parties) size (D .circuit) circuit-accepted
+  circuit-valid = passed 0 some .valid
 
   -- each list has its length
   pub prep-long : (i : ℕ) → i < D .parties → length (D .prep i) ≡ prepSize (D .circuit)

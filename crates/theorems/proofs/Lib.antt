@@ -20,8 +20,6 @@ pub mod Twins
 pub mod Secrecy
 pub mod Corollaries
 pub mod Example
-pub mod Front
-pub mod Passing
 pub mod Calls
 pub mod Standing
 pub mod Joined

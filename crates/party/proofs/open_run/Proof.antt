@@ -8,7 +8,7 @@ use Rattle.steps.specs.Code.{stageOf}
 use Rattle.party.specs.Entry.{Next}
 use Rattle.party.specs.Code.{answerOf, positionOf, lentOf}
 use Rattle.steps.proofs.Following.{start-is}
-use Rattle.party.proofs.Accepted.{lends}
+use Rattle.party.proofs.Accepted.{lends-prime}
 use Rattle.party.proofs.Entries.{open-refused, open-accepted}
 use borrow.Author.Needs.{needs}
 use Rattle.party.proofs.open_run.Statement.{statement}
@@ -37,7 +37,7 @@ returns c = open-refused _ _ (sym (c .before .before .before .ask-lent .ensures 
 -- src/lib.rt:92:1
 returns-2 : tie.Need-returns-2
 unfolding answerOf lentOf positionOf stageOf roundOf holding
-returns-2 c = let e = sym (c .before .before .ask-lent .ensures .0) ∙ ap lentOf (c .enum-told .given .1) in open-accepted _ _ e (sym (ap (λ x. Next (holding x 0)) (start-is _ _ p (lends _ _ e .valid))))
+returns-2 c = let e = sym (c .before .before .ask-lent .ensures .0) ∙ ap lentOf (c .enum-told .given .1) in open-accepted _ _ e (sym (ap (λ x. Next (holding x 0)) (start-is _ _ p (lends-prime _ _ e .valid))))
 
 pub open-run-spec : {M : Type 1} → statement M
 open-run-spec =

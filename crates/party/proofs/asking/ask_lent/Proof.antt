@@ -1,7 +1,7 @@
-use lib.ListN.{length}
-use Rattle.party.proofs.Lending.{lists-counted}
 -- `party::asking::ask_lent` meets its contract: 1 to 7 are asked first; then one count along the circuit gives the lengths that 8 to 12 ask for, and the site of the gate.
 -- Assumes nothing.
+use lib.ListN.{length}
+use Rattle.party.proofs.Lending.{lists-counted}
 use mathlib.Core.Path.{refl, sym, ap, _∙_}
 use native.Mathlib.Omega.{arith}
 use Rattle.circuit.specs.Code.{verdictOf}

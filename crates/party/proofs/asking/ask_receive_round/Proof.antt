@@ -1,6 +1,6 @@
-use Rattle.party.proofs.Occurring.{few-words}
 -- `party::asking::ask_receive_round` meets its contract: it asks 15, 19, 20 and at a commitment 21 in turn.
 -- Assumes nothing.
+use Rattle.party.proofs.Occurring.{few-words}
 use Prim.Native.Nat.{ℕ, _*_}
 use mathlib.Core.Path.{refl, sym, ap, _∙_}
 use borrow.Author.Tests.{eq-eqb, ne-eqb}

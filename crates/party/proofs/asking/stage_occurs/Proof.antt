@@ -1,8 +1,8 @@
+-- `party::asking::stage_occurs` meets its contract, stage by stage.
+-- Assumes nothing.
 use Rattle.circuit.specs.Code.{roundOf}
 use Rattle.party.proofs.Occurring.{round-occurs, last-occurs}
 use mathlib.Core.Path.{refl}
--- `party::asking::stage_occurs` meets its contract, stage by stage.
--- Assumes nothing.
 use Rattle.steps.specs.Position.{stageOccurs}
 use Rattle.steps.specs.Code.{stageOf}
 use borrow.Author.Needs.{needs}

@@ -17,16 +17,16 @@ use Rattle.circuit.specs.Round.{Round, Input, Multiply, CommitOpened, RevealOpe
 use Rattle.circuit.specs.Valid.{Names, Valid}
 use Rattle.circuit.proofs.Counts.{unchecked-fits}
 use Rattle.circuit.proofs.Rounds.{gate-at-round}
 use Rattle.steps.specs.Part.{Part, plus, minus, scale, shift}
 use Rattle.steps.specs.Scratch.{Layout, layout, Slot, Share, Mac, Value, ValueMac, offset, scratchSize, read, write, wire, putWire, putOpened}
 use Rattle.steps.specs.Party.{Party, key}
 use Rattle.steps.specs.Send.{maskedFirst, maskedSecond, checkShare, sent, holds}
 use Rattle.steps.specs.Receive.{afterInput, afterMultiply, afterOpenOutput, afterLinear, settle, passes, onward, received}
 use Rattle.steps.specs.Code.{Within, HeldBelow, WorkedBelow}
 use Rattle.steps.proofs.Slots.{slot-fits, length-write, length-put, length-opened}
 use Rattle.steps.proofs.Writing.{OpenedTo}
 use Rattle.steps.proofs.Keeping.{Stood, shown-held, entries}
-use Rattle.theorems.proofs.Lengths.{length-afterLinear}
+use Rattle.steps.proofs.Lengths.{length-afterLinear}
 
 module _ (y : Layout) (e : List ℕ) where
   read-front : (l : List ℕ) (s : Slot) → scratchSize y ≤ length l → Within y s → read y (l ++ e) s ≡ read y l s

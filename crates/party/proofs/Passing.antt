@@ -7,55 +7,25 @@ use mathlib.Core.List.{List}
 use native.Mathlib.Omega.{arith}
 use lib.ListN.{length, getD}
 use lib.Dec.{ltb, leb, eqb}
-use borrow.Author.Tests.{lt-ltb, le-leb, eq-eqb, leb-true, eqb-true}
+use borrow.Author.Tests.{lt-ltb, le-leb, eq-eqb}
 use Rattle.circuit.specs.Verdict.{Verdict, Accepted, ask, _then_, each, elements}
 use Rattle.circuit.specs.Gate.{gate, gates}
 use Rattle.circuit.specs.Kind.{hasValue}
-use Rattle.circuit.specs.Count.{prepSize, inputCount, unchecked}
+use Rattle.circuit.specs.Count.{unchecked}
 use Rattle.circuit.specs.Round.{Round, isCommit, isReveal, rounds, among, words, openedIn, coefficientsIn}
-use Rattle.circuit.specs.Accept.{askCircuit}
-use Rattle.circuit.proofs.Verdicts.{ask-true, ask-yes, then-left, then-right, then-both, each-all, elements-below, elements-all}
-use Rattle.steps.specs.Scratch.{Slot, Share, Mac, Value, ValueMac, layout, scratchSize, read}
+use Rattle.circuit.proofs.Verdicts.{ask-yes, then-both, each-all, elements-all}
+use Rattle.steps.specs.Scratch.{Slot, Share, Mac, Value, ValueMac, layout, read}
 use Rattle.steps.specs.Position.{Position, Stage, Send, Receive, stageOccurs, mayHold, occurs, whenSending, whenReceiving}
 use Rattle.steps.specs.Party.{Party}
 use Rattle.steps.specs.Send.{mark}
 use Rattle.steps.specs.Code.{AllBelow, WorkedBelow}
 use Rattle.steps.proofs.Writing.{OpenedTo}
-use Rattle.party.specs.Ask.{askParties, slotQuestion, askSlots, askWorked, askMarks, askSendRound, askReceiveRound, askLent, askSend, askReceive}
+use Rattle.party.specs.Ask.{slotQuestion, askSlots, askWorked, askMarks, askSendRound, askReceiveRound, askLent, askSend, askReceive}
 
 -- Questions 1 to 12 look at the length of the scratch alone.
 pub lent-alike : (q : ℕ) (P : Party) (l l′ : List ℕ) → length l′ ≡ length l → askLent q P l′ ≡ askLent q P l
 unfolding askLent
 lent-alike q P l l′ e = rw e
-
--- what 1 to 12 make sure of, in a field of q elements
-pub record Lends (q : ℕ) (P : Party) (l : List ℕ) : Type 0 where
-  pub parties : askParties (P .parties) ≡ Accepted
-  pub circuit : askCircuit (P .parties) q (P .circuit) ≡ Accepted
-  pub prep-long : length (P .prep) ≡ prepSize (P .circuit)
-  pub prep-low : AllBelow q (P .prep)
-  pub inputs-long : length (P .inputs) ≡ inputCount (P .circuit) (P .me)
-  pub inputs-low : AllBelow q (P .inputs)
-  pub room : scratchSize (layout (P .circuit)) ≤ length l
-
-pub lends : {q : ℕ} → 0 < q → (P : Party) (l : List ℕ) → askLent q P l ≡ Accepted → Lends q P l
-unfolding askLent
-lends {q} some P l e =
-    let after-1 = then-right _ _ e in
-    let after-2 = then-right _ _ after-1 in
-    let after-7 = then-right _ _ after-2 in
-    let after-8 = then-right _ _ after-7 in
-    let after-9 = then-right _ _ after-8 in
-    let after-10 = then-right _ _ after-9 in
-    record {
-      parties = then-left _ _ e;
-      circuit = then-left _ _ after-2;
-      prep-long = eqb-true _ _ (ask-true 8 0 _ (then-left _ _ after-7));
-      prep-low = elements-below 9 q (P .prep) some (then-left _ _ after-8);
-      inputs-long = eqb-true _ _ (ask-true 10 0 _ (then-left _ _ after-9));
-      inputs-low = elements-below 11 q (P .inputs) some (then-left _ _ after-10);
-      room = leb-true _ _ (ask-true 12 0 _ (then-right _ _ after-10));
-    }
 
 module _ {q : ℕ} (c l : List ℕ) (j : ℕ) (r : Round) where
   slots-pass : (k : ℕ) (wanted : ℕ → Bool) (slot : ℕ → Slot) → ((t : ℕ) → t < k → wanted t ≡ true → read (layout c) l (slot t) < q)
