@@ -442,7 +442,7 @@ fn scan(parties: usize, size: u32, c: &[u32], count: usize) -> Verdict
     Verdict::Accepted
 }
 
-// Questions 3 to 7, of a field of that size.
+// Questions 3 to 7, of a field of that size. It is no entry: it is for the crates above, which ask question 1 before it.
 pub fn accept(parties: usize, size: u32, c: &[u32]) -> Verdict
     ensures { λ r. ⌜ verdictOf r ≡ askCircuit parties size (now (c .entry)) ⌝ }
 {

@@ -1,4 +1,4 @@
-// The questions of the joint run.
+// The questions of the joint run after those that a party asks of parties and circuit.
 use crate::Frame;
 use circuit::Totals;
 use circuit::Verdict;
@@ -6,27 +6,13 @@ ghost use mathlib.Core.Path.{_≡_};
 ghost use Prim.Native.Nat.{_*_, _≤_};
 ghost use Rattle.field.specs.Prime.{p};
 ghost use Rattle.circuit.specs.Verdict.{_then_};
-ghost use Rattle.circuit.specs.Accept.{askCircuit};
 ghost use Rattle.circuit.specs.Code.{verdictOf, Totalled};
 ghost use Rattle.circuit.specs.Count.{prepSize, inCount, outCount};
 ghost use Rattle.circuit.specs.Round.{wordCount, coefficientCount};
 ghost use Rattle.circuit.specs.Valid.{Valid};
 ghost use Rattle.steps.specs.Scratch.{layout, scratchSize};
-ghost use Rattle.party.specs.Ask.{askParties, mostParties};
+ghost use Rattle.party.specs.Ask.{mostParties};
 ghost use Rattle.joint.specs.Code.{Framed, listsOf, roomsOf};
-
-// Questions 1 and 3 to 7.
-pub fn ask_setting(parties: usize, c: &[u32]) -> Verdict
-    ensures { λ r. ⌜ verdictOf r ≡ (askParties parties then askCircuit parties p (now (c .entry))) ⌝ }
-{
-    match party::asking::ask_parties(parties) {
-        Verdict::Refused { number, index } => {
-            return Verdict::Refused { number, index };
-        }
-        Verdict::Accepted => {}
-    }
-    circuit::accept(parties, field::P, c)
-}
 
 // Questions 16 to 18: so many coefficients, words and outputs are wanted.
 fn ask_rooms(

@@ -73,7 +73,7 @@ pub fn joint_run(
         ≡ jointOutputs prime (jointOf parties (now (c .entry)) (now (preps .entry)) (now (inputs .entry)) (now (coefficients .entry)))
         (now (scratch .entry)) (now (transcript .entry)) (now (outputs .entry)) ⌝ }
 {
-    match asking::ask_setting(parties, c) {
+    match party::asking::ask_setting(parties, c) {
         Verdict::Refused { number, index } => {
             return JointAnswer::Refusal { number, index };
         }

@@ -36,7 +36,7 @@ const FEWEST_PARTIES: usize = 2;
 const MOST_PARTIES: usize = 8;
 
 // Question 1.
-pub fn ask_parties(parties: usize) -> Verdict
+fn ask_parties(parties: usize) -> Verdict
     ensures { λ r. ⌜ verdictOf r ≡ askParties parties ⌝ }
 {
     if parties < FEWEST_PARTIES {
@@ -152,8 +152,28 @@ pub fn ask_lists(
     Verdict::Accepted
 }
 
+// Questions 3 to 7, of the field of this crate.
+fn ask_circuit(parties: usize, c: &[u32]) -> Verdict
+    ensures { λ r. ⌜ verdictOf r ≡ askCircuit parties p (now (c .entry)) ⌝ }
+{
+    circuit::accept(parties, field::P, c)
+}
+
+// Questions 1 and 3 to 7: what is asked where no party calls.
+pub fn ask_setting(parties: usize, c: &[u32]) -> Verdict
+    ensures { λ r. ⌜ verdictOf r ≡ (askParties parties then askCircuit parties p (now (c .entry))) ⌝ }
+{
+    match ask_parties(parties) {
+        Verdict::Refused { number, index } => {
+            return Verdict::Refused { number, index };
+        }
+        Verdict::Accepted => {}
+    }
+    ask_circuit(parties, c)
+}
+
 // Questions 1 to 7.
-fn ask_setting(parties: usize, me: usize, c: &[u32]) -> Verdict
+fn ask_party(parties: usize, me: usize, c: &[u32]) -> Verdict
     ensures { λ r. ⌜ verdictOf r ≡ (askParties parties then ask 2 0 (ltb me parties) then askCircuit parties p (now (c .entry))) ⌝ }
 {
     match ask_parties(parties) {
@@ -168,7 +188,7 @@ fn ask_setting(parties: usize, me: usize, c: &[u32]) -> Verdict
             index: 0,
         };
     }
-    circuit::accept(parties, field::P, c)
+    ask_circuit(parties, c)
 }
 
 // May a check share be held at this stage?
@@ -400,7 +420,7 @@ pub fn ask_lent(
     ensures asked { λ r. ⌜ lentOf r ≡ askLent p (partyOf parties me (now (c .entry)) (now (prep .entry)) (now (inputs .entry))) (now (l .entry)) ⌝ }
     ensures accepted { λ r. ⌜ LentOk (now (c .entry)) me gate r ⌝ }
 {
-    match ask_setting(parties, me, c) {
+    match ask_party(parties, me, c) {
         Verdict::Refused { number, index } => {
             return Lent::Refused { number, index };
         }

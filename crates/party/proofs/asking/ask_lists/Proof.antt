@@ -1,3 +1,5 @@
+-- `party::asking::ask_lists` meets its contract: it asks 8 to 12 in turn.
+-- Assumes nothing.
 use mathlib.Core.Path.{sym}
 use borrow.Author.Needs.{needs}
 use borrow.Author.Tests.{eq-eqb, ne-eqb, le-leb, lt-leb}
