@@ -11,21 +11,42 @@ use borrow.Author.Tests.{lt-ltb, le-leb, eq-eqb}
 use Rattle.circuit.specs.Verdict.{Verdict, Accepted, ask, _then_, each, elements}
 use Rattle.circuit.specs.Gate.{gate, gates}
 use Rattle.circuit.specs.Kind.{hasValue}
-use Rattle.circuit.specs.Count.{unchecked}
+use Rattle.circuit.specs.Count.{prepSize, inputCount, unchecked}
 use Rattle.circuit.specs.Round.{Round, isCommit, isReveal, rounds, among, words, openedIn, coefficientsIn}
+use Rattle.circuit.specs.Accept.{askCircuit}
 use Rattle.circuit.proofs.Verdicts.{ask-yes, then-both, each-all, elements-all}
-use Rattle.steps.specs.Scratch.{Slot, Share, Mac, Value, ValueMac, layout, read}
+use Rattle.steps.specs.Scratch.{Slot, Share, Mac, Value, ValueMac, layout, scratchSize, read}
 use Rattle.steps.specs.Position.{Position, Stage, Send, Receive, stageOccurs, mayHold, occurs, whenSending, whenReceiving}
 use Rattle.steps.specs.Party.{Party}
 use Rattle.steps.specs.Send.{mark}
 use Rattle.steps.specs.Code.{AllBelow, WorkedBelow}
 use Rattle.steps.proofs.Writing.{OpenedTo}
-use Rattle.party.specs.Ask.{slotQuestion, askSlots, askWorked, askMarks, askSendRound, askReceiveRound, askLent, askSend, askReceive}
+use Rattle.party.specs.Ask.{askParties, slotQuestion, askSlots, askWorked, askMarks, askSendRound, askReceiveRound, askLent, askSend, askReceive}
 
 -- Questions 1 to 12 look at the length of the scratch alone.
 pub lent-alike : (q : ℕ) (P : Party) (l l′ : List ℕ) → length l′ ≡ length l → askLent q P l′ ≡ askLent q P l
 unfolding askLent
 lent-alike q P l l′ e = rw e
+
+-- They pass where the setting is accepted, and the lists have their lengths and are of elements.
+pub lent-passes : {q : ℕ} (P : Party) (l : List ℕ) → askParties (P .parties) ≡ Accepted
+    → P .me < P .parties
+    → askCircuit (P .parties) q (P .circuit) ≡ Accepted
+    → length (P .prep) ≡ prepSize (P .circuit)
+    → AllBelow q (P .prep)
+    → length (P .inputs) ≡ inputCount (P .circuit) (P .me)
+    → AllBelow q (P .inputs)
+    → scratchSize (layout (P .circuit)) ≤ length l
+    → askLent q P l ≡ Accepted
+unfolding askLent
+lent-passes {q} P l parties me circuit prep-long prep-low inputs-long inputs-low room =
+    then-both parties
+    (then-both (ask-yes 2 0 (lt-ltb _ _ me))
+    (then-both circuit
+    (then-both (ask-yes 8 0 (eq-eqb _ _ prep-long))
+    (then-both (elements-all 9 q (P .prep) prep-low)
+    (then-both (ask-yes 10 0 (eq-eqb _ _ inputs-long))
+    (then-both (elements-all 11 q (P .inputs) inputs-low) (ask-yes 12 0 (le-leb _ _ room))))))))
 
 module _ {q : ℕ} (c l : List ℕ) (j : ℕ) (r : Round) where
   slots-pass : (k : ℕ) (wanted : ℕ → Bool) (slot : ℕ → Slot) → ((t : ℕ) → t < k → wanted t ≡ true → read (layout c) l (slot t) < q)

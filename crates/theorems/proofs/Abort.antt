@@ -284,6 +284,27 @@ module _ (O : Ops) (J : Joint) (scratch : List ℕ) (accepts : Accepts O (J .par
   pub passed-rounds : ((k : ℕ) (r : Round) → Fails O J scratch k r → ⊥) → whole O J scratch .rounds ≡ roundFormula (J .circuit)
   passed-rounds none = finished-rounds (finishing O J scratch ok none)
 
+  -- After that many rounds no run sends any more ..
+  formula-ends : (r : Round) → after O J scratch (roundFormula (J .circuit)) .point .stage ≡ Send r → ⊥
+  formula-ends r e = omega (arith, rounds-within O J scratch ok (roundFormula (J .circuit)) r e, formula-is (J .circuit))
+
+  -- .. so they are the whole run.
+  pub whole-first : whole O J scratch ≡ first O J scratch (roundFormula (J .circuit))
+  unfolding whole roundCount
+  whole-first =
+      ap (λ (m : ℕ). run O J m (begun O J scratch)) count
+      ∙ run-ended O J (roundFormula (J .circuit)) (allowed O J scratch - roundFormula (J .circuit)) (begun O J scratch)
+      (subst (λ (s : State). Idle (s .point .stage)) (sym (last-first O J scratch (roundFormula (J .circuit)))) (idle _ formula-ends))
+    where
+      count : allowed O J scratch ≡ roundFormula (J .circuit) + (allowed O J scratch - roundFormula (J .circuit))
+      count = omega (arith, formula-is (J .circuit), rounds-le (J .circuit) (gates (J .circuit)))
+
+      idle : (g : Stage) → ((r : Round) → g ≡ Send r → ⊥) → Idle g
+      idle (Send r) none = absurd (none r refl)
+      idle (Receive r) none = tt
+      idle Finished none = tt
+      idle Aborted none = tt
+
   -- A run that a check stops takes no more, and so "at most 766".
   pub most-rounds : (whole O J scratch .rounds ≤ roundFormula (J .circuit)) × (whole O J scratch .rounds ≤ mostRoundsOfAll)
   most-rounds =

@@ -486,6 +486,10 @@ module _ {O : Ops} (F : Field O) (D : Apart) (cs : List ℕ) (ok : Meets O D cs)
       go inv (going r e fits used) = inv-sent k inv r e fits used
       go inv (over end) = inv-over k inv end
 
+  -- Where no check share may be held, none is.
+  pub held-free : (k i : ℕ) → i < D .parties → mayHold (state k .point .stage) ≡ false → state k .held i ≡ 0
+  held-free k i h = inv-after k .sound i h .none
+
   -- Where a round is sent, the run is going.
   module _ (k : ℕ) (r : Round) (e : state k .point .stage ≡ Send r) {A : Type 0}
       (use-it : FitsStage (D .circuit) (state k .point .gate) (Send r)

@@ -24,3 +24,4 @@ pub mod Calls
 pub mod Standing
 pub mod Joined
 pub mod Apart
+pub mod ApartDemands

@@ -19,17 +19,25 @@ use Rattle.circuit.specs.Valid.{Valid}
 use Rattle.circuit.proofs.Valid.{valid}
 use Rattle.steps.specs.Scratch.{layout, scratchSize}
 use Rattle.joint.specs.Joint.{Joint, band, party}
-use Rattle.joint.specs.Run.{whole}
+use Rattle.joint.specs.Run.{State, begun, run, whole}
 use Rattle.joint.specs.Entry.{verdict, jointAnswer, jointScratch}
 use Rattle.joint.specs.Good.{Good}
+use Rattle.theorems.specs.Premises.{after}
 use Rattle.theorems.specs.Matching.{leftOut, plainly, match, rule}
 use Rattle.theorems.specs.Secrecy.{runOf, bandOf, Compared, Alike, Secret, Shows, Secrecy, Blindness}
 use Rattle.theorems.proofs.Given.{given}
 use Rattle.theorems.proofs.Lengths.{band-left}
 use Rattle.theorems.proofs.Matching.{matched-good, matched-kept, matched-back}
 use Rattle.theorems.proofs.SideBySide.{Pair}
-use Rattle.theorems.proofs.Twins.{Ends, twins-whole}
+use Rattle.theorems.proofs.Runs.{last-first}
+use Rattle.theorems.proofs.Twins.{Ends, twins-first, twins-whole}
 use Rattle.theorems.proofs.Compared.{left-out, equal-outputs, no-move, left, asked, room-of}
+
+-- two runs after k rounds
+pub record SameFirst (O : Ops) (J J′ : Joint) (scratch : List ℕ) (k : ℕ) : Type 0 where
+  pub transcript : run O J′ k (begun O J′ scratch) .transcript ≡ run O J k (begun O J scratch) .transcript
+  pub point : after O J′ scratch k .point ≡ after O J scratch k .point
+  pub used : after O J′ scratch k .used ≡ after O J scratch k .used
 
 module _ {O : Ops} (F : Field O) (n : ℕ) (c : List ℕ) (A : ℕ → Bool) where
   open Ops O using (size)
@@ -75,26 +83,13 @@ module _ {O : Ops} (F : Field O) (n : ℕ) (c : List ℕ) (A : ℕ → Bool) whe
     match-keeps : (m : List ℕ) → Good O n c m → (i : ℕ) → i < n → A i ≡ true → band (prepSize c) (match O n c h x x′ m) i ≡ band (prepSize c) m i
     match-keeps m g i l a = matched-kept F n c h x x′ m g i (inside i a) (no-move O n c x x′ F h i (is .agree i l a)) l
 
-    module _ (m : List ℕ) (g : Good O n c m) (co scratch t o t′ o′ : List ℕ) where
+    module _ (m : List ℕ) (g : Good O n c m) (co : List ℕ) where
       -- the two runs
       abbrev J : Joint
       J = runOf O n c A m x co
 
       abbrev J′ : Joint
       J′ = runOf O n c A (match O n c h x x′ m) x′ co
-
-      -- Each run is left with the questions about its scratch, coefficients and room, which are the same in both.
-      asked-here : verdict O J scratch t o ≡ left size n c co scratch (length t) (length o)
-      unfolding verdict
-      asked-here = asked F n c A (is .accepts) m x g (is .first) co scratch (length t) (length o)
-
-      asked-there : verdict O J′ scratch t′ o′ ≡ left size n c co scratch (length t′) (length o′)
-      unfolding verdict
-      asked-there = asked F n c A (is .accepts) (match O n c h x x′ m) x′ (match-good m g) (is .second) co scratch (length t′) (length o′)
-
-      -- A run that is not refused has room.
-      room : verdict O J scratch t o ≡ Accepted → n * scratchSize (layout c) ≤ length scratch
-      room e = room-of F n c A co scratch (length t) (length o) (sym asked-here ∙ e)
 
       -- the two runs as a pair
       abbrev pair : Pair F
@@ -120,23 +115,54 @@ module _ {O : Ops} (F : Field O) (n : ℕ) (c : List ℕ) (A : ℕ → Bool) whe
       known i l a =
           λ u. record { parties = n; me = i; circuit = c; prep = match-keeps m g i l a u; inputs = is .agree i l a u }
 
-      module _ (e : verdict O J scratch t o ≡ Accepted) (e′ : verdict O J′ scratch t′ o′ ≡ Accepted) where
+      -- After any number of rounds the two runs stand alike, and the same words are written.
+      pub same-first : (scratch : List ℕ) → n * scratchSize (layout c) ≤ length scratch → (k : ℕ) → SameFirst O J J′ scratch k
+      same-first scratch room k =
+          let ends = twins-first pair A known scratch room k in
+          record {
+            transcript = ends .transcript;
+            point = ap (λ (s : State). s .point) (sym (last-first O J′ scratch k)) ∙ ends .last .point ∙ ap (λ (s : State). s .point) (last-first O J scratch k);
+            used = ap (λ (s : State). s .used) (sym (last-first O J′ scratch k)) ∙ ends .last .used ∙ ap (λ (s : State). s .used) (last-first O J scratch k);
+          }
+
+    module _ (m : List ℕ) (g : Good O n c m) (co scratch t o t′ o′ : List ℕ) where
+      -- the two runs
+      abbrev R : Joint
+      R = J m g co
+
+      abbrev R′ : Joint
+      R′ = J′ m g co
+
+      -- Each run is left with the questions about its scratch, coefficients and room, which are the same in both.
+      asked-here : verdict O R scratch t o ≡ left size n c co scratch (length t) (length o)
+      unfolding verdict
+      asked-here = asked F n c A (is .accepts) m x g (is .first) co scratch (length t) (length o)
+
+      asked-there : verdict O R′ scratch t′ o′ ≡ left size n c co scratch (length t′) (length o′)
+      unfolding verdict
+      asked-there = asked F n c A (is .accepts) (match O n c h x x′ m) x′ (match-good m g) (is .second) co scratch (length t′) (length o′)
+
+      -- A run that is not refused has room.
+      room : verdict O R scratch t o ≡ Accepted → n * scratchSize (layout c) ≤ length scratch
+      room e = room-of F n c A co scratch (length t) (length o) (sym asked-here ∙ e)
+
+      module _ (e : verdict O R scratch t o ≡ Accepted) (e′ : verdict O R′ scratch t′ o′ ≡ Accepted) where
         -- Both runs end alike.
-        ends : Ends pair A known (whole O J scratch) (whole O J′ scratch)
-        ends = twins-whole pair A known scratch (room e)
+        ends : Ends (pair m g co) A (known m g co) (whole O R scratch) (whole O R′ scratch)
+        ends = twins-whole (pair m g co) A (known m g co) scratch (room e)
 
         -- They give the same answer.
-        same-answer : jointAnswer O J′ scratch t′ o′ ≡ jointAnswer O J scratch t o
+        same-answer : jointAnswer O R′ scratch t′ o′ ≡ jointAnswer O R scratch t o
         unfolding jointAnswer
         same-answer = rw (e, e′, ends .rounds, ends .last .point)
 
         -- They leave the same numbers in the scratch of A's parties.
-        same-bands : (i : ℕ) → i < n → A i ≡ true → bandOf O n c A (jointScratch O J′ scratch t′ o′) i ≡ bandOf O n c A (jointScratch O J scratch t o) i
+        same-bands : (i : ℕ) → i < n → A i ≡ true → bandOf O n c A (jointScratch O R′ scratch t′ o′) i ≡ bandOf O n c A (jointScratch O R scratch t o) i
         same-bands i l a =
-            band-left O J′ scratch t′ o′ (room e) e′ i l ∙ ends .last .bands i l a ∙ sym (band-left O J scratch t o (room e) e i l)
+            band-left O R′ scratch t′ o′ (room e) e′ i l ∙ ends .last .bands i l a ∙ sym (band-left O R scratch t o (room e) e i l)
 
       -- The two runs are alike.
-      alike : Alike O n c A J J′ scratch t o t′ o′
+      alike : Alike O n c A R R′ scratch t o t′ o′
       alike =
           record {
             refusals = λ lt lo. asked-there ∙ ap₂ (left size n c co scratch) (sym lt) (sym lo) ∙ sym asked-here;

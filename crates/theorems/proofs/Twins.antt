@@ -171,7 +171,12 @@ module _ {O : Ops} {F : Field O} (P : Pair F) where
         at Finished e later = unfold whenSending in ends-still s s′ t
         at Aborted e later = unfold whenSending in ends-still s s′ t
 
-    -- Two whole runs end alike.
+    -- So do the first k rounds of two runs ..
+    pub twins-first : (scratch : List ℕ) → n * scratchSize (layout c) ≤ length scratch → (k : ℕ)
+        → Ends (run O J k (begun O J scratch)) (run O J′ k (begun O J′ scratch))
+    twins-first scratch room k = twins-run k _ _ (twins-begun scratch room)
+
+    -- .. and two whole runs.
     pub twins-whole : (scratch : List ℕ) → n * scratchSize (layout c) ≤ length scratch → Ends (whole O J scratch) (whole O J′ scratch)
     unfolding whole
-    twins-whole scratch room = twins-run _ _ _ (twins-begun scratch room)
+    twins-whole scratch room = twins-first scratch room _

@@ -6,3 +6,4 @@ pub mod Matching
 pub mod Secrecy
 pub mod Example
 pub mod Apart
+pub mod ApartDemands
