@@ -25,3 +25,4 @@ pub mod Standing
 pub mod Joined
 pub mod Apart
 pub mod ApartDemands
+pub mod DocketApart
