@@ -8,13 +8,13 @@ use native.Mathlib.Nat.{add-zero}
 use native.Mathlib.Numerals.{add-one}
 use native.Mathlib.Omega.{arith}
 use lib.ListN.{length, getD}
-use borrow.Author.Tests.{not-true, not-false, eq-eqb, le-leb}
+use borrow.Author.Tests.{eq-eqb, le-leb}
 use Rattle.circuit.specs.Verdict.{Verdict, Accepted, Refused, ask, _then_, each}
 use Rattle.circuit.specs.Gate.{Gate, gateSize, entry, gate, gates}
 use Rattle.circuit.specs.Kind.{Role, isOut}
 use Rattle.circuit.specs.Accept.{fewestGates, mostGates, role, isKind, nameOk, restOk, askName, askRest, askGate, askSize, askLast, askCircuit}
 use Rattle.circuit.proofs.Tests.{both-true}
-use Rattle.circuit.proofs.Verdicts.{said-yes, said-no, ask-yes, ask-no, then-both, then-refused, then-passed, asked-yes, asked-no, each-none, each-next, each-more, each-refused, each-done}
+use Rattle.circuit.proofs.Verdicts.{said-yes, said-no, ask-yes, ask-no, then-both, then-refused, then-passed, each-none, each-more, each-refused, each-done}
 
 -- where the code finds the kind of gate j, and its numbers
 pub kind-at : (c : List ℕ) (j : ℕ) → getD c (gateSize * j) 0 ≡ entry c j 0
@@ -25,11 +25,23 @@ pub number-at : (c : List ℕ) (j k : ℕ) → getD c (gateSize * j + 1 + k) 0 �
 unfolding entry
 number-at c j k = ap (λ (m : ℕ). getD c m 0) (let e : gateSize * j + 1 + k ≡ gateSize * j + suc k = omega arith in e)
 
--- the first k numbers of gate j are asked: no name is refused, and rest says whether the rest passes
-pub record Numbers (n q : ℕ) (c : List ℕ) (j k : ℕ) (rest : Bool) : Type 0 where
+-- one question is asked of the first k numbers of a gate, and passed
+pub record Numbers (f : ℕ → Verdict) (k : ℕ) : Type 0 where
   pub upto : k ≤ 3
-  pub names : each k (askName n q c j) ≡ Accepted
-  pub rests : each k (askRest n q c j) ≡ ask 6 j rest
+  pub passed : each k f ≡ Accepted
+
+module _ (f : ℕ → Verdict) where
+  pub numbers-start : Numbers f 0
+  numbers-start = record { upto = omega arith; passed = each-none f }
+
+  pub numbers-more : {k : ℕ} → Numbers f k → k < 3 → f k ≡ Accepted → Numbers f (k + 1)
+  numbers-more {k} a l e = record { upto = omega arith; passed = each-more f k (a .passed) e }
+
+  numbers-done : {k : ℕ} → Numbers f k → 3 ≤ k → each 3 f ≡ Accepted
+  numbers-done {k} a d = each-done f k 3 (a .upto) d (a .passed)
+
+  numbers-refused : {k number index : ℕ} → Numbers f k → k < 3 → f k ≡ Refused number index → each 3 f ≡ Refused number index
+  numbers-refused {k} a l e = each-refused f k 3 l (a .passed) e
 
 module _ (n q : ℕ) (c : List ℕ) (j : ℕ) where
   -- w is what the code found number k + 1 of g to be for, and g is gate j
@@ -59,17 +71,6 @@ module _ (n q : ℕ) (c : List ℕ) (j : ℕ) where
     unfolding askRest
     rest-no e h = ask-no 6 j (said-no (rest-said e) h)
 
-  pub numbers-start : Numbers n q c j 0 true
-  numbers-start = record { upto = omega arith; names = each-none _; rests = each-none _ ∙ sym (ask-yes 6 j refl) }
-
-  module _ {k : ℕ} {rest : Bool} (a : Numbers n q c j k rest) where
-    module _ (l : k < 3) (name : askName n q c j k ≡ Accepted) where
-      pub numbers-yes : askRest n q c j k ≡ Accepted → Numbers n q c j (k + 1) rest
-      numbers-yes e = record { upto = omega arith; names = each-more _ k (a .names) name; rests = each-next _ k ∙ ap (λ (v : Verdict). v then askRest n q c j k) (a .rests) ∙ asked-yes 6 j rest e }
-
-      pub numbers-no : askRest n q c j k ≡ Refused 6 j → Numbers n q c j (k + 1) false
-      numbers-no e = record { upto = omega arith; names = each-more _ k (a .names) name; rests = each-next _ k ∙ ap (λ (v : Verdict). v then askRest n q c j k) (a .rests) ∙ asked-no 6 j rest e }
-
   -- the gate is refused at its kind, at a name or at the rest, or passes
   module _ {r : Bool} (said : r ≡ isKind (getD c (gateSize * j) 0)) where
     is-kind : not r ≡ false → ask 4 j (isKind (entry c j 0)) ≡ Accepted
@@ -79,20 +80,21 @@ module _ (n q : ℕ) (c : List ℕ) (j : ℕ) where
     unfolding askGate
     gate-kind h = then-refused _ (ask-no 4 j (rw (← kind-at c j) (said-no said h)))
 
-    module _ (h : not r ≡ false) {k : ℕ} {rest : Bool} (a : Numbers n q c j k rest) where
+    module _ (h : not r ≡ false) {k : ℕ} (names : Numbers (askName n q c j) k) where
       pub gate-name : k < 3 → askName n q c j k ≡ Refused 5 j → askGate n q c j ≡ Refused 5 j
       unfolding askGate
-      gate-name l here = then-passed _ (is-kind h) ∙ then-refused _ (each-refused (askName n q c j) k 3 l (a .names) here)
+      gate-name l here = then-passed _ (is-kind h) ∙ then-refused _ (numbers-refused _ names l here)
 
-      gate-numbers : 3 ≤ k → askGate n q c j ≡ ask 6 j rest
-      unfolding askGate
-      gate-numbers d = then-passed _ (is-kind h) ∙ then-passed _ (each-done (askName n q c j) k 3 (a .upto) d (a .names)) ∙ each-done (askRest n q c j) k 3 (a .upto) d (a .rests)
+      module _ (d : 3 ≤ k) {t : ℕ} (rests : Numbers (askRest n q c j) t) where
+        named : askGate n q c j ≡ each 3 (askRest n q c j)
+        unfolding askGate
+        named = then-passed _ (is-kind h) ∙ then-passed _ (numbers-done _ names d)
 
-      pub gate-rest : 3 ≤ k → not rest ≡ true → askGate n q c j ≡ Refused 6 j
-      gate-rest d e = gate-numbers d ∙ ask-no 6 j (not-true rest e)
+        pub gate-rest : t < 3 → askRest n q c j t ≡ Refused 6 j → askGate n q c j ≡ Refused 6 j
+        gate-rest l here = named ∙ numbers-refused _ rests l here
 
-      pub gate-ok : 3 ≤ k → not rest ≡ false → askGate n q c j ≡ Accepted
-      gate-ok d e = gate-numbers d ∙ ask-yes 6 j (not-false rest e)
+        pub gate-ok : 3 ≤ t → askGate n q c j ≡ Accepted
+        gate-ok e = named ∙ numbers-done _ rests e
 
 -- the circuit has a good size; then it is refused at a gate or at its last gate's kind, or passes
 module _ (n q : ℕ) (c : List ℕ) (whole : length c % gateSize ≡ 0) (two : fewestGates ≤ gates c) (few : gates c ≤ mostGates) where

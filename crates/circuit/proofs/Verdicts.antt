@@ -62,18 +62,6 @@ pub then-passed : {a : Verdict} (b : Verdict) → a ≡ Accepted → (a then b) 
 unfolding _then_
 then-passed b e = rw e
 
--- a question that was asked of several things, with the answer b so far, and is asked of one more
-module _ (number index : ℕ) where
-  pub asked-yes : (b : Bool) {v : Verdict} → v ≡ Accepted → (ask number index b then v) ≡ ask number index b
-  unfolding ask _then_
-  asked-yes true e = e
-  asked-yes false e = refl
-
-  pub asked-no : (b : Bool) {v : Verdict} → v ≡ Refused number index → (ask number index b then v) ≡ ask number index false
-  unfolding ask _then_
-  asked-no true e = e
-  asked-no false e = refl
-
 module _ (f : ℕ → Verdict) where
   pub each-below : (n : ℕ) → each n f ≡ Accepted → (j : ℕ) → j < n → f j ≡ Accepted
   unfolding each

@@ -399,8 +399,8 @@ fn rest_ok(size: u32, x: u32, role: Role) -> bool
     }
 }
 
-// Questions 4 to 6 of the first count gates: all three of one gate before the next. A gate's numbers are gone through once: question 6
-// refuses only after question 5 was asked of each of them.
+// Questions 4 to 6 of the first count gates: all three of one gate before the next, and of a gate question 5 of each of its numbers before
+// question 6 of any.
 fn scan(parties: usize, size: u32, c: &[u32], count: usize) -> Verdict
     requires { ⌜ (gateSize * count ≤ length (now c)) × (count ≤ mostGates) ⌝ }
     ensures { λ r. ⌜ verdictOf r ≡ each count (askGate parties size (now (c .entry))) ⌝ }
@@ -415,27 +415,27 @@ fn scan(parties: usize, size: u32, c: &[u32], count: usize) -> Verdict
             };
         }
         let g = gate_at(c, j);
-        let mut rest = true;
         let mut k = 0;
         while k < OPERANDS {
             let role = role_of(g, k + 1);
-            let x = c[at + 1 + k];
-            if !name_ok(parties, c, j, x, role) {
+            if !name_ok(parties, c, j, c[at + 1 + k], role) {
                 return Verdict::Refused {
                     number: 5,
                     index: j,
                 };
             }
-            if !rest_ok(size, x, role) {
-                rest = false;
-            }
             k += 1;
         }
-        if !rest {
-            return Verdict::Refused {
-                number: 6,
-                index: j,
-            };
+        let mut t = 0;
+        while t < OPERANDS {
+            let role = role_of(g, t + 1);
+            if !rest_ok(size, c[at + 1 + t], role) {
+                return Verdict::Refused {
+                    number: 6,
+                    index: j,
+                };
+            }
+            t += 1;
         }
         j += 1;
     }
