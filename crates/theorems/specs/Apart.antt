@@ -12,7 +12,7 @@ use Rattle.circuit.specs.Gate.{gate}
 use Rattle.circuit.specs.Round.{Round, words, coefficientCount}
 use Rattle.steps.specs.Scratch.{layout, scratchSize}
 use Rattle.steps.specs.Position.{Stage, Send, Receive, Finished, Aborted, Position, holding, aborted, start, whenSending, whenReceiving}
-use Rattle.steps.specs.Party.{Party}
+use Rattle.steps.specs.Party.{Party, partyOf}
 use Rattle.steps.specs.Send.{sent, holds}
 use Rattle.party.specs.Ask.{askLent}
 use Rattle.party.specs.Entry.{Answer, Refusal, Next, Output, Abort, openAnswer, sendAnswer, sendOut, receiveAnswer, receiveScratch}
@@ -32,8 +32,7 @@ pub record Apart : Type 0 where
 
 -- what party i lends at every call
 abbrev pub partyIn : Apart → ℕ → Party
-partyIn D i =
-    record { parties = D .parties; me = i; circuit = D .circuit; prep = D .prep i; inputs = D .inputs i }
+partyIn D i = partyOf (D .parties) i (D .circuit) (D .prep i) (D .inputs i)
 
 -- one party between two calls: where it stands, its scratch, and the answers that it got, in order
 pub record Local : Type 0 where
