@@ -29,7 +29,7 @@ answerNumbers (Abort at) = positionNumbers 3 0 at
 unfoldable pub jointNumbers : J.JointAnswer → List ℕ
 jointNumbers (J.Refusal number index) = 0 ∷ number ∷ index ∷ 0 ∷ 0 ∷ []
 jointNumbers (J.Done rounds) = 1 ∷ rounds ∷ 0 ∷ 0 ∷ 0 ∷ []
-jointNumbers (J.Stopped gate rounds) = 2 ∷ rounds ∷ gate ∷ 0 ∷ 0 ∷ []
+jointNumbers (J.Aborted gate rounds) = 2 ∷ rounds ∷ gate ∷ 0 ∷ 0 ∷ []
 
 -- what a call with this list for its answer leaves, and what stays where the list is too short
 unfoldable pub called : List ℕ → List ℕ → List ℕ → List ℕ

@@ -222,7 +222,7 @@ fn put_joint(answer: &mut [u64], a: JointAnswer)
         JointAnswer::Done(rounds) => {
             put(answer, DONE, rounds as u64, 0, 0, 0);
         }
-        JointAnswer::Stopped { gate, rounds } => {
+        JointAnswer::Aborted { gate, rounds } => {
             put(answer, STOPPED, rounds as u64, gate as u64, 0, 0);
         }
     }

@@ -52,7 +52,7 @@ fn main() {
             number: _,
             index: _,
         } => {}
-        JointAnswer::Stopped { gate: _, rounds: _ } => {}
+        JointAnswer::Aborted { gate: _, rounds: _ } => {}
         JointAnswer::Done(rounds) => {
             printing::print_rounds(PARTIES, &circuit, rounds, &transcript);
             printing::print_list(b"out", &outputs);

@@ -27,7 +27,7 @@ use Rattle.joint.specs.Joint.{Joint, joined, band, inputsAt, party}
 use Rattle.joint.specs.Run.{State, said, step, released, mostRounds, whole}
 use Rattle.joint.specs.Entry as E
 use Rattle.joint.specs.declared.JointAnswer.{JointAnswer}
-use Rattle.joint.specs.declared.JointAnswer.the-variants.{Refusal, Done, Stopped}
+use Rattle.joint.specs.declared.JointAnswer.the-variants.{Refusal, Done, Aborted}
 use Rattle.joint.specs.declared.Due.{Due}
 use Rattle.joint.specs.declared.Due.the-variants.{Next, Over}
 use Rattle.joint.specs.declared.Frame.{Frame}
@@ -36,7 +36,7 @@ use Rattle.joint.specs.declared.Course.{Course}
 unfoldable pub jointAnswerOf : JointAnswer → E.JointAnswer
 jointAnswerOf (Refusal number index) = E.Refusal number index
 jointAnswerOf (Done rounds) = E.Done rounds
-jointAnswerOf (Stopped gate rounds) = E.Stopped gate rounds
+jointAnswerOf (Aborted gate rounds) = E.Aborted gate rounds
 
 -- a round is due at its sending half, and elsewhere none
 abbrev pub IsDue : Stage → Due → Type 0

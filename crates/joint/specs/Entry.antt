@@ -6,7 +6,7 @@ use lib.ListN.{length, drop}
 use Rattle.field.specs.Ops.{Ops}
 use Rattle.circuit.specs.Verdict.{Verdict, Accepted, Refused}
 use Rattle.steps.specs.Scratch.{layout, scratchSize}
-use Rattle.steps.specs.Position.{Stage, Send, Receive, Finished, Aborted}
+use Rattle.steps.specs.Position as At
 use Rattle.steps.specs.Send.{overwrite}
 use Rattle.party.specs.Entry.{leave}
 use Rattle.joint.specs.Joint.{Joint, joined}
@@ -19,14 +19,14 @@ pub data JointAnswer : Type 0 where
   -- "tells the number of rounds made"
   Done : ℕ → JointAnswer
   -- "If stopped it names the line": the gate, and the number of rounds made
-  Stopped : ℕ → ℕ → JointAnswer
+  Aborted : ℕ → ℕ → JointAnswer
 
 -- how a run that stands at a stage of a gate has ended, after some rounds
-unfoldable pub ended : Stage → ℕ → ℕ → JointAnswer
-ended (Send r) gate rounds = Done rounds
-ended (Receive r) gate rounds = Done rounds
-ended Finished gate rounds = Done rounds
-ended Aborted gate rounds = Stopped gate rounds
+unfoldable pub ended : At.Stage → ℕ → ℕ → JointAnswer
+ended (At.Send r) gate rounds = Done rounds
+ended (At.Receive r) gate rounds = Done rounds
+ended At.Finished gate rounds = Done rounds
+ended At.Aborted gate rounds = Aborted gate rounds
 
 unfoldable pub jointly : Verdict → JointAnswer → JointAnswer
 jointly Accepted a = a

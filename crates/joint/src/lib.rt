@@ -19,7 +19,7 @@ ghost use Rattle.joint.specs.Code.{jointAnswerOf, jointOf};
 pub enum JointAnswer {
     Refusal { number: u32, index: usize },
     Done(usize),
-    Stopped { gate: usize, rounds: usize },
+    Aborted { gate: usize, rounds: usize },
 }
 
 // What stays the same from round to round: the number of parties, the layout and the length of a party's scratch, and the length of its

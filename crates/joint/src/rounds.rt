@@ -210,7 +210,7 @@ fn ending(point: Point, rounds: usize) -> JointAnswer
         Stage::Send(_) => JointAnswer::Done(rounds),
         Stage::Receive(_) => JointAnswer::Done(rounds),
         Stage::Finished => JointAnswer::Done(rounds),
-        Stage::Aborted => JointAnswer::Stopped { gate, rounds },
+        Stage::Aborted => JointAnswer::Aborted { gate, rounds },
     }
 }
 

@@ -23,7 +23,7 @@ fn print_joint(answer: JointAnswer) {
             print_named(b"done", rounds);
             printing::print(b"\n");
         }
-        JointAnswer::Stopped { gate, rounds } => {
+        JointAnswer::Aborted { gate, rounds } => {
             print_named(b"stopped", gate);
             printing::print_number(rounds as u64);
             printing::print(b"\n");
@@ -81,7 +81,7 @@ fn print_shown(parties: u32, c: &[u32], answer: JointAnswer, transcript: &[u32],
             );
             printing::print_list(b"out", &outputs[..outs]);
         }
-        JointAnswer::Stopped { gate: _, rounds } => {
+        JointAnswer::Aborted { gate: _, rounds } => {
             printing::print_rounds(parties, c, rounds, transcript);
         }
     }
