@@ -106,9 +106,11 @@ name-ok-requires c κs = search needs
 returns-2 : tie.Need-returns-2 Inv-loop2 μ-loop2 Inv-loop3 μ-loop3 Inv-loop μ-loop
 unfolding verdictOf
 returns-2 c =
-    sym (each-refused _ _ _ (c .before .before .before .before .before .before .before .before .before .before .loop-test .taken) (c .before .before .before .before .before .before .before .before .before .before .before .loop .inv .1)
-    (gate-name _ _ _ _ (c .before .before .before .before .before .before .before .before .is-kind .ensures) (c .before .before .before .before .before .before .before .if1 .left) (c .before .before .before .before .before .loop2 .inv) (c .before .before .before .before .loop2-test .taken)
-    (name-no _ _ _ _ _ (c .before .before .before .before .before .before .gate-at .ensures) (c .before .before .before .role-of .ensures) (c .before .name-ok .ensures) (c .if2 .taken))))
+    let named = c .before .before .before .before .before in
+    let outer = named .before .before .before .before .before in
+    sym (each-refused _ _ _ (outer .loop-test .taken) (outer .before .loop .inv .1)
+    (gate-name _ _ _ _ (named .before .before .before .is-kind .ensures) (named .before .before .if1 .left) (named .loop2 .inv) (c .before .before .before .before .loop2-test .taken)
+    (name-no _ _ _ _ _ (named .before .gate-at .ensures) (c .before .before .before .role-of .ensures) (c .before .name-ok .ensures) (c .if2 .taken))))
 
 -- src/lib.rt:427:13
 add-k : tie.Need-add-k Inv-loop2 μ-loop2 Inv-loop3 μ-loop3 Inv-loop μ-loop
@@ -120,7 +122,10 @@ loop2-less c = search needs
 
 -- src/lib.rt:419:9
 loop2-again : tie.Need-loop2-again Inv-loop2 μ-loop2 Inv-loop3 μ-loop3 Inv-loop μ-loop
-loop2-again c = numbers-more _ (c .before .before .before .before .before .loop2 .inv) (c .before .before .before .before .loop2-test .taken) (name-yes _ _ _ _ _ (c .before .before .before .before .before .before .gate-at .ensures) (c .before .before .before .role-of .ensures) (c .before .name-ok .ensures) (c .if2 .left))
+loop2-again c =
+    let named = c .before .before .before .before .before in
+    numbers-more _ (named .loop2 .inv) (c .before .before .before .before .loop2-test .taken)
+    (name-yes _ _ _ _ _ (named .before .gate-at .ensures) (c .before .before .before .role-of .ensures) (c .before .name-ok .ensures) (c .if2 .left))
 
 -- src/lib.rt:430:9
 loop3-holds : tie.Need-loop3-holds Inv-loop2 μ-loop2 Inv-loop3 μ-loop3 Inv-loop μ-loop
@@ -160,9 +165,13 @@ rest-ok-requires c κs = search needs
 returns-3 : tie.Need-returns-3 Inv-loop2 μ-loop2 Inv-loop3 μ-loop3 Inv-loop μ-loop
 unfolding verdictOf
 returns-3 c =
-    sym (each-refused _ _ _ (c .before .before .before .before .before .before .before .before .before .before .before .before .loop-test .taken) (c .before .before .before .before .before .before .before .before .before .before .before .before .before .loop .inv .1)
-    (gate-rest _ _ _ _ (c .before .before .before .before .before .before .before .before .before .before .is-kind .ensures) (c .before .before .before .before .before .before .before .before .before .if1 .left) (c .before .before .before .before .before .before .before .loop2 .inv) (c .before .before .before .before .before .before .loop2-test .left) (c .before .before .before .before .before .loop3 .inv) (c .before .before .before .before .loop3-test .taken)
-    (rest-no _ _ _ _ _ (c .before .before .before .before .before .before .before .before .gate-at .ensures) (c .before .before .before .role-of2 .ensures) (c .before .rest-ok .ensures) (c .if3 .taken))))
+    let resting = c .before .before .before .before .before in
+    let named = resting .before .before in
+    let outer = named .before .before .before .before .before in
+    sym (each-refused _ _ _ (outer .loop-test .taken) (outer .before .loop .inv .1)
+    (gate-rest _ _ _ _ (named .before .before .before .is-kind .ensures) (named .before .before .if1 .left) (named .loop2 .inv) (resting .before .loop2-test .left)
+    (resting .loop3 .inv) (c .before .before .before .before .loop3-test .taken)
+    (rest-no _ _ _ _ _ (named .before .gate-at .ensures) (c .before .before .before .role-of2 .ensures) (c .before .rest-ok .ensures) (c .if3 .taken))))
 
 -- src/lib.rt:438:13
 add-t : tie.Need-add-t Inv-loop2 μ-loop2 Inv-loop3 μ-loop3 Inv-loop μ-loop
@@ -174,7 +183,11 @@ loop3-less c = search needs
 
 -- src/lib.rt:430:9
 loop3-again : tie.Need-loop3-again Inv-loop2 μ-loop2 Inv-loop3 μ-loop3 Inv-loop μ-loop
-loop3-again c = numbers-more _ (c .before .before .before .before .before .loop3 .inv) (c .before .before .before .before .loop3-test .taken) (rest-yes _ _ _ _ _ (c .before .before .before .before .before .before .before .before .gate-at .ensures) (c .before .before .before .role-of2 .ensures) (c .before .rest-ok .ensures) (c .if3 .left))
+loop3-again c =
+    let resting = c .before .before .before .before .before in
+    let named = resting .before .before in
+    numbers-more _ (resting .loop3 .inv) (c .before .before .before .before .loop3-test .taken)
+    (rest-yes _ _ _ _ _ (named .before .gate-at .ensures) (c .before .before .before .role-of2 .ensures) (c .before .rest-ok .ensures) (c .if3 .left))
 
 -- src/lib.rt:440:9
 add-j : tie.Need-add-j Inv-loop2 μ-loop2 Inv-loop3 μ-loop3 Inv-loop μ-loop
@@ -187,8 +200,9 @@ loop-less c = search needs
 -- src/lib.rt:409:5
 loop-again : tie.Need-loop-again Inv-loop2 μ-loop2 Inv-loop3 μ-loop3 Inv-loop μ-loop
 loop-again c =
-    (search needs, each-more _ _ (c .before .before .before .before .before .before .before .before .before .loop .inv .1)
-    (gate-ok _ _ _ _ (c .before .before .before .before .before .before .is-kind .ensures) (c .before .before .before .before .before .if1 .left) (c .before .before .before .loop2 .inv) (c .before .before .loop2-test .left) (c .before .loop3 .inv) (c .loop3-test .left)))
+    let named = c .before .before .before in
+    let outer = named .before .before .before .before .before in
+    (search needs, each-more _ _ (outer .before .loop .inv .1) (gate-ok _ _ _ _ (named .before .before .before .is-kind .ensures) (named .before .before .if1 .left) (named .loop2 .inv) (c .before .before .loop2-test .left) (c .before .loop3 .inv) (c .loop3-test .left)))
 
 -- src/lib.rt:404:1
 returns-4 : tie.Need-returns-4 Inv-loop2 μ-loop2 Inv-loop3 μ-loop3 Inv-loop μ-loop
