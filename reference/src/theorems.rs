@@ -18,8 +18,8 @@ use Rattle.steps.specs.Position.{Send, Receive, Finished, Aborted}
 use Rattle.steps.specs.Party.{Party}
 use Rattle.party.specs.Entry.{Refusal, Next, Output, Abort, openAnswer, sendAnswer, sendOut, receiveAnswer, receiveScratch}
 use Rattle.joint.specs.Joint.{Joint}
-use Rattle.joint.specs.Entry.{Done, Stopped, jointAnswer, jointScratch, jointTranscript, jointOutputs}
-use Rattle.joint.specs.Entry.{Refusal as JointRefusal}
+use Rattle.joint.specs.Entry.{Done, jointAnswer, jointScratch, jointTranscript, jointOutputs}
+use Rattle.joint.specs.Entry.{Refusal as JointRefusal, Aborted as JointAborted}
 use Rattle.joint.proofs.Computing.{computing}
 ";
 
@@ -159,7 +159,7 @@ fn equations(one: &Answered) -> Vec<String> {
                     ending: Ending::Aborted { gate },
                     rounds,
                     ..
-                }) => format!("Stopped {gate} {rounds}"),
+                }) => format!("JointAborted {gate} {rounds}"),
                 Err(refusal) => refused("JointRefusal", refusal),
             };
             vec![
