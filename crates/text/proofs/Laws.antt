@@ -11,7 +11,7 @@ use lib.ListN.{length, getD, take, drop, set, drop-of-length-le, length-set}
 use lib.Seq.{drop-cons, take-suc-set, drop-set-lt}
 use lib.Dec.{eqb, ltb, leb}
 use borrow.Author.Tests.{leb-true, lt-ltb, le-ltb, le-leb, lt-leb, eq-eqb, ne-eqb}
-use Rattle.text.specs.Text.{isSpace, isDigit, belongs, run, alike, whole, more, reads, Begun, Numbers, Unlike, TooLarge, TooMany, numberEnd}
+use Rattle.text.specs.Text.{isSpace, isDigit, belongs, run, alike, whole, more, reads, stopped, Begun, Whole, Unlike, TooLarge, TooMany, numberEnd}
 
 pub ruleset tests = (lt-ltb, le-ltb, le-leb, lt-leb, eq-eqb, ne-eqb)
 
@@ -57,7 +57,7 @@ alike-lengths (x ∷ xs) [] d = refl
 alike-lengths (x ∷ xs) (y ∷ ys) d = rw (alike-lengths xs ys (λ e. d (ap suc e)), and-false (eqb x y))
 
 module _ (room : ℕ) (s : Begun) (text : List ℕ) (i : ℕ) where
-  pub reads-ends : length text ≤ i → reads room s (drop i text) ≡ Numbers (whole s)
+  pub reads-ends : length text ≤ i → reads room s (drop i text) ≡ record { numbers = whole s; ending = Whole }
   unfolding reads
   reads-ends h = rw (drop-of-length-le text h)
 
@@ -68,17 +68,17 @@ module _ (room : ℕ) (s : Begun) (text : List ℕ) (i : ℕ) where
     reads-space e = rw (add-one i, drop-cons text i 0 h, e)
 
     module _ (e : isSpace (getD text i 0) ≡ false) where
-      pub reads-unlike : isDigit (getD text i 0) ≡ false → Unlike ≡ reads room s (drop i text)
+      pub reads-unlike : isDigit (getD text i 0) ≡ false → reads room s (drop i text) ≡ stopped s Unlike
       unfolding reads
       reads-unlike d = rw (drop-cons text i 0 h, e, d)
 
       module _ (d : isDigit (getD text i 0) ≡ true) where
-        pub reads-many : (s .within || ltb (length (s .numbers)) room) ≡ false → TooMany ≡ reads room s (drop i text)
+        pub reads-many : (s .within || ltb (length (s .numbers)) room) ≡ false → reads room s (drop i text) ≡ stopped s TooMany
         unfolding reads
         reads-many f = rw (drop-cons text i 0 h, e, d, f)
 
         module _ (f : (s .within || ltb (length (s .numbers)) room) ≡ true) where
-          pub reads-large : numberEnd ≤ more s (getD text i 0) → TooLarge ≡ reads room s (drop i text)
+          pub reads-large : numberEnd ≤ more s (getD text i 0) → reads room s (drop i text) ≡ stopped s TooLarge
           unfolding reads
           reads-large g = rw (drop-cons text i 0 h, e, d, f, le-ltb (more s (getD text i 0)) numberEnd g)
 

@@ -4,7 +4,7 @@ use Prim.Native.Nat.{ℕ, _+_, _≤_}
 use mathlib.Core.Path.{_≡_}
 use mathlib.Core.Bool.{true, false}
 use mathlib.Core.List.{List}
-use lib.ListN.{length, take, drop}
+use lib.ListN.{length, drop}
 use Rattle.text.specs.Text as X
 use Rattle.text.specs.Text.{run}
 use Rattle.text.specs.declared.Span.{Span}
@@ -18,16 +18,12 @@ pub record Word (line : List ℕ) (from : ℕ) (w : Span) : Type 0 where
   pub ordered : w .start ≤ w .end
   pub inside : w .end ≤ length line
 
--- the numbers stand at the start of a list
-unfoldable pub readingOf : Numbers → List ℕ → X.Reading
-readingOf (Count n) list = X.Numbers (take n list)
-readingOf Unlike list = X.Unlike
-readingOf TooLarge list = X.TooLarge
-readingOf TooMany list = X.TooMany
+-- how many numbers are read, or what is wrong
+unfoldable pub told : ℕ → X.Ending → Numbers
+told n X.Whole = Count n
+told n X.Unlike = Unlike
+told n X.TooLarge = TooLarge
+told n X.TooMany = TooMany
 
--- where the numbers are read, the rest of the list is as it was, and there is room for them
-unfoldable pub Rest : Numbers → List ℕ → List ℕ → Type 0
-Rest (Count n) list later = (n ≤ length later) × (drop n later ≡ drop n list)
-Rest Unlike list later = Unit {0}
-Rest TooLarge list later = Unit {0}
-Rest TooMany list later = Unit {0}
+unfoldable pub numbersTold : X.Reading → Numbers
+numbersTold r = told (length (r .numbers)) (r .ending)

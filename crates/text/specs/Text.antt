@@ -3,7 +3,7 @@
 use Prim.Native.Nat.{ℕ, suc, _+_, _*_, _-_}
 use mathlib.Core.Bool.{Bool, true, false, cond, not, _&&_, _||_}
 use mathlib.Core.List.{List, [], _∷_, _++_}
-use lib.ListN.{length}
+use lib.ListN.{length, drop}
 use lib.Dec.{eqb, ltb, leb}
 
 -- "Words are separated by spaces, tabs or carriage returns."
@@ -37,10 +37,14 @@ alike (x ∷ xs) (y ∷ ys) = eqb x y && alike xs ys
 abbrev pub numberEnd : ℕ
 numberEnd = 4294967296
 
--- what a text of numbers comes to: the numbers, or the first thing that is wrong
-pub data Reading : Type 0 where
-  Numbers : List ℕ → Reading
-  Unlike TooLarge TooMany : Reading
+-- how reading a text of numbers ends: all are read, or the first thing that is wrong
+pub data Ending : Type 0 where
+  Whole Unlike TooLarge TooMany : Ending
+
+-- what a text of numbers comes to: the numbers that are whole before that end
+pub record Reading : Type 0 where
+  pub numbers : List ℕ
+  pub ending : Ending
 
 -- what has been read: the numbers that are whole, whether another is begun, and the value of its digits so far
 pub record Begun : Type 0 where
@@ -56,16 +60,28 @@ whole s = cond (s .within) (s .numbers ++ (s .value ∷ [])) (s .numbers)
 unfoldable pub more : Begun → ℕ → ℕ
 more s b = s .value * 10 + digit b
 
+-- a fault: the number that is begun is not among those that are whole
+unfoldable pub stopped : Begun → Ending → Reading
+stopped s fault = record { numbers = s .numbers; ending = fault }
+
 -- reading on, where there is room for so many numbers
 unfoldable pub reads : ℕ → Begun → List ℕ → Reading
-reads room s [] = Numbers (whole s)
+reads room s [] = record { numbers = whole s; ending = Whole }
 reads room s (b ∷ bs) =
     cond (isSpace b) (reads room (record { numbers = whole s; within = false; value = 0 }) bs)
     (cond (isDigit b)
     (cond (s .within || ltb (length (s .numbers)) room)
-    (cond (ltb (more s b) numberEnd) (reads room (record { numbers = s .numbers; within = true; value = more s b }) bs) TooLarge)
-    TooMany)
-    Unlike)
+    (cond (ltb (more s b) numberEnd) (reads room (record { numbers = s .numbers; within = true; value = more s b }) bs) (stopped s TooLarge))
+    (stopped s TooMany))
+    (stopped s Unlike))
 
 unfoldable pub numbersIn : ℕ → List ℕ → Reading
 numbersIn room text = reads room (record { numbers = []; within = false; value = 0 }) text
+
+-- numbers at the start of a list
+unfoldable pub atStart : List ℕ → List ℕ → List ℕ
+atStart numbers list = numbers ++ drop (length numbers) list
+
+-- a list into which a text is read, after a fault as after none: its length is the room
+unfoldable pub readInto : List ℕ → List ℕ → List ℕ
+readInto text list = atStart (numbersIn (length list) text .numbers) list

@@ -4,8 +4,8 @@ ghost use mathlib.Core.Path.{_≡_};
 ghost use mathlib.Core.Bool.{true, _||_};
 ghost use lib.Dec.{ltb};
 ghost use lib.ListN.{length, take, drop};
-ghost use Rattle.text.specs.Text.{isSpace, isDigit, digit, belongs, run, alike, numbersIn, whole};
-ghost use Rattle.text.specs.Code.{Word, readingOf, Rest};
+ghost use Rattle.text.specs.Text.{isSpace, isDigit, digit, belongs, run, alike, numbersIn, readInto, whole};
+ghost use Rattle.text.specs.Code.{Word, numbersTold};
 
 // Where a word starts and ends in its line. Where there is no word, both are the line's end.
 pub struct Span {
@@ -113,9 +113,10 @@ fn put(list: &mut [u32], count: usize, within: bool, value: u32) -> usize
     count
 }
 
-// Reads the numbers of a text into the start of a list.
+// Reads the numbers of a text into the start of a list: after a fault, those that are whole before it.
 pub fn read_numbers(text: &[u8], list: &mut [u32]) -> Numbers
-    ensures { λ r. ⌜ (readingOf r (now (list .exit)) ≡ numbersIn (length (now (list .entry))) (now (text .entry))) × Rest r (now (list .entry)) (now (list .exit)) ⌝ }
+    ensures told { λ r. ⌜ r ≡ numbersTold (numbersIn (length (now (list .entry))) (now (text .entry))) ⌝ }
+    ensures list { λ r. ⌜ now (list .exit) ≡ readInto (now (text .entry)) (now (list .entry)) ⌝ }
 {
     let mut count = 0;
     let mut within = false;

@@ -5,7 +5,6 @@ use mathlib.Core.Path.{sym, _∙_}
 use native.Mathlib.Omega.{arith}
 use lib.ListN.{length}
 use borrow.Author.Needs.{needs}
-use Rattle.text.specs.Code.{readingOf, Rest}
 use Rattle.text.proofs.Laws.{granted}
 use Rattle.text.proofs.Steps.{SoFar, starts, ends, rest-after, spaces, unlike, many, large, digits}
 use Rattle.text.proofs.read_numbers.Statement.{statement}
@@ -45,8 +44,7 @@ same-length : tie.Need-same-length Inv-loop μ-loop
 same-length c = c .before .before .before .before .before .before .loop .inv .long
 
 returns : tie.Need-returns Inv-loop μ-loop
-unfolding readingOf Rest
-returns c = (unlike _ _ _ _ _ _ _ (c .before .before .before .before .before .before .loop .inv) (c .before .before .before .before .before .loop-test .taken) (c .before .before .before .is-space .ensures) (c .before .before .if1 .left) (c .before .is-digit .ensures) (c .if2 .taken), tt)
+returns c = unlike _ _ _ _ _ _ _ (c .before .before .before .before .before .before .loop .inv) (c .before .before .before .before .before .loop-test .taken) (c .before .before .before .is-space .ensures) (c .before .before .if1 .left) (c .before .is-digit .ensures) (c .if2 .taken)
 
 has-room-requires : tie.Need-has-room-requires Inv-loop μ-loop
 has-room-requires c κs = search needs
@@ -55,8 +53,7 @@ same-length-2 : tie.Need-same-length-2 Inv-loop μ-loop
 same-length-2 c = c .before .before .before .before .before .before .before .before .loop .inv .long
 
 returns-2 : tie.Need-returns-2 Inv-loop μ-loop
-unfolding readingOf Rest
-returns-2 c = (many _ _ _ _ _ _ _ (c .before .before .before .before .before .before .before .before .loop .inv) (c .before .before .before .before .before .before .before .loop-test .taken) (c .before .before .before .before .before .is-space .ensures) (c .before .before .before .before .if1 .left) (c .before .before .before .is-digit .ensures) (c .before .before .if2 .left) (c .before .has-room .ensures) (c .if3 .taken), tt)
+returns-2 c = many _ _ _ _ _ _ _ (c .before .before .before .before .before .before .before .before .loop .inv) (c .before .before .before .before .before .before .before .loop-test .taken) (c .before .before .before .before .before .is-space .ensures) (c .before .before .before .before .if1 .left) (c .before .before .before .is-digit .ensures) (c .before .before .if2 .left) (c .before .has-room .ensures) (c .if3 .taken)
 
 with-digit-requires : tie.Need-with-digit-requires Inv-loop μ-loop
 with-digit-requires c κs = sym (c .before .before .before .is-digit .ensures) ∙ granted _ (c .before .before .if2 .left)
@@ -65,8 +62,7 @@ same-length-3 : tie.Need-same-length-3 Inv-loop μ-loop
 same-length-3 c = c .before .before .before .before .before .before .before .before .before .before .loop .inv .long
 
 returns-3 : tie.Need-returns-3 Inv-loop μ-loop
-unfolding readingOf Rest
-returns-3 c = (large _ _ _ _ _ _ _ (c .before .before .before .before .before .before .before .before .before .before .loop .inv) (c .before .before .before .before .before .before .before .before .before .loop-test .taken) (c .before .before .before .before .before .before .before .is-space .ensures) (c .before .before .before .before .before .before .if1 .left) (c .before .before .before .before .before .is-digit .ensures) (c .before .before .before .before .if2 .left) (c .before .before .before .has-room .ensures) (c .before .before .if3 .left) (c .before .with-digit .ensures) (c .if4 .taken), tt)
+returns-3 c = large _ _ _ _ _ _ _ (c .before .before .before .before .before .before .before .before .before .before .loop .inv) (c .before .before .before .before .before .before .before .before .before .loop-test .taken) (c .before .before .before .before .before .before .before .is-space .ensures) (c .before .before .before .before .before .before .if1 .left) (c .before .before .before .before .before .is-digit .ensures) (c .before .before .before .before .if2 .left) (c .before .before .before .has-room .ensures) (c .before .before .if3 .left) (c .before .with-digit .ensures) (c .if4 .taken)
 
 cast-value : tie.Need-cast-value Inv-loop μ-loop
 cast-value c = search needs
@@ -87,8 +83,10 @@ same-length-4 : tie.Need-same-length-4 Inv-loop μ-loop
 same-length-4 c = search needs
 
 returns-4 : tie.Need-returns-4 Inv-loop μ-loop
-unfolding readingOf Rest
-returns-4 c = (ends _ _ _ _ _ _ _ (c .before .before .before .before .before .loop .inv) (c .before .before .put2 .last .0) (c .before .before .put2 .result) (c .before .before .before .before .loop-test .left) (c .before .before .put2 .ensures .0), (c .before .before .put2 .ensures .1 .1, rest-after _ _ _ _ _ _ _ (c .before .before .before .before .before .loop .inv) _ _ (c .before .before .put2 .ensures .1 .0) (c .before .before .put2 .ensures .1 .2)))
+returns-4 c =
+    let so-far = c .before .before .before .before .before .loop .inv in
+    let put = c .before .before .put2 in
+    ends _ _ _ _ _ _ _ so-far (put .last .0) (put .result) (c .before .before .before .before .loop-test .left) (put .ensures .0) (put .ensures .1 .1) (rest-after _ _ _ _ _ _ _ so-far _ _ (put .ensures .1 .0) (put .ensures .1 .2))
 
 pub read-numbers-spec : {M : Type 1} → statement M
 read-numbers-spec =
