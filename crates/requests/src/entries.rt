@@ -3,6 +3,11 @@ use crate::naming::print_stage;
 use crate::request::Request;
 use party::Answer;
 use party::Position;
+ghost use mathlib.Core.Path.{_≡_};
+ghost use Rattle.field.specs.Prime.{prime};
+ghost use Rattle.party.specs.Entry.{sendOut, receiveScratch};
+ghost use Rattle.party.specs.Code.{positionOf};
+ghost use Rattle.requests.specs.Calls.{partyIn};
 
 // A name and a number, with which a line of an answer begins.
 pub fn print_named(name: &[u8], n: usize) {
@@ -63,7 +68,9 @@ pub fn answer_send(
     scratch: &[u32],
     coefficients: &[u32],
     out: &mut [u32],
-) {
+)
+    ensures out { λ r. ⌜ now (out .exit) ≡ sendOut prime (partyIn request (now (c .entry)) (now (prep .entry)) (now (inputs .entry))) (now (scratch .entry)) (positionOf (request .at)) (now (coefficients .entry)) (now (out .entry)) ⌝ }
+{
     let lent = request.lent;
     let at = request.at;
     print_answer(party::send(
@@ -87,7 +94,9 @@ pub fn answer_receive(
     inputs: &[u32],
     scratch: &mut [u32],
     heard: &[u32],
-) {
+)
+    ensures scratch { λ r. ⌜ now (scratch .exit) ≡ receiveScratch prime (partyIn request (now (c .entry)) (now (prep .entry)) (now (inputs .entry))) (now (scratch .entry)) (positionOf (request .at)) (now (heard .entry)) ⌝ }
+{
     let lent = request.lent;
     let at = request.at;
     print_answer(party::receive(

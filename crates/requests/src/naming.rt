@@ -1,6 +1,10 @@
 // The names of entries, of what they are lent, and of stages.
 use circuit::Round;
 use steps::Stage;
+ghost use mathlib.Core.Path.{_≡_};
+ghost use Rattle.steps.specs.declared.Stage.the-variants.{Send, Receive};
+ghost use Rattle.requests.specs.Names.{fieldName, stageName, spelled, tryStage, tryRound, entryNamed, stageNamed};
+ghost use Rattle.requests.specs.Order.{isEntry};
 
 // None where a word names no entry.
 pub enum Entry {
@@ -37,10 +41,10 @@ pub enum Named {
     None,
 }
 
-const STAGES: usize = 16;
-
 // Prints a name; or tells whether a word is it.
-fn spell(name: &[u8], printed: bool, word: &[u8]) -> bool {
+fn spell(name: &[u8], printed: bool, word: &[u8]) -> bool
+    ensures { λ r. ⌜ r ≡ spelled printed (now (word .entry)) (now (name .entry)) ⌝ }
+{
     if printed {
         printing::print(name);
         return true;
@@ -48,7 +52,9 @@ fn spell(name: &[u8], printed: bool, word: &[u8]) -> bool {
     text::same(word, name)
 }
 
-pub fn entry_named(word: &[u8]) -> Entry {
+pub fn entry_named(word: &[u8]) -> Entry
+    ensures { λ r. ⌜ r ≡ entryNamed (now (word .entry)) ⌝ }
+{
     if text::same(word, b"open") {
         return Entry::Open;
     }
@@ -67,53 +73,46 @@ pub fn entry_named(word: &[u8]) -> Entry {
     Entry::None
 }
 
-pub fn is_entry(entry: Entry) -> bool {
+pub fn is_entry(entry: Entry) -> bool
+    ensures { λ r. ⌜ r ≡ isEntry entry ⌝ }
+{
     match entry {
+        Entry::Open => true,
+        Entry::Send => true,
+        Entry::Receive => true,
+        Entry::Joint => true,
+        Entry::Show => true,
         Entry::None => false,
-        _ => true,
-    }
-}
-
-// The name of a list that an entry only reads.
-fn spell_given(field: Field, printed: bool, word: &[u8]) -> bool {
-    match field {
-        Field::Circuit => spell(b"circuit", printed, word),
-        Field::Prep => spell(b"prep", printed, word),
-        Field::Preps => spell(b"preps", printed, word),
-        Field::Inputs => spell(b"inputs", printed, word),
-        Field::Coefficients => spell(b"coefficients", printed, word),
-        Field::Heard => spell(b"heard", printed, word),
-        _ => false,
-    }
-}
-
-// The name of a list that an entry may write.
-fn spell_written(field: Field, printed: bool, word: &[u8]) -> bool {
-    match field {
-        Field::Scratch => spell(b"scratch", printed, word),
-        Field::Out => spell(b"out", printed, word),
-        Field::Transcript => spell(b"transcript", printed, word),
-        Field::Outputs => spell(b"outputs", printed, word),
-        _ => false,
     }
 }
 
 // Prints the name of what is wanted; or tells whether a word is it.
-pub fn spell_field(field: Field, printed: bool, word: &[u8]) -> bool {
+pub fn spell_field(field: Field, printed: bool, word: &[u8]) -> bool
+    ensures { λ r. ⌜ r ≡ spelled printed (now (word .entry)) (fieldName field) ⌝ }
+{
     match field {
         Field::Start => spell(b"the name of an entry", printed, word),
+        Field::Dropped => spell(b"", printed, word),
         Field::Parties => spell(b"parties", printed, word),
         Field::Party => spell(b"party", printed, word),
+        Field::Circuit => spell(b"circuit", printed, word),
+        Field::Prep => spell(b"prep", printed, word),
+        Field::Preps => spell(b"preps", printed, word),
+        Field::Inputs => spell(b"inputs", printed, word),
+        Field::Scratch => spell(b"scratch", printed, word),
         Field::Position => spell(b"position", printed, word),
-        Field::Scratch | Field::Out | Field::Transcript | Field::Outputs => {
-            spell_written(field, printed, word)
-        }
-        Field::Dropped | Field::Complete => false,
-        _ => spell_given(field, printed, word),
+        Field::Coefficients => spell(b"coefficients", printed, word),
+        Field::Heard => spell(b"heard", printed, word),
+        Field::Out => spell(b"out", printed, word),
+        Field::Transcript => spell(b"transcript", printed, word),
+        Field::Outputs => spell(b"outputs", printed, word),
+        Field::Complete => spell(b"", printed, word),
     }
 }
 
-fn spell_send(r: Round, printed: bool, word: &[u8]) -> bool {
+fn spell_send(r: Round, printed: bool, word: &[u8]) -> bool
+    ensures { λ k. ⌜ k ≡ spelled printed (now (word .entry)) (stageName (Send r)) ⌝ }
+{
     match r {
         Round::Input => spell(b"send-in", printed, word),
         Round::Multiply => spell(b"send-mul", printed, word),
@@ -125,7 +124,9 @@ fn spell_send(r: Round, printed: bool, word: &[u8]) -> bool {
     }
 }
 
-fn spell_receive(r: Round, printed: bool, word: &[u8]) -> bool {
+fn spell_receive(r: Round, printed: bool, word: &[u8]) -> bool
+    ensures { λ k. ⌜ k ≡ spelled printed (now (word .entry)) (stageName (Receive r)) ⌝ }
+{
     match r {
         Round::Input => spell(b"receive-in", printed, word),
         Round::Multiply => spell(b"receive-mul", printed, word),
@@ -138,7 +139,9 @@ fn spell_receive(r: Round, printed: bool, word: &[u8]) -> bool {
 }
 
 // Prints the name of a stage; or tells whether a word is it.
-fn spell_stage(stage: Stage, printed: bool, word: &[u8]) -> bool {
+fn spell_stage(stage: Stage, printed: bool, word: &[u8]) -> bool
+    ensures { λ r. ⌜ r ≡ spelled printed (now (word .entry)) (stageName stage) ⌝ }
+{
     match stage {
         Stage::Send(r) => spell_send(r, printed, word),
         Stage::Receive(r) => spell_receive(r, printed, word),
@@ -152,50 +155,36 @@ pub fn print_stage(stage: Stage) {
     spell_stage(stage, true, b"");
 }
 
-fn round_at(k: usize) -> Round {
-    if k == 0 {
-        return Round::Input;
+// The stage, where a word is its name, and else another.
+fn try_stage(stage: Stage, word: &[u8], other: Named) -> Named
+    ensures { λ r. ⌜ r ≡ tryStage stage (now (word .entry)) other ⌝ }
+{
+    if spell_stage(stage, false, word) {
+        return Named::Stage(stage);
     }
-    if k == 1 {
-        return Round::Multiply;
-    }
-    if k == 2 {
-        return Round::CommitOpened;
-    }
-    if k == 3 {
-        return Round::RevealOpened;
-    }
-    if k == 4 {
-        return Round::OpenOutput;
-    }
-    if k == 5 {
-        return Round::CommitOutput;
-    }
-    Round::RevealOutput
+    other
 }
 
-// All stages in a row: the halves of the seven rounds, then the ends.
-fn stage_at(k: usize) -> Stage {
-    if k == 14 {
-        return Stage::Finished;
-    }
-    if k == 15 {
-        return Stage::Aborted;
-    }
-    if k % 2 == 0 {
-        return Stage::Send(round_at(k / 2));
-    }
-    Stage::Receive(round_at(k / 2))
+// Either half of a round, where a word is its name, and else another.
+fn try_round(r: Round, word: &[u8], other: Named) -> Named
+    ensures { λ k. ⌜ k ≡ tryRound r (now (word .entry)) other ⌝ }
+{
+    let receiving = try_stage(Stage::Receive(r), word, other);
+    try_stage(Stage::Send(r), word, receiving)
 }
 
-pub fn stage_named(word: &[u8]) -> Named {
-    let mut k = 0;
-    while k < STAGES {
-        let stage = stage_at(k);
-        if spell_stage(stage, false, word) {
-            return Named::Stage(stage);
-        }
-        k += 1;
-    }
-    Named::None
+// The stage whose name a word is.
+pub fn stage_named(word: &[u8]) -> Named
+    ensures { λ r. ⌜ r ≡ stageNamed (now (word .entry)) ⌝ }
+{
+    let mut found = Named::None;
+    found = try_stage(Stage::Aborted, word, found);
+    found = try_stage(Stage::Finished, word, found);
+    found = try_round(Round::RevealOutput, word, found);
+    found = try_round(Round::CommitOutput, word, found);
+    found = try_round(Round::OpenOutput, word, found);
+    found = try_round(Round::RevealOpened, word, found);
+    found = try_round(Round::CommitOpened, word, found);
+    found = try_round(Round::Multiply, word, found);
+    try_round(Round::Input, word, found)
 }

@@ -5,7 +5,10 @@ use circuit::Round;
 use party::Position;
 use steps::Stage;
 ghost use Prim.Native.Nat.{_≤_};
+ghost use mathlib.Core.Path.{_≡_};
 ghost use Rattle.io.specs.Counts.{Counts};
+ghost use Rattle.requests.specs.declared.naming.Field.the-variants.{Dropped};
+ghost use Rattle.requests.specs.Order as O;
 
 // The most numbers of a list.
 pub const ROOM: usize = 16384;
@@ -42,7 +45,9 @@ pub struct Request {
 }
 
 // A request of which only the entry is known.
-pub fn started(entry: Entry, wanted: Field) -> Request {
+pub fn started(entry: Entry, wanted: Field) -> Request
+    ensures { λ r. ⌜ r ≡ O.started entry wanted ⌝ }
+{
     Request {
         entry,
         wanted,
@@ -65,54 +70,73 @@ pub fn started(entry: Entry, wanted: Field) -> Request {
     }
 }
 
-// Whether an entry is called by one party.
-fn is_single(entry: Entry) -> bool {
+// Which of two comes next: the one for an entry that one party calls, or the one for joint runs.
+fn either(entry: Entry, single: Field, joint: Field) -> Field
+    ensures { λ r. ⌜ r ≡ O.either entry single joint ⌝ }
+{
     match entry {
-        Entry::Open | Entry::Send | Entry::Receive => true,
-        _ => false,
+        Entry::Open => single,
+        Entry::Send => single,
+        Entry::Receive => single,
+        Entry::Joint => joint,
+        Entry::Show => joint,
+        Entry::None => joint,
     }
 }
 
-// Which of two comes next: the one for an entry that one party calls, or the one for joint runs.
-fn either(entry: Entry, single: Field, joint: Field) -> Field {
-    if is_single(entry) { single } else { joint }
-}
-
-fn after_scratch(entry: Entry) -> Field {
+fn after_scratch(entry: Entry) -> Field
+    ensures { λ r. ⌜ r ≡ O.afterScratch entry ⌝ }
+{
     match entry {
         Entry::Open => Field::Complete,
-        Entry::Send | Entry::Receive => Field::Position,
-        _ => Field::Coefficients,
+        Entry::Send => Field::Position,
+        Entry::Receive => Field::Position,
+        Entry::Joint => Field::Coefficients,
+        Entry::Show => Field::Coefficients,
+        Entry::None => Field::Coefficients,
     }
 }
 
-fn after_position(entry: Entry) -> Field {
+fn after_position(entry: Entry) -> Field
+    ensures { λ r. ⌜ r ≡ O.afterPosition entry ⌝ }
+{
     match entry {
+        Entry::Open => Field::Coefficients,
+        Entry::Send => Field::Coefficients,
         Entry::Receive => Field::Heard,
-        _ => Field::Coefficients,
+        Entry::Joint => Field::Coefficients,
+        Entry::Show => Field::Coefficients,
+        Entry::None => Field::Coefficients,
     }
 }
 
 // What comes next in a request of an entry.
-fn following(entry: Entry, field: Field) -> Field {
+fn following(entry: Entry, field: Field) -> Field
+    ensures { λ r. ⌜ r ≡ O.following entry field ⌝ }
+{
     match field {
         Field::Start => Field::Parties,
         Field::Dropped => Field::Dropped,
         Field::Parties => either(entry, Field::Party, Field::Circuit),
         Field::Party => Field::Circuit,
         Field::Circuit => either(entry, Field::Prep, Field::Preps),
-        Field::Prep | Field::Preps => Field::Inputs,
+        Field::Prep => Field::Inputs,
+        Field::Preps => Field::Inputs,
         Field::Inputs => Field::Scratch,
         Field::Scratch => after_scratch(entry),
         Field::Position => after_position(entry),
         Field::Coefficients => either(entry, Field::Out, Field::Transcript),
+        Field::Heard => Field::Complete,
+        Field::Out => Field::Complete,
         Field::Transcript => Field::Outputs,
-        Field::Heard | Field::Out | Field::Outputs => Field::Complete,
+        Field::Outputs => Field::Complete,
         Field::Complete => Field::Start,
     }
 }
 
-fn wanting(request: Request, wanted: Field) -> Request {
+fn wanting(request: Request, wanted: Field) -> Request
+    ensures { λ r. ⌜ r ≡ O.wanting request wanted ⌝ }
+{
     let entry = request.entry;
     let at = request.at;
     let lent = request.lent;
@@ -124,13 +148,17 @@ fn wanting(request: Request, wanted: Field) -> Request {
     }
 }
 
-pub fn moved_on(request: Request) -> Request {
+pub fn moved_on(request: Request) -> Request
+    ensures { λ r. ⌜ r ≡ O.movedOn request ⌝ }
+{
     let entry = request.entry;
     let wanted = request.wanted;
     wanting(request, following(entry, wanted))
 }
 
-pub fn dropped(request: Request) -> Request {
+pub fn dropped(request: Request) -> Request
+    ensures { λ r. ⌜ r ≡ O.wanting request Dropped ⌝ }
+{
     wanting(request, Field::Dropped)
 }
 

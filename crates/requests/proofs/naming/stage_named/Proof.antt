@@ -1,51 +1,52 @@
--- `requests::naming::stage_named` meets its contract: there are sixteen stages to try.
+-- `requests::naming::stage_named` meets its contract: the stages are tried in the definition's order, the last first.
 -- Assumes nothing.
-use Prim.Native.Nat.{_-_, _≤_}
+use Rattle.requests.specs.Names.{stageNamed}
 use borrow.Author.Needs.{needs}
 use Rattle.requests.proofs.naming.stage_named.Statement.{statement}
 use Rattle.requests.proofs.naming.stage_named.Tie as tie
 
-abbrev Inv-loop : tie.InvT-loop
-Inv-loop word k₀ k = k ≤ 16
+try-stage-requires : tie.Need-try-stage-requires
+try-stage-requires c κs = search needs
 
-abbrev μ-loop : tie.MeasureT-loop
-μ-loop word k₀ k = 16 - k
+try-stage-requires-2 : tie.Need-try-stage-requires-2
+try-stage-requires-2 c κs = search needs
 
-loop-holds : tie.Need-loop-holds Inv-loop μ-loop
-loop-holds c = search needs
+try-round-requires : tie.Need-try-round-requires
+try-round-requires c κs = search needs
 
-stage-at-requires : tie.Need-stage-at-requires Inv-loop μ-loop
-stage-at-requires c κs = search needs
+try-round-requires-2 : tie.Need-try-round-requires-2
+try-round-requires-2 c κs = search needs
 
-spell-stage-requires : tie.Need-spell-stage-requires Inv-loop μ-loop
-spell-stage-requires c κs = search needs
+try-round-requires-3 : tie.Need-try-round-requires-3
+try-round-requires-3 c κs = search needs
 
-returns : tie.Need-returns Inv-loop μ-loop
-returns c = search needs
+try-round-requires-4 : tie.Need-try-round-requires-4
+try-round-requires-4 c κs = search needs
 
-add-k : tie.Need-add-k Inv-loop μ-loop
-add-k c = search needs
+try-round-requires-5 : tie.Need-try-round-requires-5
+try-round-requires-5 c κs = search needs
 
-loop-less : tie.Need-loop-less Inv-loop μ-loop
-loop-less c = search needs
+try-round-requires-6 : tie.Need-try-round-requires-6
+try-round-requires-6 c κs = search needs
 
-loop-again : tie.Need-loop-again Inv-loop μ-loop
-loop-again c = search needs
+try-round-requires-7 : tie.Need-try-round-requires-7
+try-round-requires-7 c κs = search needs
 
-returns-2 : tie.Need-returns-2 Inv-loop μ-loop
-returns-2 c = search needs
+returns : tie.Need-returns
+unfolding stageNamed
+returns c = rw (c .try-round7 .ensures, c .before .try-round6 .ensures, c .before .before .try-round5 .ensures, c .before .before .before .try-round4 .ensures, c .before .before .before .before .try-round3 .ensures, c .before .before .before .before .before .try-round2 .ensures, c .before .before .before .before .before .before .try-round .ensures, c .before .before .before .before .before .before .before .try-stage2 .ensures, c .before .before .before .before .before .before .before .before .try-stage .ensures)
 
 pub stage-named-spec : {M : Type 1} → statement M
 stage-named-spec =
     tie.close
     (tie.spec
-    Inv-loop
-    μ-loop
-    loop-holds
-    stage-at-requires
-    spell-stage-requires
-    returns
-    add-k
-    loop-less
-    loop-again
-    returns-2)
+    try-stage-requires
+    try-stage-requires-2
+    try-round-requires
+    try-round-requires-2
+    try-round-requires-3
+    try-round-requires-4
+    try-round-requires-5
+    try-round-requires-6
+    try-round-requires-7
+    returns)

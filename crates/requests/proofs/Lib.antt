@@ -1,0 +1,3 @@
+-- What is proved of the names and the order of requests.
+pub mod Names
+pub mod Order

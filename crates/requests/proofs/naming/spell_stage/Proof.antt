@@ -1,0 +1,71 @@
+-- `requests::naming::spell_stage` meets its contract: each stage has its own name.
+-- Assumes nothing.
+use Rattle.requests.specs.Names.{bytes, stageName}
+use borrow.Author.Needs.{needs}
+use Rattle.requests.proofs.naming.spell_stage.Statement.{statement}
+use Rattle.requests.proofs.naming.spell_stage.Tie as tie
+
+enum-known-stage : tie.Need-enum-known-stage
+enum-known-stage c = search needs
+
+spell-send-requires : tie.Need-spell-send-requires
+spell-send-requires c κs = search needs
+
+enum-known-stage-2 : tie.Need-enum-known-stage-2
+enum-known-stage-2 c = search needs
+
+spell-receive-requires : tie.Need-spell-receive-requires
+spell-receive-requires c κs = search needs
+
+enum-told : tie.Need-enum-told
+enum-told c = search needs
+
+slice-aggregate-spell : tie.Need-slice-aggregate-spell
+slice-aggregate-spell c = search needs
+
+spell-requires : tie.Need-spell-requires
+spell-requires c κs = search needs
+
+enum-told-2 : tie.Need-enum-told-2
+enum-told-2 c = search needs
+
+slice-aggregate-spell-2 : tie.Need-slice-aggregate-spell-2
+slice-aggregate-spell-2 c = search needs
+
+spell-requires-2 : tie.Need-spell-requires-2
+spell-requires-2 c κs = search needs
+
+returns : tie.Need-returns
+unfolding bytes stageName
+returns c = rw (c .before .before .stage .given .1) (c .spell-send .ensures)
+
+returns-2 : tie.Need-returns-2
+unfolding bytes stageName
+returns-2 c = rw (c .before .before .stage2 .given .1) (c .spell-receive .ensures)
+
+returns-3 : tie.Need-returns-3
+unfolding bytes stageName
+returns-3 c = rw (c .before .before .enum-told .given .1) (c .spell .ensures)
+
+returns-4 : tie.Need-returns-4
+unfolding bytes stageName
+returns-4 c = rw (c .before .before .enum-told2 .given .1) (c .spell2 .ensures)
+
+pub spell-stage-spec : {M : Type 1} → statement M
+spell-stage-spec =
+    tie.close
+    (tie.spec
+    enum-known-stage
+    spell-send-requires
+    enum-known-stage-2
+    spell-receive-requires
+    enum-told
+    slice-aggregate-spell
+    spell-requires
+    enum-told-2
+    slice-aggregate-spell-2
+    spell-requires-2
+    returns
+    returns-2
+    returns-3
+    returns-4)

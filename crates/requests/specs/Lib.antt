@@ -1,0 +1,4 @@
+-- What a reader of the requests crate's contracts must believe.
+pub mod Names
+pub mod Order
+pub mod Calls
