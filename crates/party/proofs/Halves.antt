@@ -21,7 +21,7 @@ use Rattle.steps.specs.declared.Layout.{Layout}
 use Rattle.steps.specs.declared.Site.{Site}
 use Rattle.party.specs.Ask.{mostParties, askLent, askSendRound, askReceiveRound, askSend, askReceive}
 use Rattle.party.specs.Entry as E
-use Rattle.party.specs.Code.{positionOf, Posed, lentOf, LentOk, Sendable, Receivable, leadsTo}
+use Rattle.party.specs.Code.{positionOf, Posed, lentOf, LentOk, placeOf, PlaceOk, LentTo, RoundAt, Sendable, Receivable, leadsTo}
 use Rattle.party.specs.declared.Position.{Position}
 use Rattle.party.specs.declared.Lent as D
 use Rattle.circuit.proofs.Counts.{unchecked-fits}
@@ -41,25 +41,33 @@ module _ (q : ℕ) (P : Party) (l : List ℕ) (at : At.Position) (half : Verdict
   abbrev pub asked : Verdict
   asked = askLent q P l then ask 13 0 (At.occurs q (P .circuit) at) then half
 
-  pub lent-refuses : {number index : ℕ} → askLent q P l ≡ Refused number index → Refused number index ≡ asked
-  unfolding _then_
+  pub half-decides : {v : Verdict} → askLent q P l ≡ Accepted → At.occurs q (P .circuit) at ≡ true → v ≡ half → v ≡ asked
+  unfolding _then_ ask
+  half-decides e f g = rw (e, f) g
+
+-- questions 1 to 13, by the one that decides
+module _ (P : Party) (l : List ℕ) (at : At.Position) where
+  pub lent-refuses : {number index : ℕ} → askLent p P l ≡ Refused number index → Refused number index ≡ placeOf P l at
+  unfolding placeOf _then_
   lent-refuses e = rw e
 
-  module _ (e : askLent q P l ≡ Accepted) where
-    pub place-refuses : At.occurs q (P .circuit) at ≡ false → Refused 13 0 ≡ asked
-    unfolding _then_ ask
-    place-refuses f = rw (e, f)
+  pub place-refuses : askLent p P l ≡ Accepted → At.occurs p (P .circuit) at ≡ false → Refused 13 0 ≡ placeOf P l at
+  unfolding placeOf _then_ ask
+  place-refuses e f = rw (e, f)
 
-    pub half-decides : {v : Verdict} → At.occurs q (P .circuit) at ≡ true → v ≡ half → v ≡ asked
-    unfolding _then_ ask
-    half-decides f g = rw (e, f) g
+  pub place-accepts : askLent p P l ≡ Accepted → At.occurs p (P .circuit) at ≡ true → Accepted ≡ placeOf P l at
+  unfolding placeOf _then_ ask
+  place-accepts e f = rw (e, f)
 
--- what a call has once 1 to 12 accept: the layout, and the site of the position's gate if there is such a gate
-pub record LentTo (P : Party) (l : List ℕ) (y : Layout) (site : Site) (gate : ℕ) : Type 0 where
-  pub accepted : askLent p P l ≡ Accepted
-  pub lay : layoutOf y ≡ layout (P .circuit)
-  pub here : site .gate ≡ gate
-  pub sited : gate < gates (P .circuit) → Sited (P .circuit) (P .me) site
+  -- they come first
+  pub placed-refuses : {number index : ℕ} (half : Verdict) → placeOf P l at ≡ Refused number index → Refused number index ≡ asked p P l at half
+  unfolding placeOf _then_
+  placed-refuses {number} {index} half e = go (askLent p P l) e
+    where
+      go : (v : Verdict) → (v then ask 13 0 (At.occurs p (P .circuit) at)) ≡ Refused number index
+          → Refused number index ≡ (v then ask 13 0 (At.occurs p (P .circuit) at) then half)
+      go Accepted e = rw e
+      go (Refused m k) e = sym e
 
 pub lent-to : (P : Party) (l : List ℕ) (gate : ℕ) {x : D.Lent} {y : Layout} {site : Site}
     → lentOf x ≡ askLent p P l → LentOk (P .circuit) (P .me) gate x → x ≡ D.Lent.Accepted y site → LentTo P l y site gate
@@ -68,10 +76,9 @@ lent-to P l gate {y} {site} e h g =
     let ok = (rw g at h) in
     record { accepted = sym e ∙ ap lentOf g; lay = ok .0; here = ok .1; sited = ok .2 }
 
--- and once the position can occur
-pub record RoundAt (P : Party) (l : List ℕ) (y : Layout) (site : Site) (at : Position) : Type 0 where
-  pub lent : LentTo P l y site (at .gate)
-  pub can : At.occurs p (P .circuit) (positionOf at) ≡ true
+pub round-at : (P : Party) (l : List ℕ) (at : Position) {x : D.Lent} {y : Layout} {site : Site}
+    → PlaceOk P l at x → x ≡ D.Lent.Accepted y site → RoundAt P l y site at
+round-at P l at h g = rw g at h
 
 module _ (P : Party) (l : List ℕ) (y : Layout) (site : Site) where
   -- what question 13 asks

@@ -5,7 +5,9 @@ use mathlib.Core.Path.{_≡_}
 use mathlib.Core.Bool.{Bool, true, cond}
 use mathlib.Core.List.{List}
 use lib.ListN.{length}
+use Rattle.field.specs.Prime.{p}
 use Rattle.circuit.specs.Verdict as Q
+use Rattle.circuit.specs.Verdict.{_then_}
 use Rattle.circuit.specs.Gate.{gateSize, gate, gates}
 use Rattle.circuit.specs.Kind.{hasValue}
 use Rattle.circuit.specs.Count.{capacity, unchecked}
@@ -18,6 +20,7 @@ use Rattle.steps.specs.Party.{Party}
 use Rattle.steps.specs.Code.{layoutOf, stageOf, Sited, Sends, Receives}
 use Rattle.steps.specs.declared.Layout.{Layout}
 use Rattle.steps.specs.declared.Site.{Site}
+use Rattle.party.specs.Ask.{askLent}
 use Rattle.party.specs.Entry as E
 use Rattle.party.specs.declared.Sort.{Sort}
 use Rattle.party.specs.declared.Sort.the-variants.{Shares, Macs, Values, ValueMacs}
@@ -75,6 +78,26 @@ lentOf (LentAccepted y at) = Q.Accepted
 abbrev pub LentOk : List ℕ → ℕ → ℕ → Lent → Type 0
 LentOk c i j (LentRefused number index) = Unit {0}
 LentOk c i j (LentAccepted y at) = (layoutOf y ≡ S.layout c) × (at .gate ≡ j) × (j < gates c → Sited c i at)
+
+-- questions 1 to 13
+unfoldable pub placeOf : Party → List ℕ → At.Position → Q.Verdict
+placeOf P l at = askLent p P l then Q.ask 13 0 (At.occurs p (P .circuit) at)
+
+-- what a call has once 1 to 12 accept: the layout, and the site of the position's gate if there is such a gate
+pub record LentTo (P : Party) (l : List ℕ) (y : Layout) (site : Site) (gate : ℕ) : Type 0 where
+  pub accepted : askLent p P l ≡ Q.Accepted
+  pub lay : layoutOf y ≡ S.layout (P .circuit)
+  pub here : site .gate ≡ gate
+  pub sited : gate < gates (P .circuit) → Sited (P .circuit) (P .me) site
+
+-- and once the position can occur
+pub record RoundAt (P : Party) (l : List ℕ) (y : Layout) (site : Site) (at : Position) : Type 0 where
+  pub lent : LentTo P l y site (at .gate)
+  pub can : At.occurs p (P .circuit) (positionOf at) ≡ true
+
+abbrev pub PlaceOk : Party → List ℕ → Position → Lent → Type 0
+PlaceOk P l at (LentRefused number index) = Unit {0}
+PlaceOk P l at (LentAccepted y site) = RoundAt P l y site at
 
 -- what all questions of a sending or a receiving come to
 unfoldable pub askedOf : Asked → Q.Verdict

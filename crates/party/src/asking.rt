@@ -29,7 +29,7 @@ ghost use Rattle.steps.specs.Party.{partyOf};
 ghost use Rattle.steps.specs.Send.{mark};
 ghost use Rattle.steps.specs.Code.{slotOf, stageOf, Within};
 ghost use Rattle.party.specs.Ask.{askParties, slotQuestion, askSlots, askWorked, askSendRound, askReceiveRound, askLent, askSend, askReceive};
-ghost use Rattle.party.specs.Code.{sortOf, wantedOf, positionOf, Laid, Posed, lentOf, LentOk, askedOf, SendOk, ReceiveOk};
+ghost use Rattle.party.specs.Code.{sortOf, wantedOf, positionOf, Laid, Posed, lentOf, LentOk, askedOf, SendOk, ReceiveOk, placeOf, PlaceOk};
 
 const FEWEST_PARTIES: usize = 2;
 
@@ -452,6 +452,35 @@ pub fn ask_lent(
     )
 }
 
+// Questions 1 to 13.
+fn ask_place(
+    parties: usize,
+    me: usize,
+    c: &[u32],
+    prep: &[u32],
+    inputs: &[u32],
+    l: &[u32],
+    at: Position,
+) -> Lent
+    ensures asked { λ x. ⌜ lentOf x
+        ≡ placeOf (partyOf parties me (now (c .entry)) (now (prep .entry)) (now (inputs .entry))) (now (l .entry)) (positionOf at) ⌝ }
+    ensures accepted { λ x. ⌜ PlaceOk (partyOf parties me (now (c .entry)) (now (prep .entry)) (now (inputs .entry))) (now (l .entry)) at x ⌝ }
+{
+    let gate = at.gate;
+    match ask_lent(parties, me, c, prep, inputs, l, gate) {
+        Lent::Refused { number, index } => Lent::Refused { number, index },
+        Lent::Accepted(y, site) => {
+            if !can_occur(c, y.gates, site.unchecked, at) {
+                return Lent::Refused {
+                    number: 13,
+                    index: 0,
+                };
+            }
+            Lent::Accepted(y, site)
+        }
+    }
+}
+
 // All questions of sending.
 pub fn ask_send(
     parties: usize,
@@ -470,16 +499,9 @@ pub fn ask_send(
     ensures accepted { λ x. ⌜ SendOk (partyOf parties me (now (c .entry)) (now (prep .entry)) (now (inputs .entry)))
         (now (l .entry)) at (now (coefficients .entry)) room x ⌝ }
 {
-    let gate = at.gate;
-    match ask_lent(parties, me, c, prep, inputs, l, gate) {
+    match ask_place(parties, me, c, prep, inputs, l, at) {
         Lent::Refused { number, index } => Asked::Refused { number, index },
         Lent::Accepted(y, site) => {
-            if !can_occur(c, y.gates, site.unchecked, at) {
-                return Asked::Refused {
-                    number: 13,
-                    index: 0,
-                };
-            }
             let stage = at.stage;
             match stage {
                 Stage::Send(r) => match ask_send_round(c, l, y, site, r, coefficients, room) {
@@ -520,16 +542,9 @@ pub fn ask_receive(
     ensures accepted { λ x. ⌜ ReceiveOk (partyOf parties me (now (c .entry)) (now (prep .entry)) (now (inputs .entry)))
         (now (l .entry)) at (now (heard .entry)) x ⌝ }
 {
-    let gate = at.gate;
-    match ask_lent(parties, me, c, prep, inputs, l, gate) {
+    match ask_place(parties, me, c, prep, inputs, l, at) {
         Lent::Refused { number, index } => Asked::Refused { number, index },
         Lent::Accepted(y, site) => {
-            if !can_occur(c, y.gates, site.unchecked, at) {
-                return Asked::Refused {
-                    number: 13,
-                    index: 0,
-                };
-            }
             let stage = at.stage;
             match stage {
                 Stage::Receive(r) => match ask_receive_round(parties, c, l, y, site, r, heard) {

@@ -44,7 +44,7 @@ pub enum Answer {
     Abort(Position),
 }
 
-// What questions 1 to 12 come to: where they accept, the layout of the scratch and the site of a gate.
+// What questions 1 to 12, or 1 to 13, come to: where they accept, the layout of the scratch and the site of a gate.
 pub enum Lent {
     Refused { number: u32, index: usize },
     Accepted(Layout, Site),
