@@ -481,7 +481,7 @@ fn ask_place(
     }
 }
 
-// All questions of sending.
+// All questions of sending. Nothing is written, so that a caller can learn what they come to before anything is.
 pub fn ask_send(
     parties: usize,
     me: usize,
@@ -525,7 +525,7 @@ pub fn ask_send(
     }
 }
 
-// All questions of receiving.
+// All questions of receiving, likewise.
 pub fn ask_receive(
     parties: usize,
     me: usize,
