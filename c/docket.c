@@ -47,9 +47,16 @@ static size_t coefficients_of(uint64_t stage)
     }
 }
 
-static bool failed(const char *what, size_t party, const uint64_t *answer)
+static bool refused(struct spdz_refusal refusal, const char *what, size_t party)
 {
-    fprintf(stderr, "docket: %s of party %zu: kind %" PRIu64 ", %" PRIu64 ", %" PRIu64 "\n", what, party, answer[0], answer[1], answer[2]);
+    if (refusal.number != 0)
+        fprintf(stderr, "docket: %s of party %zu: refusal %" PRIu32 ", %zu\n", what, party, refusal.number, refusal.index);
+    return refusal.number != 0;
+}
+
+static bool aborted(const char *what, size_t party, const uint64_t *answer)
+{
+    fprintf(stderr, "docket: %s of party %zu: kind %" PRIu64 "\n", what, party, answer[0]);
     return false;
 }
 
@@ -61,19 +68,22 @@ static bool round_of_both(struct run *run, uint64_t answers[PARTIES][SPDZ_PLACES
     uint32_t heard[PARTIES * MOST_WORDS];
     for (size_t i = 0; i < PARTIES; i++) {
         uint64_t *at = answers[i];
-        spdz_send(PARTIES, i, circuit, LENGTH(circuit), preps[i], PREP, &inputs[i], 1, run->scratch[i], SCRATCH,
-                  (size_t)at[2], (uint32_t)at[3], (uint32_t)at[4], &coefficients[*used], draws, &heard[i * words], words, at, SPDZ_PLACES);
-        if (at[0] != SPDZ_NEXT) return failed("sending", i, at);
+        struct spdz_refusal refusal =
+            spdz_send(PARTIES, i, circuit, LENGTH(circuit), preps[i], PREP, &inputs[i], 1, run->scratch[i], SCRATCH,
+                      (size_t)at[2], (uint32_t)at[3], (uint32_t)at[4], &coefficients[*used], draws, &heard[i * words], words, at, SPDZ_PLACES);
+        if (refused(refusal, "sending", i)) return false;
     }
     printf("%s", names[stage]);
     for (size_t k = 0; k < PARTIES * words; k++) printf(" %" PRIu32, heard[k]);
     printf("\n");
     for (size_t i = 0; i < PARTIES; i++) {
         uint64_t *at = answers[i];
-        spdz_receive(PARTIES, i, circuit, LENGTH(circuit), preps[i], PREP, &inputs[i], 1, run->scratch[i], SCRATCH,
-                     (size_t)at[2], (uint32_t)at[3], (uint32_t)at[4], heard, PARTIES * words, at, SPDZ_PLACES);
+        struct spdz_refusal refusal =
+            spdz_receive(PARTIES, i, circuit, LENGTH(circuit), preps[i], PREP, &inputs[i], 1, run->scratch[i], SCRATCH,
+                         (size_t)at[2], (uint32_t)at[3], (uint32_t)at[4], heard, PARTIES * words, at, SPDZ_PLACES);
+        if (refused(refusal, "receiving", i)) return false;
         if (at[0] == SPDZ_OUTPUT) run->outputs[0] = (uint32_t)at[1];
-        else if (at[0] != SPDZ_NEXT) return failed("receiving", i, at);
+        else if (at[0] != SPDZ_NEXT) return aborted("receiving", i, at);
     }
     memcpy(&run->transcript[*written], heard, PARTIES * words * sizeof(uint32_t));
     *used += draws;
@@ -87,8 +97,9 @@ static bool by_single_entries(struct run *run)
     uint64_t answers[PARTIES][SPDZ_PLACES];
     size_t used = 0, written = 0;
     for (size_t i = 0; i < PARTIES; i++) {
-        spdz_open_run(PARTIES, i, circuit, LENGTH(circuit), preps[i], PREP, &inputs[i], 1, run->scratch[i], SCRATCH, answers[i], SPDZ_PLACES);
-        if (answers[i][0] != SPDZ_NEXT) return failed("opening", i, answers[i]);
+        struct spdz_refusal refusal =
+            spdz_open_run(PARTIES, i, circuit, LENGTH(circuit), preps[i], PREP, &inputs[i], 1, run->scratch[i], SCRATCH, answers[i], SPDZ_PLACES);
+        if (refused(refusal, "opening", i)) return false;
     }
     while (answers[0][3] != SPDZ_FINISHED)
         if (!round_of_both(run, answers, &used, &written)) return false;
@@ -99,9 +110,11 @@ static bool by_single_entries(struct run *run)
 static bool by_joint_run(struct run *run)
 {
     uint64_t answer[SPDZ_PLACES];
-    spdz_joint_run(PARTIES, circuit, LENGTH(circuit), preps[0], PARTIES * PREP, inputs, PARTIES, run->scratch[0], PARTIES * SCRATCH,
-                   coefficients, LENGTH(coefficients), run->transcript, WORDS, run->outputs, OUTPUTS, answer, SPDZ_PLACES);
-    if (answer[0] != SPDZ_DONE) return failed("the joint run", 0, answer);
+    struct spdz_refusal refusal =
+        spdz_joint_run(PARTIES, circuit, LENGTH(circuit), preps[0], PARTIES * PREP, inputs, PARTIES, run->scratch[0], PARTIES * SCRATCH,
+                       coefficients, LENGTH(coefficients), run->transcript, WORDS, run->outputs, OUTPUTS, answer, SPDZ_PLACES);
+    if (refused(refusal, "the joint run", 0)) return false;
+    if (answer[0] != SPDZ_DONE) return aborted("the joint run", 0, answer);
     run->rounds = (size_t)answer[1];
     return true;
 }

@@ -13,30 +13,28 @@
 /* The size of the field. An element is a number below it. */
 #define SPDZ_P UINT32_C(2147483647)
 
-/* What an entry with an answer returns. */
-enum {
-    SPDZ_ANSWERED = 0, /* the answer is written */
-    SPDZ_NO_ROOM = 1   /* the list for the answer is shorter than SPDZ_PLACES: nothing is called or written */
+/* What every entry returns: the number of the first question that refuses, and its index; 0 and 0 where the call is accepted.
+ * A refused call writes into none of its lists. A list for the answer that is shorter than SPDZ_PLACES is refusal 18, which
+ * is asked last: every other question goes first. */
+struct spdz_refusal {
+    uint32_t number;
+    size_t index;
 };
 
-/* An answer is SPDZ_PLACES numbers, of which the first is its kind; a longer list stays as it was beyond them.
+/* The answer of an accepted call is SPDZ_PLACES numbers, of which the first is its kind; a longer list stays as it was beyond them.
  *
  *   of a party's entry                       [0]            [1]     [2]    [3]    [4]
- *   a refusal                                SPDZ_REFUSED   number  index  0      0
  *   the next position                        SPDZ_NEXT      0       gate   stage  held
  *   an output, and the next position         SPDZ_OUTPUT    output  gate   stage  held
  *   the run is aborted                       SPDZ_ABORT     0       gate   stage  held
  *
  *   of the joint run
- *   a refusal                                SPDZ_REFUSED   number  index  0      0
  *   the run is finished                      SPDZ_DONE      rounds  0      0      0
  *   the run is aborted at a gate             SPDZ_STOPPED   rounds  gate   0      0
- *
- * After a refusal every list but the answer is as it was.
  */
 #define SPDZ_PLACES 5
 
-enum { SPDZ_REFUSED = 0, SPDZ_NEXT = 1, SPDZ_OUTPUT = 2, SPDZ_ABORT = 3 };
+enum { SPDZ_NEXT = 1, SPDZ_OUTPUT = 2, SPDZ_ABORT = 3 };
 enum { SPDZ_DONE = 1, SPDZ_STOPPED = 2 };
 
 /* Stages. A number above SPDZ_ABORTED names none: the position cannot occur, and question 13 refuses it in its turn. */
@@ -60,46 +58,43 @@ enum {
 };
 
 /* Opening a run: the position at which party `me` of `parties` starts. */
-uint32_t spdz_open_run(size_t parties, size_t me,
-                       const uint32_t *circuit, size_t circuit_len,
-                       const uint32_t *prep, size_t prep_len,
-                       const uint32_t *inputs, size_t inputs_len,
-                       const uint32_t *scratch, size_t scratch_len,
-                       uint64_t *answer, size_t answer_len);
+struct spdz_refusal spdz_open_run(size_t parties, size_t me,
+                                  const uint32_t *circuit, size_t circuit_len,
+                                  const uint32_t *prep, size_t prep_len,
+                                  const uint32_t *inputs, size_t inputs_len,
+                                  const uint32_t *scratch, size_t scratch_len,
+                                  uint64_t *answer, size_t answer_len);
 
 /* Sending at a position: the party's words go to the start of `out`. The coefficients are those of a commitment, else none. */
-uint32_t spdz_send(size_t parties, size_t me,
-                   const uint32_t *circuit, size_t circuit_len,
-                   const uint32_t *prep, size_t prep_len,
-                   const uint32_t *inputs, size_t inputs_len,
-                   const uint32_t *scratch, size_t scratch_len,
-                   size_t gate, uint32_t stage, uint32_t held,
-                   const uint32_t *coefficients, size_t coefficients_len,
-                   uint32_t *out, size_t out_len,
-                   uint64_t *answer, size_t answer_len);
+struct spdz_refusal spdz_send(size_t parties, size_t me,
+                              const uint32_t *circuit, size_t circuit_len,
+                              const uint32_t *prep, size_t prep_len,
+                              const uint32_t *inputs, size_t inputs_len,
+                              const uint32_t *scratch, size_t scratch_len,
+                              size_t gate, uint32_t stage, uint32_t held,
+                              const uint32_t *coefficients, size_t coefficients_len,
+                              uint32_t *out, size_t out_len,
+                              uint64_t *answer, size_t answer_len);
 
 /* Receiving at a position: `heard` has the words of all parties in party order, this party's own among them. */
-uint32_t spdz_receive(size_t parties, size_t me,
-                      const uint32_t *circuit, size_t circuit_len,
-                      const uint32_t *prep, size_t prep_len,
-                      const uint32_t *inputs, size_t inputs_len,
-                      uint32_t *scratch, size_t scratch_len,
-                      size_t gate, uint32_t stage, uint32_t held,
-                      const uint32_t *heard, size_t heard_len,
-                      uint64_t *answer, size_t answer_len);
+struct spdz_refusal spdz_receive(size_t parties, size_t me,
+                                 const uint32_t *circuit, size_t circuit_len,
+                                 const uint32_t *prep, size_t prep_len,
+                                 const uint32_t *inputs, size_t inputs_len,
+                                 uint32_t *scratch, size_t scratch_len,
+                                 size_t gate, uint32_t stage, uint32_t held,
+                                 const uint32_t *heard, size_t heard_len,
+                                 uint64_t *answer, size_t answer_len);
 
 /* All parties in one run: preprocessing, inputs and scratch are joined in party order, coefficients in order of use. */
-uint32_t spdz_joint_run(size_t parties,
-                        const uint32_t *circuit, size_t circuit_len,
-                        const uint32_t *preps, size_t preps_len,
-                        const uint32_t *inputs, size_t inputs_len,
-                        uint32_t *scratch, size_t scratch_len,
-                        const uint32_t *coefficients, size_t coefficients_len,
-                        uint32_t *transcript, size_t transcript_len,
-                        uint32_t *outputs, size_t outputs_len,
-                        uint64_t *answer, size_t answer_len);
-
-/* Multiplies each number in place. Returns 0; or 1 where the factor is no element, 2 where a number is none: nothing is written then. */
-uint32_t spdz_scale(uint32_t *values, size_t values_len, uint32_t by);
+struct spdz_refusal spdz_joint_run(size_t parties,
+                                   const uint32_t *circuit, size_t circuit_len,
+                                   const uint32_t *preps, size_t preps_len,
+                                   const uint32_t *inputs, size_t inputs_len,
+                                   uint32_t *scratch, size_t scratch_len,
+                                   const uint32_t *coefficients, size_t coefficients_len,
+                                   uint32_t *transcript, size_t transcript_len,
+                                   uint32_t *outputs, size_t outputs_len,
+                                   uint64_t *answer, size_t answer_len);
 
 #endif

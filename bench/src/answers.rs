@@ -1,4 +1,4 @@
-//! Answers of the Rust implementation, as the five numbers that the proved entries give.
+//! Answers of the Rust implementation, as the five numbers that the proved entries give; a refusal is 0, its number and its index.
 
 use reference::{Ending, JointResult, Position, Received, Refusal, Round, Stage};
 
@@ -27,8 +27,12 @@ pub fn stage_number(stage: Stage) -> u32 {
     }
 }
 
-fn refused(refusal: Refusal) -> Answer {
-    [0, refusal.number.into(), refusal.index as u64, 0, 0]
+pub fn refused(number: u32, index: usize) -> Answer {
+    [0, number.into(), index as u64, 0, 0]
+}
+
+fn refusal(refusal: Refusal) -> Answer {
+    refused(refusal.number, refusal.index)
 }
 
 fn at(kind: u64, output: u32, position: Position) -> Answer {
@@ -43,12 +47,12 @@ fn at(kind: u64, output: u32, position: Position) -> Answer {
 }
 
 pub fn sent(result: Result<Position, Refusal>) -> Answer {
-    result.map_or_else(refused, |position| at(1, 0, position))
+    result.map_or_else(refusal, |position| at(1, 0, position))
 }
 
 pub fn received(result: Result<Received, Refusal>) -> Answer {
     match result {
-        Err(refusal) => refused(refusal),
+        Err(refused) => refusal(refused),
         Ok(Received::Moved(position)) => at(1, 0, position),
         Ok(Received::Released { output, position }) => at(2, output, position),
         Ok(Received::Aborted(position)) => at(3, 0, position),
@@ -57,7 +61,7 @@ pub fn received(result: Result<Received, Refusal>) -> Answer {
 
 pub fn joint(result: Result<JointResult, Refusal>) -> Answer {
     match result {
-        Err(refusal) => refused(refusal),
+        Err(refused) => refusal(refused),
         Ok(run) => match run.ending {
             Ending::Finished => [1, run.rounds as u64, 0, 0, 0],
             Ending::Aborted { gate } => [2, run.rounds as u64, gate.into(), 0, 0],

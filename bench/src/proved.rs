@@ -1,8 +1,23 @@
-//! The proved entries, called as C calls them, with answers as their five numbers.
+//! The proved entries, called as C calls them, with answers as five numbers.
 
 use reference::{Party, Position};
 
-use crate::answers::{stage_number, Answer, PLACES};
+use crate::answers::{refused, stage_number, Answer, PLACES};
+
+/// A refusal's number and index, or 0 and 0.
+#[repr(C)]
+struct Refusal {
+    number: u32,
+    index: usize,
+}
+
+/// The five numbers of an answer, or of the refusal in its place.
+fn told(refusal: Refusal, answer: Answer) -> Answer {
+    match refusal.number {
+        0 => answer,
+        number => refused(number, refusal.index),
+    }
+}
 
 extern "C" {
     fn spdz_send(
@@ -25,7 +40,7 @@ extern "C" {
         out_len: usize,
         answer: *mut u64,
         answer_len: usize,
-    ) -> u32;
+    ) -> Refusal;
 
     fn spdz_receive(
         parties: usize,
@@ -45,7 +60,7 @@ extern "C" {
         heard_len: usize,
         answer: *mut u64,
         answer_len: usize,
-    ) -> u32;
+    ) -> Refusal;
 
     fn spdz_joint_run(
         parties: usize,
@@ -65,7 +80,7 @@ extern "C" {
         outputs_len: usize,
         answer: *mut u64,
         answer_len: usize,
-    ) -> u32;
+    ) -> Refusal;
 
     fn spdz_scale(values: *mut u32, values_len: usize, by: u32) -> u32;
 }
@@ -78,7 +93,7 @@ pub fn send(
     out: &mut [u32],
 ) -> Answer {
     let mut answer = [0; PLACES];
-    unsafe {
+    let refusal = unsafe {
         spdz_send(
             lent.parties as usize,
             lent.party as usize,
@@ -101,12 +116,12 @@ pub fn send(
             answer.len(),
         )
     };
-    answer
+    told(refusal, answer)
 }
 
 pub fn receive(lent: &Party<'_>, scratch: &mut [u32], at: Position, heard: &[u32]) -> Answer {
     let mut answer = [0; PLACES];
-    unsafe {
+    let refusal = unsafe {
         spdz_receive(
             lent.parties as usize,
             lent.party as usize,
@@ -127,7 +142,7 @@ pub fn receive(lent: &Party<'_>, scratch: &mut [u32], at: Position, heard: &[u32
             answer.len(),
         )
     };
-    answer
+    told(refusal, answer)
 }
 
 #[allow(clippy::too_many_arguments)]
@@ -142,7 +157,7 @@ pub fn joint_run(
     outputs: &mut [u32],
 ) -> Answer {
     let mut answer = [0; PLACES];
-    unsafe {
+    let refusal = unsafe {
         spdz_joint_run(
             parties as usize,
             circuit.as_ptr(),
@@ -163,7 +178,7 @@ pub fn joint_run(
             answer.len(),
         )
     };
-    answer
+    told(refusal, answer)
 }
 
 /// Whether the numbers were scaled.

@@ -1,38 +1,44 @@
-// The entries for callers in C: numbers and lists of numbers only. An answer goes into a lent list of numbers.
+// The entries for callers in C: numbers and lists of numbers only. A call returns its refusal, and an accepted one writes its answer into a lent list of numbers.
 use circuit::Round;
 use circuit::Verdict;
 use joint::JointAnswer;
 use party::Answer;
+use party::Asked;
 use party::Position;
 use steps::Stage;
 ghost use mathlib.Core.Path.{_≡_};
 ghost use mathlib.Core.List.{[], _∷_};
 ghost use Prim.Native.Nat.{_≤_, _<_};
 ghost use lib.ListN.{length};
-ghost use Rattle.field.specs.Prime.{p, prime};
+ghost use Rattle.field.specs.Prime.{prime};
+ghost use Rattle.circuit.specs.Verdict.{Refused, _then_};
 ghost use Rattle.circuit.specs.Round.{roundNumber};
-ghost use Rattle.circuit.specs.Code.{roundOf};
-ghost use Rattle.steps.specs.Code.{Below, stageOf};
+ghost use Rattle.circuit.specs.Code.{roundOf, verdictOf};
+ghost use Rattle.steps.specs.Party.{partyOf};
+ghost use Rattle.steps.specs.Code.{stageOf};
 ghost use Rattle.steps.specs.Send.{overwrite};
 ghost use Rattle.party.specs.Entry.{leave, openAnswer, sendAnswer, sendOut, receiveAnswer, receiveScratch};
-ghost use Rattle.party.specs.Code.{positionOf, answerOf};
+ghost use Rattle.party.specs.Code.{positionOf, answerOf, askedOf};
 ghost use Rattle.joint.specs.Entry.{jointAnswer, jointScratch, jointTranscript, jointOutputs};
-ghost use Rattle.joint.specs.Code.{jointAnswerOf};
+ghost use Rattle.joint.specs.Code.{jointAnswerOf, jointOf};
 ghost use Rattle.capi.specs.Stages.{stageNumber, roundAt, positionAt};
-ghost use Rattle.capi.specs.Numbers.{places, answered, called, answerNumbers, jointNumbers, positionNumbers};
-ghost use Rattle.capi.specs.Scale.{scaled, askScale, refusalNumber};
+ghost use Rattle.capi.specs.Numbers.{places, answerNumbers, jointNumbers, positionNumbers};
+ghost use Rattle.capi.specs.Calls.{roomQuestion, answerVerdict, jointVerdict, returned, openCall, sendCall, receiveCall, jointCall};
+
+// What a call returns: a refusal's number and index, or 0 and 0 where it is accepted.
+#[repr(C)]
+pub struct Refusal {
+    pub number: u32,
+    pub index: usize,
+}
 
 // How many numbers an answer takes.
 const PLACES: usize = 5;
 
-// What a call returns: the answer is written, or its list is too short and nothing is done.
-const ANSWERED: u32 = 0;
-
-const NO_ROOM: u32 = 1;
+// The question that is asked last, of the list for the answer.
+const ROOM_QUESTION: u32 = 18;
 
 // The first number of a party's answer, and of a joint run's.
-const REFUSED: u64 = 0;
-
 const NEXT: u64 = 1;
 
 const OUTPUT: u64 = 2;
@@ -66,13 +72,6 @@ const ABORTED_STAGE: u32 = 15;
 
 // A check share that no finished position holds.
 const NEVER_HELD: u32 = 1;
-
-// What scaling returns: done, or the number of the question that refuses.
-const SCALED: u32 = 0;
-
-const FACTOR_QUESTION: u32 = 1;
-
-const VALUES_QUESTION: u32 = 2;
 
 fn round_at(k: u32) -> Round
     ensures { λ r. ⌜ roundOf r ≡ roundAt k ⌝ }
@@ -191,14 +190,16 @@ fn put_position(answer: &mut [u64], kind: u64, value: u64, at: Position)
     );
 }
 
+// Nothing is written of a refusal.
 fn put_answer(answer: &mut [u64], a: Answer)
     requires { ⌜ places ≤ length (now answer) ⌝ }
     ensures { λ r. ⌜ now (answer .exit) ≡ overwrite (answerNumbers (answerOf a)) (now (answer .entry)) ⌝ }
 {
     match a {
-        Answer::Refusal { number, index } => {
-            put(answer, REFUSED, number as u64, index as u64, 0, 0);
-        }
+        Answer::Refusal {
+            number: _,
+            index: _,
+        } => {}
         Answer::Next(at) => {
             put_position(answer, NEXT, 0, at);
         }
@@ -216,15 +217,72 @@ fn put_joint(answer: &mut [u64], a: JointAnswer)
     ensures { λ r. ⌜ now (answer .exit) ≡ overwrite (jointNumbers (jointAnswerOf a)) (now (answer .entry)) ⌝ }
 {
     match a {
-        JointAnswer::Refusal { number, index } => {
-            put(answer, REFUSED, number as u64, index as u64, 0, 0);
-        }
+        JointAnswer::Refusal {
+            number: _,
+            index: _,
+        } => {}
         JointAnswer::Done(rounds) => {
             put(answer, DONE, rounds as u64, 0, 0, 0);
         }
         JointAnswer::Aborted { gate, rounds } => {
             put(answer, STOPPED, rounds as u64, gate as u64, 0, 0);
         }
+    }
+}
+
+fn answer_verdict(a: Answer) -> Verdict
+    ensures { λ r. ⌜ verdictOf r ≡ answerVerdict (answerOf a) ⌝ }
+{
+    match a {
+        Answer::Refusal { number, index } => Verdict::Refused { number, index },
+        Answer::Next(_) => Verdict::Accepted,
+        Answer::Output(_, _) => Verdict::Accepted,
+        Answer::Abort(_) => Verdict::Accepted,
+    }
+}
+
+fn joint_verdict(a: JointAnswer) -> Verdict
+    ensures { λ r. ⌜ verdictOf r ≡ jointVerdict (jointAnswerOf a) ⌝ }
+{
+    match a {
+        JointAnswer::Refusal { number, index } => Verdict::Refused { number, index },
+        JointAnswer::Done(_) => Verdict::Accepted,
+        JointAnswer::Aborted { gate: _, rounds: _ } => Verdict::Accepted,
+    }
+}
+
+fn asked_verdict(a: Asked) -> Verdict
+    ensures { λ r. ⌜ verdictOf r ≡ askedOf a ⌝ }
+{
+    match a {
+        Asked::Refused { number, index } => Verdict::Refused { number, index },
+        Asked::Accepted(_, _, _) => Verdict::Accepted,
+    }
+}
+
+// What a call returns whose answer has room.
+fn returned_of(v: Verdict) -> Refusal
+    ensures { λ r. ⌜ r ≡ returned (verdictOf v) ⌝ }
+{
+    match v {
+        Verdict::Refused { number, index } => Refusal { number, index },
+        Verdict::Accepted => Refusal {
+            number: 0,
+            index: 0,
+        },
+    }
+}
+
+// What a call returns whose answer has none: the first question that refuses, or that of the room.
+fn without_room(v: Verdict) -> Refusal
+    ensures { λ r. ⌜ r ≡ returned (verdictOf v then Refused roomQuestion 0) ⌝ }
+{
+    match v {
+        Verdict::Refused { number, index } => Refusal { number, index },
+        Verdict::Accepted => Refusal {
+            number: ROOM_QUESTION,
+            index: 0,
+        },
     }
 }
 
@@ -238,15 +296,21 @@ pub extern "C" fn spdz_open_run(
     inputs: &[u32],
     l: &[u32],
     answer: &mut [u64],
-) -> u32
-    ensures returned { λ r. ⌜ r ≡ answered (now (answer .entry)) ⌝ }
-    ensures answer { λ r. ⌜ now (answer .exit) ≡ called (now (answer .entry)) (overwrite (answerNumbers (openAnswer prime (record { parties = parties; me = me; circuit = now (c .entry); prep = now (prep .entry); inputs = now (inputs .entry) }) (now (l .entry)))) (now (answer .entry))) (now (answer .entry)) ⌝ }
+) -> Refusal
+    ensures returned { λ r. ⌜ r
+        ≡ returned (openCall (partyOf parties me (now (c .entry)) (now (prep .entry)) (now (inputs .entry)))
+        (now (l .entry)) (now (answer .entry))) ⌝ }
+    ensures answer { λ r. ⌜ now (answer .exit)
+        ≡ leave (openCall (partyOf parties me (now (c .entry)) (now (prep .entry)) (now (inputs .entry))) (now (l .entry)) (now (answer .entry)))
+        (overwrite (answerNumbers (openAnswer prime (partyOf parties me (now (c .entry)) (now (prep .entry)) (now (inputs .entry))) (now (l .entry)))) (now (answer .entry)))
+        (now (answer .entry)) ⌝ }
 {
+    let a = party::open_run(parties, me, c, prep, inputs, l);
     if answer.len() < PLACES {
-        return NO_ROOM;
+        return without_room(answer_verdict(a));
     }
-    put_answer(answer, party::open_run(parties, me, c, prep, inputs, l));
-    ANSWERED
+    put_answer(answer, a);
+    returned_of(answer_verdict(a))
 }
 
 // Sending: the words of the position's round.
@@ -264,18 +328,37 @@ pub extern "C" fn spdz_send(
     coefficients: &[u32],
     out: &mut [u32],
     answer: &mut [u64],
-) -> u32
-    ensures returned { λ r. ⌜ r ≡ answered (now (answer .entry)) ⌝ }
-    ensures answer { λ r. ⌜ now (answer .exit) ≡ called (now (answer .entry)) (overwrite (answerNumbers (sendAnswer prime (record { parties = parties; me = me; circuit = now (c .entry); prep = now (prep .entry); inputs = now (inputs .entry) }) (now (l .entry)) (positionAt gate stage held) (now (coefficients .entry)) (length (now (out .entry))))) (now (answer .entry))) (now (answer .entry)) ⌝ }
-    ensures out { λ r. ⌜ now (out .exit) ≡ called (now (answer .entry)) (sendOut prime (record { parties = parties; me = me; circuit = now (c .entry); prep = now (prep .entry); inputs = now (inputs .entry) }) (now (l .entry)) (positionAt gate stage held) (now (coefficients .entry)) (now (out .entry))) (now (out .entry)) ⌝ }
+) -> Refusal
+    ensures returned { λ r. ⌜ r
+        ≡ returned (sendCall (partyOf parties me (now (c .entry)) (now (prep .entry)) (now (inputs .entry)))
+        (now (l .entry)) (positionAt gate stage held) (now (coefficients .entry)) (now (out .entry)) (now (answer .entry))) ⌝ }
+    ensures answer { λ r. ⌜ now (answer .exit)
+        ≡ leave (sendCall (partyOf parties me (now (c .entry)) (now (prep .entry)) (now (inputs .entry))) (now (l .entry)) (positionAt gate stage held) (now (coefficients .entry)) (now (out .entry)) (now (answer .entry)))
+        (overwrite (answerNumbers (sendAnswer prime (partyOf parties me (now (c .entry)) (now (prep .entry)) (now (inputs .entry))) (now (l .entry)) (positionAt gate stage held) (now (coefficients .entry)) (length (now (out .entry))))) (now (answer .entry)))
+        (now (answer .entry)) ⌝ }
+    ensures out { λ r. ⌜ now (out .exit)
+        ≡ leave (sendCall (partyOf parties me (now (c .entry)) (now (prep .entry)) (now (inputs .entry))) (now (l .entry)) (positionAt gate stage held) (now (coefficients .entry)) (now (out .entry)) (now (answer .entry)))
+        (sendOut prime (partyOf parties me (now (c .entry)) (now (prep .entry)) (now (inputs .entry))) (now (l .entry)) (positionAt gate stage held) (now (coefficients .entry)) (now (out .entry)))
+        (now (out .entry)) ⌝ }
 {
-    if answer.len() < PLACES {
-        return NO_ROOM;
-    }
     let at = position_at(gate, stage, held);
+    if answer.len() < PLACES {
+        let room = out.len();
+        return without_room(asked_verdict(party::asking::ask_send(
+            parties,
+            me,
+            c,
+            prep,
+            inputs,
+            l,
+            at,
+            coefficients,
+            room,
+        )));
+    }
     let a = party::send(parties, me, c, prep, inputs, l, at, coefficients, out);
     put_answer(answer, a);
-    ANSWERED
+    returned_of(answer_verdict(a))
 }
 
 // Receiving: what the words of all lead to.
@@ -292,21 +375,38 @@ pub extern "C" fn spdz_receive(
     held: u32,
     heard: &[u32],
     answer: &mut [u64],
-) -> u32
-    ensures returned { λ r. ⌜ r ≡ answered (now (answer .entry)) ⌝ }
-    ensures answer { λ r. ⌜ now (answer .exit) ≡ called (now (answer .entry)) (overwrite (answerNumbers (receiveAnswer prime (record { parties = parties; me = me; circuit = now (c .entry); prep = now (prep .entry); inputs = now (inputs .entry) }) (now (l .entry)) (positionAt gate stage held) (now (heard .entry)))) (now (answer .entry))) (now (answer .entry)) ⌝ }
-    ensures scratch { λ r. ⌜ now (l .exit) ≡ called (now (answer .entry)) (receiveScratch prime (record { parties = parties; me = me; circuit = now (c .entry); prep = now (prep .entry); inputs = now (inputs .entry) }) (now (l .entry)) (positionAt gate stage held) (now (heard .entry))) (now (l .entry)) ⌝ }
+) -> Refusal
+    ensures returned { λ r. ⌜ r
+        ≡ returned (receiveCall (partyOf parties me (now (c .entry)) (now (prep .entry)) (now (inputs .entry)))
+        (now (l .entry)) (positionAt gate stage held) (now (heard .entry)) (now (answer .entry))) ⌝ }
+    ensures answer { λ r. ⌜ now (answer .exit)
+        ≡ leave (receiveCall (partyOf parties me (now (c .entry)) (now (prep .entry)) (now (inputs .entry))) (now (l .entry)) (positionAt gate stage held) (now (heard .entry)) (now (answer .entry)))
+        (overwrite (answerNumbers (receiveAnswer prime (partyOf parties me (now (c .entry)) (now (prep .entry)) (now (inputs .entry))) (now (l .entry)) (positionAt gate stage held) (now (heard .entry)))) (now (answer .entry)))
+        (now (answer .entry)) ⌝ }
+    ensures scratch { λ r. ⌜ now (l .exit)
+        ≡ leave (receiveCall (partyOf parties me (now (c .entry)) (now (prep .entry)) (now (inputs .entry))) (now (l .entry)) (positionAt gate stage held) (now (heard .entry)) (now (answer .entry)))
+        (receiveScratch prime (partyOf parties me (now (c .entry)) (now (prep .entry)) (now (inputs .entry))) (now (l .entry)) (positionAt gate stage held) (now (heard .entry)))
+        (now (l .entry)) ⌝ }
 {
-    if answer.len() < PLACES {
-        return NO_ROOM;
-    }
     let at = position_at(gate, stage, held);
+    if answer.len() < PLACES {
+        return without_room(asked_verdict(party::asking::ask_receive(
+            parties,
+            me,
+            c,
+            prep,
+            inputs,
+            l,
+            at,
+            heard,
+        )));
+    }
     let a = party::receive(parties, me, c, prep, inputs, l, at, heard);
     put_answer(answer, a);
-    ANSWERED
+    returned_of(answer_verdict(a))
 }
 
-// The joint run of all parties.
+// The joint run of all parties. Where its answer has no room, none of the outputs has: every circuit has one, so that nothing is run.
 #[no_mangle]
 pub extern "C" fn spdz_joint_run(
     parties: usize,
@@ -318,15 +418,38 @@ pub extern "C" fn spdz_joint_run(
     transcript: &mut [u32],
     outputs: &mut [u32],
     answer: &mut [u64],
-) -> u32
-    ensures returned { λ r. ⌜ r ≡ answered (now (answer .entry)) ⌝ }
-    ensures answer { λ r. ⌜ now (answer .exit) ≡ called (now (answer .entry)) (overwrite (jointNumbers (jointAnswer prime (record { parties = parties; circuit = now (c .entry); preps = now (preps .entry); inputs = now (inputs .entry); coefficients = now (coefficients .entry) }) (now (l .entry)) (now (transcript .entry)) (now (outputs .entry)))) (now (answer .entry))) (now (answer .entry)) ⌝ }
-    ensures scratch { λ r. ⌜ now (l .exit) ≡ called (now (answer .entry)) (jointScratch prime (record { parties = parties; circuit = now (c .entry); preps = now (preps .entry); inputs = now (inputs .entry); coefficients = now (coefficients .entry) }) (now (l .entry)) (now (transcript .entry)) (now (outputs .entry))) (now (l .entry)) ⌝ }
-    ensures transcript { λ r. ⌜ now (transcript .exit) ≡ called (now (answer .entry)) (jointTranscript prime (record { parties = parties; circuit = now (c .entry); preps = now (preps .entry); inputs = now (inputs .entry); coefficients = now (coefficients .entry) }) (now (l .entry)) (now (transcript .entry)) (now (outputs .entry))) (now (transcript .entry)) ⌝ }
-    ensures outputs { λ r. ⌜ now (outputs .exit) ≡ called (now (answer .entry)) (jointOutputs prime (record { parties = parties; circuit = now (c .entry); preps = now (preps .entry); inputs = now (inputs .entry); coefficients = now (coefficients .entry) }) (now (l .entry)) (now (transcript .entry)) (now (outputs .entry))) (now (outputs .entry)) ⌝ }
+) -> Refusal
+    ensures returned { λ r. ⌜ r
+        ≡ returned (jointCall (jointOf parties (now (c .entry)) (now (preps .entry)) (now (inputs .entry)) (now (coefficients .entry)))
+        (now (l .entry)) (now (transcript .entry)) (now (outputs .entry)) (now (answer .entry))) ⌝ }
+    ensures answer { λ r. ⌜ now (answer .exit)
+        ≡ leave (jointCall (jointOf parties (now (c .entry)) (now (preps .entry)) (now (inputs .entry)) (now (coefficients .entry))) (now (l .entry)) (now (transcript .entry)) (now (outputs .entry)) (now (answer .entry)))
+        (overwrite (jointNumbers (jointAnswer prime (jointOf parties (now (c .entry)) (now (preps .entry)) (now (inputs .entry)) (now (coefficients .entry))) (now (l .entry)) (now (transcript .entry)) (now (outputs .entry)))) (now (answer .entry)))
+        (now (answer .entry)) ⌝ }
+    ensures scratch { λ r. ⌜ now (l .exit)
+        ≡ leave (jointCall (jointOf parties (now (c .entry)) (now (preps .entry)) (now (inputs .entry)) (now (coefficients .entry))) (now (l .entry)) (now (transcript .entry)) (now (outputs .entry)) (now (answer .entry)))
+        (jointScratch prime (jointOf parties (now (c .entry)) (now (preps .entry)) (now (inputs .entry)) (now (coefficients .entry))) (now (l .entry)) (now (transcript .entry)) (now (outputs .entry)))
+        (now (l .entry)) ⌝ }
+    ensures transcript { λ r. ⌜ now (transcript .exit)
+        ≡ leave (jointCall (jointOf parties (now (c .entry)) (now (preps .entry)) (now (inputs .entry)) (now (coefficients .entry))) (now (l .entry)) (now (transcript .entry)) (now (outputs .entry)) (now (answer .entry)))
+        (jointTranscript prime (jointOf parties (now (c .entry)) (now (preps .entry)) (now (inputs .entry)) (now (coefficients .entry))) (now (l .entry)) (now (transcript .entry)) (now (outputs .entry)))
+        (now (transcript .entry)) ⌝ }
+    ensures outputs { λ r. ⌜ now (outputs .exit)
+        ≡ leave (jointCall (jointOf parties (now (c .entry)) (now (preps .entry)) (now (inputs .entry)) (now (coefficients .entry))) (now (l .entry)) (now (transcript .entry)) (now (outputs .entry)) (now (answer .entry)))
+        (jointOutputs prime (jointOf parties (now (c .entry)) (now (preps .entry)) (now (inputs .entry)) (now (coefficients .entry))) (now (l .entry)) (now (transcript .entry)) (now (outputs .entry)))
+        (now (outputs .entry)) ⌝ }
 {
     if answer.len() < PLACES {
-        return NO_ROOM;
+        return returned_of(joint_verdict(joint::joint_run(
+            parties,
+            c,
+            preps,
+            inputs,
+            l,
+            coefficients,
+            transcript,
+            &mut outputs[..0],
+        )));
     }
     let a = joint::joint_run(
         parties,
@@ -339,35 +462,5 @@ pub extern "C" fn spdz_joint_run(
         outputs,
     );
     put_joint(answer, a);
-    ANSWERED
-}
-
-// Each number of a list times a factor, in place; nothing is written where one of them is no element.
-#[no_mangle]
-pub extern "C" fn spdz_scale(values: &mut [u32], by: u32) -> u32
-    ensures returned { λ r. ⌜ r ≡ refusalNumber (askScale by (now (values .entry))) ⌝ }
-    ensures values { λ r. ⌜ now (values .exit) ≡ leave (askScale by (now (values .entry))) (scaled by (now (values .entry))) (now (values .entry)) ⌝ }
-{
-    if field::P <= by {
-        return FACTOR_QUESTION;
-    }
-    match party::asking::ask_elements(VALUES_QUESTION, values) {
-        Verdict::Refused { number, index: _ } => {
-            return number;
-        }
-        Verdict::Accepted => {}
-    }
-    scale(values, by);
-    SCALED
-}
-
-fn scale(values: &mut [u32], by: u32)
-    requires { ⌜ (by < p) × Below (now values) ⌝ }
-    ensures { λ r. ⌜ now (values .exit) ≡ scaled by (now (values .entry)) ⌝ }
-{
-    let mut i = 0;
-    while i < values.len() {
-        values[i] = field::mul(values[i], by);
-        i += 1;
-    }
+    returned_of(joint_verdict(a))
 }

@@ -1,57 +1,94 @@
--- `capi::spdz_joint_run` meets its contract: a list that is long enough gets the answer, and for one that is too short nothing is done.
+-- `capi::spdz_joint_run` meets its contract: an answer that has room is the entry's, and where there is none the questions alone are asked.
 -- Assumes nothing.
-use mathlib.Core.Path.{sym}
-use Rattle.capi.proofs.Writing.{short-answered, short-kept, long-answered, long-called}
+use mathlib.Core.Path.{sym, ap, _∙_}
+use Prim.Native.Nat.{_≤_}
 use native.Mathlib.Omega.{arith}
+use lib.ListN.{length}
+use Rattle.steps.specs.Send.{overwrite}
+use Rattle.joint.specs.Entry.{JointAnswer}
+use Rattle.capi.specs.Numbers.{places, jointNumbers}
+use Rattle.field.specs.Prime.{prime}
+use Rattle.capi.specs.Calls.{jointVerdict}
+use Rattle.capi.proofs.Calling.{joint-short-returned, short-kept, long-returned, long-left, joint-verdict-is, joint-answer-left, joint-scratch-left, joint-transcript-left, joint-outputs-left, scratch-kept, transcript-kept, outputs-kept}
 use borrow.Author.Needs.{needs}
 use Rattle.capi.proofs.spdz_joint_run.Statement.{statement}
 use Rattle.capi.proofs.spdz_joint_run.Tie as tie
-use Rattle.capi.proofs.spdz_joint_run.Reads as reads
-use Rattle.capi.proofs.spdz_joint_run.Lts as lts
-use Rattle.capi.proofs.put_joint.Reads as put-joint-reads
-use Rattle.joint.proofs.joint_run.Reads as joint-run-reads
 
--- src/lib.rt:327:9
-returns : tie.Need-returns
-returns c = (short-answered _ (omega arith), (short-kept _ (omega arith) _ _, (short-kept _ (omega arith) _ _, (short-kept _ (omega arith) _ _, short-kept _ (omega arith) _ _))))
+slice-relend-prefix-joint-run : tie.Need-slice-relend-prefix-joint-run
+slice-relend-prefix-joint-run c = search needs
 
--- src/lib.rt:329:9
+slice-aggregate-joint-run : tie.Need-slice-aggregate-joint-run
+slice-aggregate-joint-run c = search needs
+
 joint-run-requires : tie.Need-joint-run-requires
 joint-run-requires c κs = search needs
 
--- src/lib.rt:339:5
-put-joint-requires : tie.Need-put-joint-requires
-put-joint-requires c κs = search needs
+joint-verdict-requires : tie.Need-joint-verdict-requires
+joint-verdict-requires c κs = search needs
 
--- src/lib.rt:308:1
+returned-of-requires : tie.Need-returned-of-requires
+returned-of-requires c κs = search needs
+
 same-length : tie.Need-same-length
 same-length c = search needs
 
--- src/lib.rt:308:1
 same-length-2 : tie.Need-same-length-2
 same-length-2 c = search needs
 
--- src/lib.rt:308:1
 same-length-3 : tie.Need-same-length-3
 same-length-3 c = search needs
 
--- src/lib.rt:308:1
+returns : tie.Need-returns
+returns c = (joint-short-returned _ _ _ _ _ (omega arith) (c .before .joint-verdict .ensures ∙ ap jointVerdict (c .before .before .before .before .before .before .before .before .joint-run .ensures .0) ∙ joint-verdict-is prime _ _ _ _) (c .returned-of .ensures), (short-kept _ _ (omega arith) _ _, (c .before .before .before .before .before .before .before .before .joint-run .ensures .1 .0 ∙ scratch-kept _ _ _ ∙ short-kept _ _ (omega arith) _ _, (c .before .before .before .before .before .before .before .before .joint-run .ensures .1 .1 .0 ∙ transcript-kept _ _ _ ∙ short-kept _ _ (omega arith) _ _, rw (c .before .before .before .before .before .before .before .before .joint-run .ensures .1 .1 .1 ∙ outputs-kept _ _ _) (short-kept _ _ (omega arith) _ _)))))
+
+joint-run-requires-2 : tie.Need-joint-run-requires-2
+joint-run-requires-2 c κs = search needs
+
+put-joint-requires : tie.Need-put-joint-requires
+put-joint-requires c κs = search needs
+
+joint-verdict-requires-2 : tie.Need-joint-verdict-requires-2
+joint-verdict-requires-2 c κs = search needs
+
+returned-of-requires-2 : tie.Need-returned-of-requires-2
+returned-of-requires-2 c κs = search needs
+
 same-length-4 : tie.Need-same-length-4
 same-length-4 c = search needs
 
--- src/lib.rt:308:1
+same-length-5 : tie.Need-same-length-5
+same-length-5 c = search needs
+
+same-length-6 : tie.Need-same-length-6
+same-length-6 c = search needs
+
+same-length-7 : tie.Need-same-length-7
+same-length-7 c = search needs
+
 returns-2 : tie.Need-returns-2
-returns-2 c = (long-answered _ (omega arith), (long-called _ (omega arith) _ _ (rw (sym (c .before .before .before .before .before .before .before .before .before .before .joint-run .ensures .0)) (c .before .before .put-joint .ensures)), (long-called _ (omega arith) _ _ (c .before .before .before .before .before .before .before .before .before .before .joint-run .ensures .1 .0), (long-called _ (omega arith) _ _ (c .before .before .before .before .before .before .before .before .before .before .joint-run .ensures .1 .1 .0), long-called _ (omega arith) _ _ (c .before .before .before .before .before .before .before .before .before .before .joint-run .ensures .1 .1 .1)))))
+returns-2 c =
+    let long : places ≤ length (c .before .before .before .before .before .before .before .before .before .before .before .before .before .before .before .before .before .before .before .before .before .before .before .before .before .args .answer .now) = omega arith in
+    (long-returned _ _ long (c .before .joint-verdict2 .ensures ∙ ap jointVerdict (c .before .before .before .before .before .before .before .before .before .before .before .before .joint-run2 .ensures .0) ∙ joint-verdict-is prime _ _ _ _) (c .returned-of2 .ensures), (long-left _ _ long _ _ (joint-answer-left prime _ _ _ _ _) (c .before .before .before .before .put-joint .ensures ∙ ap (λ (a : JointAnswer). overwrite (jointNumbers a) (c .before .before .before .before .before .before .before .before .before .before .before .before .before .before .before .before .before .before .before .before .before .before .before .before .before .args .answer .now)) (c .before .before .before .before .before .before .before .before .before .before .before .before .joint-run2 .ensures .0)), (long-left _ _ long _ _ (joint-scratch-left prime _ _ _ _) (c .before .before .before .before .before .before .before .before .before .before .before .before .joint-run2 .ensures .1 .0), (long-left _ _ long _ _ (joint-transcript-left prime _ _ _ _) (c .before .before .before .before .before .before .before .before .before .before .before .before .joint-run2 .ensures .1 .1 .0), long-left _ _ long _ _ (joint-outputs-left prime _ _ _ _) (c .before .before .before .before .before .before .before .before .before .before .before .before .joint-run2 .ensures .1 .1 .1)))))
 
 pub spdz-joint-run-spec : {M : Type 1} → statement M
 spdz-joint-run-spec =
     tie.close
     (tie.spec
-    returns
+    slice-relend-prefix-joint-run
+    slice-aggregate-joint-run
     joint-run-requires
-    put-joint-requires
+    joint-verdict-requires
+    returned-of-requires
     same-length
     same-length-2
     same-length-3
+    returns
+    joint-run-requires-2
+    put-joint-requires
+    joint-verdict-requires-2
+    returned-of-requires-2
     same-length-4
+    same-length-5
+    same-length-6
+    same-length-7
     returns-2)

@@ -1,36 +1,51 @@
--- `capi::spdz_open_run` meets its contract: a list that is long enough gets the answer, and for one that is too short nothing is done.
+-- `capi::spdz_open_run` meets its contract: an answer that has room is the entry's, and where there is none the questions alone are asked.
 -- Assumes nothing.
-use mathlib.Core.Path.{sym}
-use Rattle.capi.proofs.Writing.{short-answered, short-kept, long-answered, long-called}
+use mathlib.Core.Path.{sym, ap, _∙_}
 use native.Mathlib.Omega.{arith}
+use Rattle.field.specs.Prime.{prime}
+use Rattle.capi.specs.Calls.{answerVerdict}
+use Rattle.capi.proofs.Calling.{short-returned, short-kept, long-returned, long-left, open-verdict, open-left}
 use borrow.Author.Needs.{needs}
 use Rattle.capi.proofs.spdz_open_run.Statement.{statement}
 use Rattle.capi.proofs.spdz_open_run.Tie as tie
-use Rattle.capi.proofs.spdz_open_run.Reads as reads
-use Rattle.capi.proofs.spdz_open_run.Lts as lts
-use Rattle.capi.proofs.put_answer.Reads as put-answer-reads
-use Rattle.party.proofs.open_run.Reads as open-run-reads
 
--- src/lib.rt:244:9
-returns : tie.Need-returns
-returns c = (short-answered _ (omega arith), short-kept _ (omega arith) _ _)
-
--- src/lib.rt:246:24
 open-run-requires : tie.Need-open-run-requires
 open-run-requires c κs = search needs
 
--- src/lib.rt:246:5
+answer-verdict-requires : tie.Need-answer-verdict-requires
+answer-verdict-requires c κs = search needs
+
+without-room-requires : tie.Need-without-room-requires
+without-room-requires c κs = search needs
+
+returns : tie.Need-returns
+returns c = (short-returned _ _ (omega arith) (c .before .answer-verdict .ensures ∙ ap answerVerdict (c .before .before .before .open-run .ensures) ∙ open-verdict prime _ _) (c .without-room .ensures), short-kept _ _ (omega arith) _ _)
+
 put-answer-requires : tie.Need-put-answer-requires
 put-answer-requires c κs = search needs
 
--- src/lib.rt:230:1
+answer-verdict-requires-2 : tie.Need-answer-verdict-requires-2
+answer-verdict-requires-2 c κs = search needs
+
+returned-of-requires : tie.Need-returned-of-requires
+returned-of-requires c κs = search needs
+
 same-length : tie.Need-same-length
 same-length c = search needs
 
--- src/lib.rt:230:1
 returns-2 : tie.Need-returns-2
-returns-2 c = (long-answered _ (omega arith), long-called _ (omega arith) _ _ (rw (sym (c .before .before .before .open-run .ensures)) (c .before .before .put-answer .ensures)))
+returns-2 c = (long-returned _ _ (omega arith) (c .before .answer-verdict2 .ensures ∙ ap answerVerdict (c .before .before .before .before .before .before .before .open-run .ensures) ∙ open-verdict prime _ _) (c .returned-of .ensures), long-left _ _ (omega arith) _ _ (open-left prime _ _ _) (rw (sym (c .before .before .before .before .before .before .before .open-run .ensures)) (c .before .before .before .before .put-answer .ensures)))
 
 pub spdz-open-run-spec : {M : Type 1} → statement M
 spdz-open-run-spec =
-    tie.close (tie.spec returns open-run-requires put-answer-requires same-length returns-2)
+    tie.close
+    (tie.spec
+    open-run-requires
+    answer-verdict-requires
+    without-room-requires
+    returns
+    put-answer-requires
+    answer-verdict-requires-2
+    returned-of-requires
+    same-length
+    returns-2)

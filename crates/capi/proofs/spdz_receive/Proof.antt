@@ -1,53 +1,67 @@
--- `capi::spdz_receive` meets its contract: a list that is long enough gets the answer, and for one that is too short nothing is done.
+-- `capi::spdz_receive` meets its contract: an answer that has room is the entry's, and where there is none the questions alone are asked.
 -- Assumes nothing.
-use mathlib.Core.Path.{sym}
-use Rattle.capi.proofs.Writing.{short-answered, short-kept, long-answered, long-called}
+use mathlib.Core.Path.{sym, ap, _∙_}
 use native.Mathlib.Omega.{arith}
+use Rattle.field.specs.Prime.{prime}
+use Rattle.capi.specs.Calls.{answerVerdict}
+use Rattle.capi.proofs.Calling.{short-returned, short-kept, long-returned, long-left, receive-verdict, receive-left, scratch-left}
 use borrow.Author.Needs.{needs}
 use Rattle.capi.proofs.spdz_receive.Statement.{statement}
 use Rattle.capi.proofs.spdz_receive.Tie as tie
-use Rattle.capi.proofs.spdz_receive.Reads as reads
-use Rattle.capi.proofs.spdz_receive.Lts as lts
-use Rattle.capi.proofs.position_at.Reads as position-at-reads
-use Rattle.capi.proofs.put_answer.Reads as put-answer-reads
-use Rattle.party.proofs.receive.Reads as receive-reads
 
--- src/lib.rt:299:9
-returns : tie.Need-returns
-returns c = (short-answered _ (omega arith), (short-kept _ (omega arith) _ _, short-kept _ (omega arith) _ _))
-
--- src/lib.rt:301:9
 position-at-requires : tie.Need-position-at-requires
 position-at-requires c κs = search needs
 
--- src/lib.rt:302:9
-receive-requires : tie.Need-receive-requires
-receive-requires c κs = search needs
+ask-receive-requires : tie.Need-ask-receive-requires
+ask-receive-requires c κs = search needs
 
--- src/lib.rt:303:5
-put-answer-requires : tie.Need-put-answer-requires
-put-answer-requires c κs = search needs
+asked-verdict-requires : tie.Need-asked-verdict-requires
+asked-verdict-requires c κs = search needs
 
--- src/lib.rt:280:1
+without-room-requires : tie.Need-without-room-requires
+without-room-requires c κs = search needs
+
 same-length : tie.Need-same-length
 same-length c = search needs
 
--- src/lib.rt:280:1
+returns : tie.Need-returns
+returns c = rw (sym (c .before .before .before .before .before .position-at .ensures)) (short-returned _ _ (omega arith) (c .before .asked-verdict .ensures ∙ c .before .before .ask-receive .ensures .0) (c .without-room .ensures), (short-kept _ _ (omega arith) _ _, short-kept _ _ (omega arith) _ _))
+
+receive-requires : tie.Need-receive-requires
+receive-requires c κs = search needs
+
+put-answer-requires : tie.Need-put-answer-requires
+put-answer-requires c κs = search needs
+
+answer-verdict-requires : tie.Need-answer-verdict-requires
+answer-verdict-requires c κs = search needs
+
+returned-of-requires : tie.Need-returned-of-requires
+returned-of-requires c κs = search needs
+
 same-length-2 : tie.Need-same-length-2
 same-length-2 c = search needs
 
--- src/lib.rt:280:1
+same-length-3 : tie.Need-same-length-3
+same-length-3 c = search needs
+
 returns-2 : tie.Need-returns-2
-returns-2 c = (long-answered _ (omega arith), (long-called _ (omega arith) _ _ (rw (sym (c .before .before .before .before .before .before .before .before .position-at .ensures), sym (c .before .before .before .before .before .before .receive .ensures .0)) (c .before .before .put-answer .ensures)), long-called _ (omega arith) _ _ (rw (sym (c .before .before .before .before .before .before .before .before .position-at .ensures)) (c .before .before .before .before .before .before .receive .ensures .1))))
+returns-2 c = rw (sym (c .before .before .before .before .before .before .before .before .before .before .before .position-at .ensures)) (long-returned _ _ (omega arith) (c .before .answer-verdict .ensures ∙ ap answerVerdict (c .before .before .before .before .before .before .before .before .receive .ensures .0) ∙ receive-verdict prime _ _ _ _) (c .returned-of .ensures), (long-left _ _ (omega arith) _ _ (receive-left prime _ _ _ _ _) (rw (sym (c .before .before .before .before .before .before .before .before .receive .ensures .0)) (c .before .before .before .before .put-answer .ensures)), long-left _ _ (omega arith) _ _ (scratch-left prime _ _ _ _) (c .before .before .before .before .before .before .before .before .receive .ensures .1)))
 
 pub spdz-receive-spec : {M : Type 1} → statement M
 spdz-receive-spec =
     tie.close
     (tie.spec
-    returns
     position-at-requires
+    ask-receive-requires
+    asked-verdict-requires
+    without-room-requires
+    same-length
+    returns
     receive-requires
     put-answer-requires
-    same-length
+    answer-verdict-requires
+    returned-of-requires
     same-length-2
+    same-length-3
     returns-2)

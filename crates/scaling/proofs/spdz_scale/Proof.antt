@@ -1,4 +1,4 @@
--- `capi::spdz_scale` meets its contract: what its two questions accept is scaled.
+-- `scaling::spdz_scale` meets its contract: what its two questions accept is scaled.
 -- Assumes nothing.
 use native.Mathlib.Omega.{arith}
 use mathlib.Core.Path.{sym, ap, _∙_}
@@ -7,34 +7,25 @@ use Rattle.field.specs.Prime.{p}
 use Rattle.circuit.specs.Code.{verdictOf}
 use Rattle.circuit.proofs.Verdicts.{elements-below}
 use Rattle.party.specs.Entry.{leave}
-use Rattle.capi.specs.Scale.{refusalNumber}
-use Rattle.capi.proofs.Scaling.{factor-refused, numbers-refused, numbers-accepted}
+use Rattle.scaling.specs.Scale.{refusalNumber}
+use Rattle.scaling.proofs.Scaling.{factor-refused, numbers-refused, numbers-accepted}
 use borrow.Author.Needs.{needs}
-use Rattle.capi.proofs.spdz_scale.Statement.{statement}
-use Rattle.capi.proofs.spdz_scale.Tie as tie
-use Rattle.capi.proofs.spdz_scale.Reads as reads
-use Rattle.capi.proofs.spdz_scale.Lts as lts
-use Rattle.capi.proofs.scale.Reads as scale-reads
-use Rattle.party.proofs.asking.ask_elements.Reads as ask-elements-reads
+use Rattle.scaling.proofs.spdz_scale.Statement.{statement}
+use Rattle.scaling.proofs.spdz_scale.Tie as tie
 
--- src/lib.rt:350:9
 returns : tie.Need-returns
 unfolding refusalNumber leave
 returns c = let e = factor-refused (c .before .before .args .by) (now (c .before .before .args .values)) (omega arith) in (rw e, rw e)
 
--- src/lib.rt:352:11
 ask-elements-requires : tie.Need-ask-elements-requires
 ask-elements-requires c κs = search needs
 
--- src/lib.rt:353:28
 enum-known-number : tie.Need-enum-known-number
 enum-known-number c = search needs
 
--- src/lib.rt:354:13
 same-length : tie.Need-same-length
 same-length c = search needs
 
--- src/lib.rt:354:13
 returns-2 : tie.Need-returns-2
 unfolding refusalNumber leave verdictOf
 returns-2 c = let e = numbers-refused (c .before .before .before .before .before .before .before .args .by) _ (omega arith) (sym (c .before .before .before .ask-elements .ensures) ∙ ap verdictOf (c .before .number .given .1)) in (rw e, rw e)
@@ -42,16 +33,13 @@ returns-2 c = let e = numbers-refused (c .before .before .before .before .before
 enum-told : tie.Need-enum-told
 enum-told c = search needs
 
--- src/lib.rt:358:5
 scale-requires : tie.Need-scale-requires
 unfolding verdictOf
 scale-requires c κs = (omega arith, elements-below 2 p _ (omega arith) (sym (c .before .before .before .ask-elements .ensures) ∙ ap verdictOf (c .before .enum-told .given .1)))
 
--- src/lib.rt:344:1
 same-length-2 : tie.Need-same-length-2
 same-length-2 c = search needs
 
--- src/lib.rt:344:1
 returns-3 : tie.Need-returns-3
 unfolding refusalNumber leave verdictOf
 returns-3 c = let e = numbers-accepted (c .before .before .before .before .before .before .before .before .before .before .args .by) _ (omega arith) (sym (c .before .before .before .before .before .before .ask-elements .ensures) ∙ ap verdictOf (c .before .before .before .before .enum-told .given .1)) in (rw e, rw e (c .before .before .scale .ensures))

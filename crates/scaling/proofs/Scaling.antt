@@ -12,7 +12,7 @@ use borrow.Author.Tests.{lt-ltb, le-ltb}
 use Rattle.circuit.specs.Verdict.{Accepted, Refused, elements}
 use Rattle.circuit.proofs.Verdicts.{ask-yes, ask-no, then-refused, then-passed}
 use Rattle.steps.specs.Code.{Below}
-use Rattle.capi.specs.Scale.{scaled, askScale}
+use Rattle.scaling.specs.Scale.{scaled, askScale}
 
 -- the numbers from i on scaled
 unfoldable pub scaledFrom : ℕ → ℕ → List ℕ → List ℕ

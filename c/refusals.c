@@ -1,0 +1,150 @@
+/* Calls each entry so that it is refused, and checks what it returns and that every lent list is as it was. */
+#include "spdz.h"
+
+#include <inttypes.h>
+#include <stdbool.h>
+#include <stdio.h>
+#include <string.h>
+
+#define LENGTH(list) (sizeof(list) / sizeof((list)[0]))
+
+enum { PARTIES = 2, PREP = 13, SCRATCH = 14, WORDS = 18, OUTPUTS = 1, ROOM = 18 };
+
+/* Every list that an entry is lent, the docket's, with its length beside it where a case changes that. */
+struct lent {
+    uint32_t circuit[16], preps[PARTIES * PREP], inputs[PARTIES], scratch[PARTIES * SCRATCH], coefficients[3];
+    uint32_t heard[PARTIES], out[1], transcript[WORDS], outputs[OUTPUTS];
+    uint64_t answer[SPDZ_PLACES];
+    size_t parties, me, gate, prep_len, scratch_len, heard_len, out_len, outputs_len, answer_len, coefficients_len;
+    uint32_t stage, held;
+};
+
+static const struct lent docket = {
+    .circuit = {1, 0, 0, 0, 1, 1, 0, 0, 6, 0, 1, 0, 7, 2, 0, 0},
+    .preps = {3, 1, 10, 2, 4, 30, 0, 1, 11, 3, 8, 5, 44, 4, 1, 4, 0, 6, 40, 10, 2, 10, 1, 20, 7, 40},
+    .inputs = {5, 6},
+    .coefficients = {1, 2, 5},
+    .heard = {3, 0},
+    .out = {77},
+    .transcript = {78, 79},
+    .outputs = {80},
+    .answer = {91, 92, 93, 94, 95},
+    .parties = PARTIES, .prep_len = PREP, .scratch_len = SCRATCH, .heard_len = PARTIES, .out_len = 1, .outputs_len = OUTPUTS,
+    .answer_len = SPDZ_PLACES, .coefficients_len = 3,
+};
+
+typedef struct spdz_refusal entry(struct lent *x);
+
+static struct spdz_refusal open_run(struct lent *x)
+{
+    return spdz_open_run(x->parties, x->me, x->circuit, LENGTH(x->circuit), x->preps, x->prep_len, x->inputs, 1, x->scratch, x->scratch_len,
+                         x->answer, x->answer_len);
+}
+
+static struct spdz_refusal send(struct lent *x)
+{
+    return spdz_send(x->parties, x->me, x->circuit, LENGTH(x->circuit), x->preps, x->prep_len, x->inputs, 1, x->scratch, x->scratch_len,
+                     x->gate, x->stage, x->held, x->coefficients, 0, x->out, x->out_len, x->answer, x->answer_len);
+}
+
+static struct spdz_refusal receive(struct lent *x)
+{
+    return spdz_receive(x->parties, x->me, x->circuit, LENGTH(x->circuit), x->preps, x->prep_len, x->inputs, 1, x->scratch, x->scratch_len,
+                        x->gate, x->stage, x->held, x->heard, x->heard_len, x->answer, x->answer_len);
+}
+
+static struct spdz_refusal joint_run(struct lent *x)
+{
+    return spdz_joint_run(x->parties, x->circuit, LENGTH(x->circuit), x->preps, PARTIES * x->prep_len, x->inputs, PARTIES, x->scratch,
+                          PARTIES * x->scratch_len, x->coefficients, x->coefficients_len, x->transcript, WORDS, x->outputs, x->outputs_len,
+                          x->answer, x->answer_len);
+}
+
+static int faults;
+
+/* The call is refused by the question, at the index, and leaves all that it was lent. */
+static void refused(const char *name, entry *call, struct lent x, uint32_t number, size_t index)
+{
+    const struct lent before = x;
+    const struct spdz_refusal told = call(&x);
+    if (told.number == number && told.index == index && memcmp(&x, &before, sizeof x) == 0) return;
+    fprintf(stderr, "refusals: %s: %" PRIu32 " %zu, wanted %" PRIu32 " %zu%s\n", name, told.number, told.index, number, index,
+            memcmp(&x, &before, sizeof x) == 0 ? "" : "; a list is changed");
+    faults++;
+}
+
+/* The call is accepted: 0 and 0. */
+static void accepted(const char *name, entry *call, struct lent x)
+{
+    const struct spdz_refusal told = call(&x);
+    if (told.number == 0 && told.index == 0 && x.answer[0] == SPDZ_NEXT) return;
+    fprintf(stderr, "refusals: %s: %" PRIu32 " %zu, and not accepted\n", name, told.number, told.index);
+    faults++;
+}
+
+/* The questions that every entry asks, and the list for the answer last. */
+static void alike(const char *name, entry *call, struct lent x)
+{
+    struct lent y = x;
+    y.parties = 9;
+    refused(name, call, y, 1, 0);
+    y.answer_len = 0;
+    refused(name, call, y, 1, 0);
+    y = x;
+    y.circuit[5] = 2;
+    refused(name, call, y, 5, 1);
+    y = x;
+    y.preps[5] = SPDZ_P;
+    refused(name, call, y, 9, 5);
+    y.answer_len = SPDZ_PLACES - 1;
+    refused(name, call, y, 9, 5);
+    y = x;
+    y.scratch_len--;
+    refused(name, call, y, 12, 0);
+    y = x;
+    y.answer_len = SPDZ_PLACES - 1;
+    refused(name, call, y, ROOM, 0);
+    y.answer_len = 0;
+    refused(name, call, y, ROOM, 0);
+}
+
+int main(void)
+{
+    struct lent x = docket;
+    alike("open_run", open_run, x);
+    accepted("open_run", open_run, x);
+
+    x.stage = SPDZ_SEND_INPUT;
+    alike("send", send, x);
+    accepted("send", send, x);
+    x.out_len = 0;
+    refused("send", send, x, ROOM, 0);
+    x.stage = SPDZ_ABORTED + 1;
+    refused("send", send, x, 13, 0);
+    x.answer_len = 0;
+    refused("send", send, x, 13, 0);
+
+    x = docket;
+    x.stage = SPDZ_RECEIVE_INPUT;
+    alike("receive", receive, x);
+    accepted("receive", receive, x);
+    x.heard[1] = SPDZ_P;
+    refused("receive", receive, x, 20, 1);
+    x.answer_len = 0;
+    refused("receive", receive, x, 20, 1);
+    x.heard_len = 1;
+    refused("receive", receive, x, 19, 0);
+
+    x = docket;
+    alike("joint_run", joint_run, x);
+    x.coefficients[2] = SPDZ_P;
+    refused("joint_run", joint_run, x, 17, 2);
+    x.answer_len = 0;
+    refused("joint_run", joint_run, x, 17, 2);
+    x.coefficients_len = 2;
+    refused("joint_run", joint_run, x, 16, 0);
+    x = docket;
+    x.outputs_len = 0;
+    refused("joint_run", joint_run, x, ROOM, 0);
+    return faults != 0;
+}

@@ -1,0 +1,53 @@
+-- The verdict of each call: the questions of its entry, and last that of the list for the answer.
+-- Assumes nothing.
+use Prim.Native.Nat.{ℕ}
+use mathlib.Core.List.{List}
+use lib.ListN.{length}
+use lib.Dec.{leb}
+use Rattle.field.specs.Prime.{p}
+use Rattle.circuit.specs.Verdict.{Verdict, Accepted, Refused, ask, _then_}
+use Rattle.steps.specs.Position.{Position}
+use Rattle.steps.specs.Party.{Party}
+use Rattle.party.specs.Ask.{askLent, askSend, askReceive}
+use Rattle.party.specs.Entry as E
+use Rattle.joint.specs.Joint.{Joint}
+use Rattle.joint.specs.Ask.{askJoint}
+use Rattle.joint.specs.Entry as J
+use Rattle.capi.specs.Numbers.{places}
+use Rattle.capi.specs.declared.Refusal.{Refusal}
+
+-- "and 18 last of the lists it writes"
+abbrev pub roomQuestion : ℕ
+roomQuestion = 18
+
+unfoldable pub called : Verdict → List ℕ → Verdict
+called v answer = v then ask roomQuestion 0 (leb places (length answer))
+
+abbrev pub openCall : Party → List ℕ → List ℕ → Verdict
+openCall P l answer = called (askLent p P l) answer
+
+abbrev pub sendCall : Party → List ℕ → Position → List ℕ → List ℕ → List ℕ → Verdict
+sendCall P l at coefficients out answer = called (askSend p P l at coefficients (length out)) answer
+
+abbrev pub receiveCall : Party → List ℕ → Position → List ℕ → List ℕ → Verdict
+receiveCall P l at heard answer = called (askReceive p P l at heard) answer
+
+abbrev pub jointCall : Joint → List ℕ → List ℕ → List ℕ → List ℕ → Verdict
+jointCall J l transcript outputs answer = called (askJoint p J l (length transcript) (length outputs)) answer
+
+-- "A refusal gives its number and an index": what a call returns, with 0 and 0 where it is accepted
+unfoldable pub returned : Verdict → Refusal
+returned Accepted = record { number = 0; index = 0 }
+returned (Refused number index) = record { number = number; index = index }
+
+-- whether an answer is a refusal
+unfoldable pub answerVerdict : E.Answer → Verdict
+answerVerdict (E.Refusal number index) = Refused number index
+answerVerdict (E.Next at) = Accepted
+answerVerdict (E.Output output at) = Accepted
+answerVerdict (E.Abort at) = Accepted
+
+unfoldable pub jointVerdict : J.JointAnswer → Verdict
+jointVerdict (J.Refusal number index) = Refused number index
+jointVerdict (J.Done rounds) = Accepted
+jointVerdict (J.Aborted gate rounds) = Accepted

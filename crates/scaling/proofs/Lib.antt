@@ -1,0 +1,2 @@
+-- What is proved of scaling a list.
+pub mod Scaling

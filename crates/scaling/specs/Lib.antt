@@ -1,0 +1,2 @@
+-- What a reader of the scaling crate's contract must believe.
+pub mod Scale
