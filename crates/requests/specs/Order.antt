@@ -4,6 +4,13 @@ use mathlib.Core.Bool.{Bool, true, false}
 use Rattle.circuit.specs.declared.Round.the-variants.{Input}
 use Rattle.steps.specs.declared.Stage.the-variants.{Send}
 use Rattle.requests.specs.declared.request.Request.{Request}
+use Rattle.party.specs.declared.Position as At
+use Rattle.requests.specs.declared.naming.Named.{Named}
+use Rattle.requests.specs.declared.naming.Named.the-variants as N
+use Rattle.requests.specs.declared.reading.One.{One}
+use Rattle.requests.specs.declared.reading.One.the-variants.{Number, Fault}
+use Rattle.requests.specs.declared.reading.Placed.{Placed}
+use Rattle.requests.specs.declared.reading.Placed.the-variants as L
 use Rattle.requests.specs.declared.naming.Entry.{Entry}
 use Rattle.requests.specs.declared.naming.Entry.the-variants as E
 use Rattle.requests.specs.declared.naming.Field.{Field}
@@ -75,3 +82,14 @@ wanting q wanted = record { entry = q .entry; wanted = wanted; at = q .at; lent 
 
 unfoldable pub movedOn : Request → Request
 movedOn q = wanting q (following (q .entry) (q .wanted))
+
+-- a request at a position
+unfoldable pub standing : Request → At.Position → Request
+standing q at = record { entry = q .entry; wanted = q .wanted; at = at; lent = q .lent }
+
+-- a position of a gate, a stage and a check share, where each is read
+unfoldable pub placed : One → Named → One → Placed
+placed (Fault a) stage held = L.Fault
+placed (Number gate) N.None held = L.Fault
+placed (Number gate) (N.Stage stage) (Fault b) = L.Fault
+placed (Number gate) (N.Stage stage) (Number held) = L.Position (record { gate = gate; stage = stage; held = held })

@@ -17,6 +17,8 @@ use crate::request::with_position;
 use party::Position;
 use text::Numbers;
 ghost use Prim.Native.Nat.{_≤_};
+ghost use mathlib.Core.Path.{_≡_};
+ghost use Rattle.requests.specs.Order.{placed};
 
 const HASH: u8 = 35;
 
@@ -120,7 +122,10 @@ fn position_in(rest: &[u8]) -> Placed {
     position_of(gate, stage, held)
 }
 
-fn position_of(gate: One, stage: Named, held: One) -> Placed {
+// A gate, a stage and a check share, where each is read.
+fn position_of(gate: One, stage: Named, held: One) -> Placed
+    ensures { λ r. ⌜ r ≡ placed gate stage held ⌝ }
+{
     match gate {
         One::Number(g) => match stage {
             Named::Stage(s) => match held {

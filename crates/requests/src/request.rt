@@ -225,10 +225,18 @@ pub fn with_number(request: Request, n: u32) -> Request {
     next
 }
 
-pub fn with_position(request: Request, at: Position) -> Request {
-    let mut next = request;
-    next.at = at;
-    next
+pub fn with_position(request: Request, at: Position) -> Request
+    ensures { λ r. ⌜ r ≡ O.standing request at ⌝ }
+{
+    let entry = request.entry;
+    let wanted = request.wanted;
+    let lent = request.lent;
+    Request {
+        entry,
+        wanted,
+        at,
+        lent,
+    }
 }
 
 // A count of a list that is only read, or the most that there is room for.
