@@ -1,4 +1,4 @@
-// The entries for callers in C: numbers and lists of numbers only. A call returns its refusal, and an accepted one writes its answer into a lent list of numbers.
+// The entries for callers in C: numbers and lists of numbers only. A call returns its refusal; an accepted one writes its answer into a lent list.
 use circuit::Round;
 use circuit::Verdict;
 use joint::JointAnswer;
@@ -302,7 +302,8 @@ pub extern "C" fn spdz_open_run(
         (now (l .entry)) (now (answer .entry))) ⌝ }
     ensures answer { λ r. ⌜ now (answer .exit)
         ≡ leave (openCall (partyOf parties me (now (c .entry)) (now (prep .entry)) (now (inputs .entry))) (now (l .entry)) (now (answer .entry)))
-        (overwrite (answerNumbers (openAnswer prime (partyOf parties me (now (c .entry)) (now (prep .entry)) (now (inputs .entry))) (now (l .entry)))) (now (answer .entry)))
+        (overwrite (answerNumbers (openAnswer prime (partyOf parties me (now (c .entry)) (now (prep .entry)) (now (inputs .entry)))
+        (now (l .entry)))) (now (answer .entry)))
         (now (answer .entry)) ⌝ }
 {
     let a = party::open_run(parties, me, c, prep, inputs, l);
@@ -333,12 +334,16 @@ pub extern "C" fn spdz_send(
         ≡ returned (sendCall (partyOf parties me (now (c .entry)) (now (prep .entry)) (now (inputs .entry)))
         (now (l .entry)) (positionAt gate stage held) (now (coefficients .entry)) (now (out .entry)) (now (answer .entry))) ⌝ }
     ensures answer { λ r. ⌜ now (answer .exit)
-        ≡ leave (sendCall (partyOf parties me (now (c .entry)) (now (prep .entry)) (now (inputs .entry))) (now (l .entry)) (positionAt gate stage held) (now (coefficients .entry)) (now (out .entry)) (now (answer .entry)))
-        (overwrite (answerNumbers (sendAnswer prime (partyOf parties me (now (c .entry)) (now (prep .entry)) (now (inputs .entry))) (now (l .entry)) (positionAt gate stage held) (now (coefficients .entry)) (length (now (out .entry))))) (now (answer .entry)))
+        ≡ leave (sendCall (partyOf parties me (now (c .entry)) (now (prep .entry)) (now (inputs .entry)))
+        (now (l .entry)) (positionAt gate stage held) (now (coefficients .entry)) (now (out .entry)) (now (answer .entry)))
+        (overwrite (answerNumbers (sendAnswer prime (partyOf parties me (now (c .entry)) (now (prep .entry)) (now (inputs .entry)))
+        (now (l .entry)) (positionAt gate stage held) (now (coefficients .entry)) (length (now (out .entry))))) (now (answer .entry)))
         (now (answer .entry)) ⌝ }
     ensures out { λ r. ⌜ now (out .exit)
-        ≡ leave (sendCall (partyOf parties me (now (c .entry)) (now (prep .entry)) (now (inputs .entry))) (now (l .entry)) (positionAt gate stage held) (now (coefficients .entry)) (now (out .entry)) (now (answer .entry)))
-        (sendOut prime (partyOf parties me (now (c .entry)) (now (prep .entry)) (now (inputs .entry))) (now (l .entry)) (positionAt gate stage held) (now (coefficients .entry)) (now (out .entry)))
+        ≡ leave (sendCall (partyOf parties me (now (c .entry)) (now (prep .entry)) (now (inputs .entry)))
+        (now (l .entry)) (positionAt gate stage held) (now (coefficients .entry)) (now (out .entry)) (now (answer .entry)))
+        (sendOut prime (partyOf parties me (now (c .entry)) (now (prep .entry)) (now (inputs .entry)))
+        (now (l .entry)) (positionAt gate stage held) (now (coefficients .entry)) (now (out .entry)))
         (now (out .entry)) ⌝ }
 {
     let at = position_at(gate, stage, held);
@@ -380,12 +385,16 @@ pub extern "C" fn spdz_receive(
         ≡ returned (receiveCall (partyOf parties me (now (c .entry)) (now (prep .entry)) (now (inputs .entry)))
         (now (l .entry)) (positionAt gate stage held) (now (heard .entry)) (now (answer .entry))) ⌝ }
     ensures answer { λ r. ⌜ now (answer .exit)
-        ≡ leave (receiveCall (partyOf parties me (now (c .entry)) (now (prep .entry)) (now (inputs .entry))) (now (l .entry)) (positionAt gate stage held) (now (heard .entry)) (now (answer .entry)))
-        (overwrite (answerNumbers (receiveAnswer prime (partyOf parties me (now (c .entry)) (now (prep .entry)) (now (inputs .entry))) (now (l .entry)) (positionAt gate stage held) (now (heard .entry)))) (now (answer .entry)))
+        ≡ leave (receiveCall (partyOf parties me (now (c .entry)) (now (prep .entry)) (now (inputs .entry)))
+        (now (l .entry)) (positionAt gate stage held) (now (heard .entry)) (now (answer .entry)))
+        (overwrite (answerNumbers (receiveAnswer prime (partyOf parties me (now (c .entry)) (now (prep .entry)) (now (inputs .entry)))
+        (now (l .entry)) (positionAt gate stage held) (now (heard .entry)))) (now (answer .entry)))
         (now (answer .entry)) ⌝ }
     ensures scratch { λ r. ⌜ now (l .exit)
-        ≡ leave (receiveCall (partyOf parties me (now (c .entry)) (now (prep .entry)) (now (inputs .entry))) (now (l .entry)) (positionAt gate stage held) (now (heard .entry)) (now (answer .entry)))
-        (receiveScratch prime (partyOf parties me (now (c .entry)) (now (prep .entry)) (now (inputs .entry))) (now (l .entry)) (positionAt gate stage held) (now (heard .entry)))
+        ≡ leave (receiveCall (partyOf parties me (now (c .entry)) (now (prep .entry)) (now (inputs .entry)))
+        (now (l .entry)) (positionAt gate stage held) (now (heard .entry)) (now (answer .entry)))
+        (receiveScratch prime (partyOf parties me (now (c .entry)) (now (prep .entry)) (now (inputs .entry)))
+        (now (l .entry)) (positionAt gate stage held) (now (heard .entry)))
         (now (l .entry)) ⌝ }
 {
     let at = position_at(gate, stage, held);
@@ -423,20 +432,28 @@ pub extern "C" fn spdz_joint_run(
         ≡ returned (jointCall (jointOf parties (now (c .entry)) (now (preps .entry)) (now (inputs .entry)) (now (coefficients .entry)))
         (now (l .entry)) (now (transcript .entry)) (now (outputs .entry)) (now (answer .entry))) ⌝ }
     ensures answer { λ r. ⌜ now (answer .exit)
-        ≡ leave (jointCall (jointOf parties (now (c .entry)) (now (preps .entry)) (now (inputs .entry)) (now (coefficients .entry))) (now (l .entry)) (now (transcript .entry)) (now (outputs .entry)) (now (answer .entry)))
-        (overwrite (jointNumbers (jointAnswer prime (jointOf parties (now (c .entry)) (now (preps .entry)) (now (inputs .entry)) (now (coefficients .entry))) (now (l .entry)) (now (transcript .entry)) (now (outputs .entry)))) (now (answer .entry)))
+        ≡ leave (jointCall (jointOf parties (now (c .entry)) (now (preps .entry)) (now (inputs .entry)) (now (coefficients .entry)))
+        (now (l .entry)) (now (transcript .entry)) (now (outputs .entry)) (now (answer .entry)))
+        (overwrite (jointNumbers (jointAnswer prime (jointOf parties (now (c .entry)) (now (preps .entry)) (now (inputs .entry)) (now (coefficients .entry)))
+        (now (l .entry)) (now (transcript .entry)) (now (outputs .entry)))) (now (answer .entry)))
         (now (answer .entry)) ⌝ }
     ensures scratch { λ r. ⌜ now (l .exit)
-        ≡ leave (jointCall (jointOf parties (now (c .entry)) (now (preps .entry)) (now (inputs .entry)) (now (coefficients .entry))) (now (l .entry)) (now (transcript .entry)) (now (outputs .entry)) (now (answer .entry)))
-        (jointScratch prime (jointOf parties (now (c .entry)) (now (preps .entry)) (now (inputs .entry)) (now (coefficients .entry))) (now (l .entry)) (now (transcript .entry)) (now (outputs .entry)))
+        ≡ leave (jointCall (jointOf parties (now (c .entry)) (now (preps .entry)) (now (inputs .entry)) (now (coefficients .entry)))
+        (now (l .entry)) (now (transcript .entry)) (now (outputs .entry)) (now (answer .entry)))
+        (jointScratch prime (jointOf parties (now (c .entry)) (now (preps .entry)) (now (inputs .entry)) (now (coefficients .entry)))
+        (now (l .entry)) (now (transcript .entry)) (now (outputs .entry)))
         (now (l .entry)) ⌝ }
     ensures transcript { λ r. ⌜ now (transcript .exit)
-        ≡ leave (jointCall (jointOf parties (now (c .entry)) (now (preps .entry)) (now (inputs .entry)) (now (coefficients .entry))) (now (l .entry)) (now (transcript .entry)) (now (outputs .entry)) (now (answer .entry)))
-        (jointTranscript prime (jointOf parties (now (c .entry)) (now (preps .entry)) (now (inputs .entry)) (now (coefficients .entry))) (now (l .entry)) (now (transcript .entry)) (now (outputs .entry)))
+        ≡ leave (jointCall (jointOf parties (now (c .entry)) (now (preps .entry)) (now (inputs .entry)) (now (coefficients .entry)))
+        (now (l .entry)) (now (transcript .entry)) (now (outputs .entry)) (now (answer .entry)))
+        (jointTranscript prime (jointOf parties (now (c .entry)) (now (preps .entry)) (now (inputs .entry)) (now (coefficients .entry)))
+        (now (l .entry)) (now (transcript .entry)) (now (outputs .entry)))
         (now (transcript .entry)) ⌝ }
     ensures outputs { λ r. ⌜ now (outputs .exit)
-        ≡ leave (jointCall (jointOf parties (now (c .entry)) (now (preps .entry)) (now (inputs .entry)) (now (coefficients .entry))) (now (l .entry)) (now (transcript .entry)) (now (outputs .entry)) (now (answer .entry)))
-        (jointOutputs prime (jointOf parties (now (c .entry)) (now (preps .entry)) (now (inputs .entry)) (now (coefficients .entry))) (now (l .entry)) (now (transcript .entry)) (now (outputs .entry)))
+        ≡ leave (jointCall (jointOf parties (now (c .entry)) (now (preps .entry)) (now (inputs .entry)) (now (coefficients .entry)))
+        (now (l .entry)) (now (transcript .entry)) (now (outputs .entry)) (now (answer .entry)))
+        (jointOutputs prime (jointOf parties (now (c .entry)) (now (preps .entry)) (now (inputs .entry)) (now (coefficients .entry)))
+        (now (l .entry)) (now (transcript .entry)) (now (outputs .entry)))
         (now (outputs .entry)) ⌝ }
 {
     if answer.len() < PLACES {

@@ -1,4 +1,4 @@
--- What comes next in a request, as the table of docs/REPLAY.md has it.
+-- What comes next in a request, as the table of docs/REPLAY.md has it, and what a request holds then.
 -- Assumes nothing.
 use mathlib.Core.Bool.{Bool, true, false}
 use Rattle.circuit.specs.declared.Round.the-variants.{Input}

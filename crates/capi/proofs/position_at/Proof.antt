@@ -7,39 +7,29 @@ use Rattle.capi.specs.Stages.{position, positionAt}
 use borrow.Author.Needs.{needs}
 use Rattle.capi.proofs.position_at.Statement.{statement}
 use Rattle.capi.proofs.position_at.Tie as tie
-use Rattle.capi.proofs.position_at.Reads as reads
-use Rattle.capi.proofs.position_at.Lts as lts
-use Rattle.capi.proofs.round_at.Reads as round-at-reads
 
--- src/lib.rt:106:32
 round-at-requires : tie.Need-round-at-requires
 round-at-requires c κs = search needs
 
--- src/lib.rt:104:9
 returns : tie.Need-returns
 unfolding positionOf stageOf position positionAt
 returns c = rw (lt-ltb _ _ (c .before .if1 .taken), c .round-at .ensures)
 
--- src/lib.rt:113:35
 round-at-requires-2 : tie.Need-round-at-requires-2
 round-at-requires-2 c κs = search needs
 
--- src/lib.rt:111:9
 returns-2 : tie.Need-returns-2
 unfolding positionOf stageOf position positionAt
 returns-2 c = rw (le-ltb _ _ (c .before .before .if1 .left), lt-ltb _ _ (c .before .if2 .taken), c .round-at2 .ensures)
 
--- src/lib.rt:118:9
 returns-3 : tie.Need-returns-3
 unfolding positionOf stageOf position positionAt
 returns-3 c = rw (le-ltb _ _ (c .before .before .if1 .left), le-ltb _ _ (c .before .if2 .left), eq-eqb _ _ (c .if3 .taken))
 
--- src/lib.rt:125:9
 returns-4 : tie.Need-returns-4
 unfolding positionOf stageOf position positionAt
 returns-4 c = rw (le-ltb _ _ (c .before .before .before .if1 .left), le-ltb _ _ (c .before .before .if2 .left), ne-eqb _ _ (c .before .if3 .left), eq-eqb _ _ (c .if4 .taken))
 
--- src/lib.rt:100:1
 returns-5 : tie.Need-returns-5
 unfolding positionOf stageOf position positionAt
 returns-5 c = rw (le-ltb _ _ (c .before .before .before .if1 .left), le-ltb _ _ (c .before .before .if2 .left), ne-eqb _ _ (c .before .if3 .left), ne-eqb _ _ (c .if4 .left))

@@ -6,34 +6,25 @@ use Rattle.capi.proofs.Writing.{overwrite-five}
 use borrow.Author.Needs.{needs}
 use Rattle.capi.proofs.put.Statement.{statement}
 use Rattle.capi.proofs.put.Tie as tie
-use Rattle.capi.proofs.put.Reads as reads
-use Rattle.capi.proofs.put.Lts as lts
 
--- src/lib.rt:168:5
 slice-write-answer : tie.Need-slice-write-answer
 slice-write-answer c = search needs
 
--- src/lib.rt:169:5
 slice-write-answer-2 : tie.Need-slice-write-answer-2
 slice-write-answer-2 c = simp length-set (omega arith)
 
--- src/lib.rt:170:5
 slice-write-answer-3 : tie.Need-slice-write-answer-3
 slice-write-answer-3 c = simp length-set (omega arith)
 
--- src/lib.rt:171:5
 slice-write-answer-4 : tie.Need-slice-write-answer-4
 slice-write-answer-4 c = simp length-set (omega arith)
 
--- src/lib.rt:172:5
 slice-write-answer-5 : tie.Need-slice-write-answer-5
 slice-write-answer-5 c = search needs
 
--- src/lib.rt:164:1
 same-length : tie.Need-same-length
 same-length c = search needs
 
--- src/lib.rt:164:1
 returns : tie.Need-returns
 returns c = overwrite-five _ _ _ _ _ _ (omega arith)
 

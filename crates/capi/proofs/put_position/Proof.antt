@@ -6,32 +6,22 @@ use Rattle.capi.specs.Numbers.{positionNumbers}
 use borrow.Author.Needs.{needs}
 use Rattle.capi.proofs.put_position.Statement.{statement}
 use Rattle.capi.proofs.put_position.Tie as tie
-use Rattle.capi.proofs.put_position.Reads as reads
-use Rattle.capi.proofs.put_position.Lts as lts
-use Rattle.capi.proofs.put.Reads as put-reads
-use Rattle.capi.proofs.stage_number.Reads as stage-number-reads
 
--- src/lib.rt:187:9
 stage-number-requires : tie.Need-stage-number-requires
 stage-number-requires c κs = search needs
 
--- src/lib.rt:187:9
 cast-put : tie.Need-cast-put
 cast-put c = search needs
 
--- src/lib.rt:188:9
 cast-put-2 : tie.Need-cast-put-2
 cast-put-2 c = search needs
 
--- src/lib.rt:182:5
 put-requires : tie.Need-put-requires
 put-requires c κs = search needs
 
--- src/lib.rt:175:1
 same-length : tie.Need-same-length
 same-length c = search needs
 
--- src/lib.rt:175:1
 returns : tie.Need-returns
 unfolding positionOf positionNumbers
 returns c = rw (sym (c .before .before .before .stage-number .ensures)) (c .before .before .put .ensures)

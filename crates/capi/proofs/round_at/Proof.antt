@@ -5,40 +5,31 @@ use Rattle.capi.specs.Stages.{roundAt}
 use Rattle.circuit.proofs.Tests.{tests}
 use Rattle.capi.proofs.round_at.Statement.{statement}
 use Rattle.capi.proofs.round_at.Tie as tie
-use Rattle.capi.proofs.round_at.Reads as reads
-use Rattle.capi.proofs.round_at.Lts as lts
 
--- src/lib.rt:79:9
 returns : tie.Need-returns
 unfolding roundAt roundOf
 returns c = search tests
 
--- src/lib.rt:82:9
 returns-2 : tie.Need-returns-2
 unfolding roundAt roundOf
 returns-2 c = search tests
 
--- src/lib.rt:85:9
 returns-3 : tie.Need-returns-3
 unfolding roundAt roundOf
 returns-3 c = search tests
 
--- src/lib.rt:88:9
 returns-4 : tie.Need-returns-4
 unfolding roundAt roundOf
 returns-4 c = search tests
 
--- src/lib.rt:91:9
 returns-5 : tie.Need-returns-5
 unfolding roundAt roundOf
 returns-5 c = search tests
 
--- src/lib.rt:94:9
 returns-6 : tie.Need-returns-6
 unfolding roundAt roundOf
 returns-6 c = search tests
 
--- src/lib.rt:75:1
 returns-7 : tie.Need-returns-7
 unfolding roundAt roundOf
 returns-7 c = search tests

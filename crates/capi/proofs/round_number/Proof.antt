@@ -6,68 +6,52 @@ use Rattle.circuit.specs.Code.{roundOf}
 use borrow.Author.Needs.{needs}
 use Rattle.capi.proofs.round_number.Statement.{statement}
 use Rattle.capi.proofs.round_number.Tie as tie
-use Rattle.capi.proofs.round_number.Reads as reads
-use Rattle.capi.proofs.round_number.Lts as lts
 
--- src/lib.rt:143:25
 enum-told : tie.Need-enum-told
 enum-told c = search needs
 
--- src/lib.rt:144:28
 enum-told-2 : tie.Need-enum-told-2
 enum-told-2 c = search needs
 
--- src/lib.rt:145:32
 enum-told-3 : tie.Need-enum-told-3
 enum-told-3 c = search needs
 
--- src/lib.rt:146:32
 enum-told-4 : tie.Need-enum-told-4
 enum-told-4 c = search needs
 
--- src/lib.rt:147:30
 enum-told-5 : tie.Need-enum-told-5
 enum-told-5 c = search needs
 
--- src/lib.rt:148:32
 enum-told-6 : tie.Need-enum-told-6
 enum-told-6 c = search needs
 
--- src/lib.rt:149:32
 enum-told-7 : tie.Need-enum-told-7
 enum-told-7 c = search needs
 
--- src/lib.rt:138:1
 returns : tie.Need-returns
 unfolding roundNumber roundOf
 returns c = (omega arith, rw (c .enum-told .given .1))
 
--- src/lib.rt:138:1
 returns-2 : tie.Need-returns-2
 unfolding roundNumber roundOf
 returns-2 c = (omega arith, rw (c .enum-told2 .given .1))
 
--- src/lib.rt:138:1
 returns-3 : tie.Need-returns-3
 unfolding roundNumber roundOf
 returns-3 c = (omega arith, rw (c .enum-told3 .given .1))
 
--- src/lib.rt:138:1
 returns-4 : tie.Need-returns-4
 unfolding roundNumber roundOf
 returns-4 c = (omega arith, rw (c .enum-told4 .given .1))
 
--- src/lib.rt:138:1
 returns-5 : tie.Need-returns-5
 unfolding roundNumber roundOf
 returns-5 c = (omega arith, rw (c .enum-told5 .given .1))
 
--- src/lib.rt:138:1
 returns-6 : tie.Need-returns-6
 unfolding roundNumber roundOf
 returns-6 c = (omega arith, rw (c .enum-told6 .given .1))
 
--- src/lib.rt:138:1
 returns-7 : tie.Need-returns-7
 unfolding roundNumber roundOf
 returns-7 c = (omega arith, rw (c .enum-told7 .given .1))

@@ -5,54 +5,40 @@ use Rattle.capi.specs.Stages.{stageNumber}
 use borrow.Author.Needs.{needs}
 use Rattle.capi.proofs.stage_number.Statement.{statement}
 use Rattle.capi.proofs.stage_number.Tie as tie
-use Rattle.capi.proofs.stage_number.Reads as reads
-use Rattle.capi.proofs.stage_number.Lts as lts
-use Rattle.capi.proofs.round_number.Reads as round-number-reads
 
--- src/lib.rt:157:21
 enum-known-s : tie.Need-enum-known-s
 enum-known-s c = search needs
 
--- src/lib.rt:157:27
 round-number-requires : tie.Need-round-number-requires
 round-number-requires c κs = search needs
 
--- src/lib.rt:158:24
 enum-known-s-2 : tie.Need-enum-known-s-2
 enum-known-s-2 c = search needs
 
--- src/lib.rt:158:42
 round-number-requires-2 : tie.Need-round-number-requires-2
 round-number-requires-2 c κs = search needs
 
--- src/lib.rt:158:30
 add-result : tie.Need-add-result
 add-result c = search needs
 
--- src/lib.rt:159:28
 enum-told : tie.Need-enum-told
 enum-told c = search needs
 
--- src/lib.rt:160:27
 enum-told-2 : tie.Need-enum-told-2
 enum-told-2 c = search needs
 
--- src/lib.rt:153:1
 returns : tie.Need-returns
 unfolding stageOf stageNumber
 returns c = rw (c .before .before .s .given .1) (c .round-number .ensures .1)
 
--- src/lib.rt:153:1
 returns-2 : tie.Need-returns-2
 unfolding stageOf stageNumber
 returns-2 c = rw (c .before .before .s2 .given .1, c .round-number2 .ensures .1)
 
--- src/lib.rt:153:1
 returns-3 : tie.Need-returns-3
 unfolding stageOf stageNumber
 returns-3 c = rw (c .enum-told .given .1)
 
--- src/lib.rt:153:1
 returns-4 : tie.Need-returns-4
 unfolding stageOf stageNumber
 returns-4 c = rw (c .enum-told2 .given .1)
