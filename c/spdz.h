@@ -23,19 +23,19 @@ struct spdz_refusal {
 
 /* The answer of an accepted call is SPDZ_PLACES numbers, of which the first is its kind; a longer list stays as it was beyond them.
  *
- *   of a party's entry                       [0]            [1]     [2]    [3]    [4]
- *   the next position                        SPDZ_NEXT      0       gate   stage  held
- *   an output, and the next position         SPDZ_OUTPUT    output  gate   stage  held
- *   the run is aborted                       SPDZ_ABORT     0       gate   stage  held
+ *   of a party's entry                       [0]               [1]     [2]    [3]    [4]
+ *   the next position                        SPDZ_NEXT         0       gate   stage  held
+ *   an output, and the next position         SPDZ_OUTPUT       output  gate   stage  held
+ *   the run is aborted                       SPDZ_ABORT        0       gate   stage  held
  *
  *   of the joint run
- *   the run is finished                      SPDZ_DONE      rounds  0      0      0
- *   the run is aborted at a gate             SPDZ_STOPPED   rounds  gate   0      0
+ *   the run is finished                      SPDZ_DONE         rounds  0      0      0
+ *   the run is aborted at a gate             SPDZ_ABORTED_RUN  rounds  gate   0      0
  */
 #define SPDZ_PLACES 5
 
 enum { SPDZ_NEXT = 1, SPDZ_OUTPUT = 2, SPDZ_ABORT = 3 };
-enum { SPDZ_DONE = 1, SPDZ_STOPPED = 2 };
+enum { SPDZ_DONE = 1, SPDZ_ABORTED_RUN = 2 };
 
 /* Stages. A number above SPDZ_ABORTED names none: the position cannot occur, and question 13 refuses it in its turn. */
 enum {

@@ -47,7 +47,7 @@ const ABORTED: u64 = 3;
 
 const DONE: u64 = 1;
 
-const STOPPED: u64 = 2;
+const ABORTED_RUN: u64 = 2;
 
 // The rounds' numbers. A stage that sends has its round's; one that receives has it after those.
 const INPUT: u32 = 0;
@@ -225,7 +225,7 @@ fn put_joint(answer: &mut [u64], a: JointAnswer)
             put(answer, DONE, rounds as u64, 0, 0, 0);
         }
         JointAnswer::Aborted { gate, rounds } => {
-            put(answer, STOPPED, rounds as u64, gate as u64, 0, 0);
+            put(answer, ABORTED_RUN, rounds as u64, gate as u64, 0, 0);
         }
     }
 }
