@@ -152,7 +152,7 @@ impl Report {
         let text = format!(
             "# Benchmarks\n\n\
              Written by `bench/run`; do not edit.\n\n\
-             The proved code, called through its C entry points (`crates/capi`), beside the Rust implementation (`reference/`), in one program.\n\n\
+             The proved code, called through its C entry points (`crates/capi`; the field product through `crates/scaling`), beside the Rust implementation (`reference/`), in one program.\n\n\
              - Date: {}\n- Processor: {}\n- Rust: {}, opt-level 3, one codegen unit\n- Rattle: {}, whose compiler builds the archive with LLVM at -O3\n\n\
              Repeat: `bench/run`. Compare answers only, in seconds: `bench/run --smoke`.\n\n\
              ## What is measured\n\n\
