@@ -1,15 +1,15 @@
 -- What acceptance gives: everything that a step asks.
 -- Assumes nothing.
 use Prim.Native.Nat.{ℕ, _<_, _≤_}
-use mathlib.Core.Path.{_≡_, refl, sym, _∙_}
+use mathlib.Core.Path.{_≡_, refl}
 use mathlib.Core.Bool.{Bool, true, false, not, _||_}
 use mathlib.Core.List.{List}
 use native.Mathlib.Omega.{arith}
 use lib.ListN.{length}
-use lib.Dec.{ltb, leb, eqb}
+use lib.Dec.{ltb, leb}
 use borrow.Author.Tests.{ltb-true, leb-true, eqb-true}
 use Rattle.field.specs.Prime.{p}
-use Rattle.circuit.specs.Verdict.{Accepted, ask, _then_, elements}
+use Rattle.circuit.specs.Verdict.{Accepted, _then_, elements}
 use Rattle.circuit.specs.Gate.{gate, gates}
 use Rattle.circuit.specs.Kind.{hasValue}
 use Rattle.circuit.specs.Count.{prepSize, capacity, inputCount, unchecked}

@@ -1,22 +1,20 @@
 -- Which calls pass their questions: where a scratch holds what a round asks, and the lists lent fit, a party is not refused.
 -- Assumes nothing.
 use Prim.Native.Nat.{ℕ, _*_, _<_, _≤_}
-use mathlib.Core.Path.{_≡_, refl, sym, ap, _∙_}
-use mathlib.Core.Bool.{Bool, true, false, cond, not, _&&_, _||_}
+use mathlib.Core.Path.{_≡_, refl}
+use mathlib.Core.Bool.{Bool, true, false, cond, not, _||_}
 use mathlib.Core.List.{List}
-use native.Mathlib.Omega.{arith}
 use lib.ListN.{length, getD}
-use lib.Dec.{ltb, leb, eqb}
+use lib.Dec.{ltb, eqb}
 use borrow.Author.Tests.{lt-ltb, le-leb, eq-eqb}
-use Rattle.circuit.specs.Verdict.{Verdict, Accepted, ask, _then_, each, elements}
+use Rattle.circuit.specs.Verdict.{Accepted, ask, each, elements}
 use Rattle.circuit.specs.Gate.{gate, gates}
-use Rattle.circuit.specs.Kind.{hasValue}
 use Rattle.circuit.specs.Count.{prepSize, inputCount, unchecked}
 use Rattle.circuit.specs.Round.{Round, isCommit, isReveal, rounds, among, words, openedIn, coefficientsIn}
 use Rattle.circuit.specs.Accept.{askCircuit}
 use Rattle.circuit.proofs.Verdicts.{ask-yes, then-both, each-all, elements-all}
 use Rattle.steps.specs.Scratch.{Slot, Share, Mac, Value, ValueMac, layout, scratchSize, read}
-use Rattle.steps.specs.Position.{Position, Stage, Send, Receive, stageOccurs, mayHold, occurs, whenSending, whenReceiving}
+use Rattle.steps.specs.Position.{Stage, Send, Receive, stageOccurs, mayHold, occurs, whenSending, whenReceiving}
 use Rattle.steps.specs.Party.{Party}
 use Rattle.steps.specs.Send.{mark}
 use Rattle.steps.specs.Code.{AllBelow, WorkedBelow}

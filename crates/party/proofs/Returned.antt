@@ -9,7 +9,7 @@ use lib.Dec.{ltb, eqb}
 use borrow.Author.Tests.{ltb-true, lt-ltb, eq-eqb}
 use Rattle.field.specs.Prime.{p, prime}
 use Rattle.field.specs.Prime.Laws.{sub-lt}
-use Rattle.circuit.specs.Verdict.{Verdict, Accepted, Refused, _then_}
+use Rattle.circuit.specs.Verdict.{Verdict, Accepted, Refused}
 use Rattle.circuit.specs.Gate.{gates}
 use Rattle.circuit.specs.Round.{Round, isCommit, rounds, among}
 use Rattle.circuit.proofs.Tests.{by-cases, both-right}

@@ -3,7 +3,7 @@
 use Prim.Native.Nat.{ℕ, zero, suc, _+_, _<_, _≤_}
 use mathlib.Core.Path.{_≡_, refl, ap, ap₂, _∙_}
 use mathlib.Core.Bool.{Bool, true, false, cond}
-use mathlib.Core.List.{List, [], _∷_, _++_}
+use mathlib.Core.List.{List, _++_}
 use native.Mathlib.Omega.{arith}
 use lib.ListN.{length, getD, List·getD-append}
 use lib.Seq.{set-append-left}
@@ -12,17 +12,16 @@ use Rattle.field.specs.Field.{Field}
 use Rattle.field.proofs.Sums.{sum-ext}
 use Rattle.circuit.specs.Gate.{Gate, In, Add, Sub, Plus, Times, Mul, Out, gate, gates, first, second}
 use Rattle.circuit.specs.Kind.{isLinear}
-use Rattle.circuit.specs.Count.{unchecked}
-use Rattle.circuit.specs.Round.{Round, Input, Multiply, CommitOpened, RevealOpened, OpenOutput, CommitOutput, RevealOutput, isCommit, openedIn}
+use Rattle.circuit.specs.Round.{Round, Input, Multiply, CommitOpened, RevealOpened, OpenOutput, CommitOutput, RevealOutput, isCommit}
 use Rattle.circuit.specs.Valid.{Names, Valid}
 use Rattle.circuit.proofs.Counts.{unchecked-fits}
 use Rattle.circuit.proofs.Rounds.{gate-at-round}
-use Rattle.steps.specs.Part.{Part, plus, minus, scale, shift}
+use Rattle.steps.specs.Part.{Part}
 use Rattle.steps.specs.Scratch.{Layout, layout, Slot, Share, Mac, Value, ValueMac, offset, scratchSize, read, write, wire, putWire, putOpened}
 use Rattle.steps.specs.Party.{Party, key}
 use Rattle.steps.specs.Send.{maskedFirst, maskedSecond, checkShare, sent, holds}
 use Rattle.steps.specs.Receive.{afterInput, afterMultiply, afterOpenOutput, afterLinear, settle, passes, onward, received}
-use Rattle.steps.specs.Code.{Within, HeldBelow, WorkedBelow}
+use Rattle.steps.specs.Code.{Within, WorkedBelow}
 use Rattle.steps.proofs.Slots.{slot-fits, length-write, length-put, length-opened}
 use Rattle.steps.proofs.Writing.{OpenedTo}
 use Rattle.steps.proofs.Keeping.{Stood, shown-held, entries}

@@ -9,7 +9,7 @@ use lib.ListN.{length, getD, take, drop, take-append-drop}
 use lib.Seq.{length-take-le, drop-drop}
 use lib.Dec.{ltb}
 use borrow.Author.Tests.{ltb-true}
-use Rattle.text.specs.Text.{isSpace, isDigit, digit, whole, more, reads, numbersIn, atStart, readInto, stopped, Begun, Ending, Whole, Unlike, TooLarge, TooMany, numberEnd}
+use Rattle.text.specs.Text.{isSpace, isDigit, digit, whole, more, reads, numbersIn, atStart, readInto, stopped, Begun, Ending, Unlike, TooLarge, TooMany, numberEnd}
 use Rattle.text.specs.Code.{told, numbersTold}
 use Rattle.text.specs.declared.Numbers.the-variants as N
 use Rattle.text.proofs.Laws.{denied, granted, reads-ends, reads-space, reads-unlike, reads-many, reads-large, reads-digit}

@@ -1,9 +1,9 @@
 -- Parties apart are the joint run: round by round no call is refused, and every party stands where the joint run stands, with its own check
 -- share, its own band and its own words, whatever the preprocessing.
 -- Assumes nothing.
-use Prim.Native.Nat.{ℕ, zero, suc, _+_, _*_, _<_, _≤_}
+use Prim.Native.Nat.{ℕ, zero, suc, _+_, _*_, _<_}
 use mathlib.Core.Path.{_≡_, refl, sym, ap, ap₂, subst, _∙_}
-use mathlib.Core.Bool.{Bool, true, false, cond, _&&_}
+use mathlib.Core.Bool.{true, false}
 use mathlib.Core.List.{List, [], _∷_, _++_, append-assoc, append-nil}
 use native.Mathlib.Omega.{arith}
 use lib.ListN.{length, getD, take, drop, length-append, length-drop, take-append-drop}
@@ -15,21 +15,21 @@ use Rattle.field.specs.Field.{Field}
 use Rattle.field.specs.Prime.{prime}
 use Rattle.field.proofs.PrimeField.{primeField}
 use Rattle.circuit.specs.Verdict.{Accepted, ask, elements}
-use Rattle.circuit.specs.Gate.{gate, gates}
+use Rattle.circuit.specs.Gate.{gate}
 use Rattle.circuit.specs.Count.{unchecked}
-use Rattle.circuit.specs.Round.{Round, Input, Multiply, CommitOpened, RevealOpened, OpenOutput, CommitOutput, RevealOutput, isCommit, isReveal, words}
+use Rattle.circuit.specs.Round.{Round, Input, Multiply, CommitOpened, RevealOpened, OpenOutput, CommitOutput, RevealOutput, isCommit, words}
 use Rattle.circuit.specs.Round.{openedIn, coefficientsIn, coefficientCount}
 use Rattle.circuit.specs.Valid.{Valid}
 use Rattle.circuit.proofs.Verdicts.{ask-true, then-left, then-right, elements-below}
 use Rattle.circuit.proofs.Counts.{unchecked-fits}
 use Rattle.steps.specs.Scratch.{layout, scratchSize, Value, read}
-use Rattle.steps.specs.Position.{Position, Point, Stage, Send, Receive, Finished, Aborted, holding, aborted, start, follow, keep, mayHold, whenSending, whenReceiving}
+use Rattle.steps.specs.Position.{Position, Stage, Send, Receive, Finished, Aborted, holding, aborted, start, follow, keep, mayHold, whenReceiving}
 use Rattle.steps.specs.Party.{Party}
 use Rattle.steps.specs.Send.{mark, sent, holds}
 use Rattle.steps.specs.Receive.{passes, next, received}
 use Rattle.steps.specs.Code.{AllBelow, WorkedBelow}
 use Rattle.party.specs.Ask.{askLent, askSend, askReceive}
-use Rattle.party.specs.Entry.{Answer, Next, Output, Abort, answer, releases, openAnswer, nextPosition, outcome}
+use Rattle.party.specs.Entry.{Answer, Next, answer, releases, openAnswer, nextPosition, outcome}
 use Rattle.joint.specs.Joint.{Joint, joined, band, party}
 use Rattle.joint.specs.Run.{State, Run, begun, takes, said, step, released, still, run}
 use Rattle.steps.proofs.InOrder.{differ}

@@ -2,24 +2,20 @@
 -- Assumes nothing.
 use Prim.Native.Nat.{ℕ, zero, suc, _*_, _<_}
 use mathlib.Core.Path.{_≡_, refl, sym, ap, ap₂, subst, _∙_}
-use mathlib.Core.Bool.{Bool, true, false}
-use mathlib.Core.List.{List, [], _++_, append-nil}
+use mathlib.Core.Bool.{Bool, true}
+use mathlib.Core.List.{List, _++_, append-nil}
 use native.Mathlib.Omega.{arith}
 use lib.ListN.{length, take, drop, drop-of-length-le}
 use lib.Seq.{drop-append-seam}
-use lib.Dec.{eqb}
 use borrow.Author.Tests.{eq-eqb}
 use Rattle.field.specs.Ops.{Ops}
 use Rattle.field.specs.Field.{Field}
 use Rattle.field.specs.Prime.{prime}
 use Rattle.field.proofs.PrimeField.{primeField}
 use Rattle.circuit.specs.Verdict.{Accepted}
-use Rattle.circuit.specs.Gate.{gates}
-use Rattle.circuit.specs.Count.{prepSize, inputCount, inCount}
-use Rattle.circuit.specs.Round.{Round}
+use Rattle.circuit.specs.Count.{prepSize, inputCount}
 use Rattle.circuit.proofs.Verdicts.{ask-yes, then-right, then-both, elements-below, elements-all}
-use Rattle.steps.specs.Scratch.{layout, scratchSize}
-use Rattle.steps.specs.Position.{Position, Point, Finished, Send, finished, holding, mayHold}
+use Rattle.steps.specs.Position.{Point, finished, holding, mayHold}
 use Rattle.steps.specs.Party.{Party}
 use Rattle.steps.specs.Code.{AllBelow}
 use Rattle.party.specs.Ask.{askLent}
@@ -37,7 +33,7 @@ use Rattle.theorems.specs.Premises.{Accepts, InputsPass, Honest, after}
 use Rattle.theorems.specs.Accuracy.{Accurate}
 use Rattle.theorems.specs.Matching.{plainly, rule}
 use Rattle.theorems.specs.Secrecy.{Secret}
-use Rattle.theorems.specs.Apart.{Apart, partyIn, Local, outputsIn, opens, sends, receives, heardIn, round, apart, spoken, jointly, bands, Meets, Together}
+use Rattle.theorems.specs.Apart.{Apart, partyIn, Local, opens, sends, receives, heardIn, round, apart, spoken, jointly, bands, Meets}
 use Rattle.theorems.specs.ApartDemands.{Scored, GoodApart, Scores, matched, ComparedApart, AlikeApart, SecrecyApart}
 use Rattle.theorems.proofs.Runs.{first, last-first}
 use Rattle.theorems.proofs.Abort.{whole-first}

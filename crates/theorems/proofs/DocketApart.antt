@@ -5,7 +5,7 @@ use Prim.Native.Nat.{ℕ, zero, suc, _<_, _≤_}
 use mathlib.Core.Path.{_≡_, refl, sym, ap, subst, _∙_}
 use mathlib.Core.List.{List, [], _∷_, _++_}
 use native.Mathlib.Omega.{arith}
-use lib.ListN.{length, take, drop, replicate}
+use lib.ListN.{take, drop, replicate}
 use Rattle.field.specs.Ops.{Ops}
 use Rattle.field.specs.Prime.{prime, modular}
 use Rattle.field.specs.Prime.Laws.{prime-is-modular}
@@ -18,7 +18,7 @@ use Rattle.joint.specs.Run.{State, Run, begun, takes, run}
 use Rattle.joint.specs.Docket.{circuit, prep₀, prep₁, docket}
 use Rattle.joint.proofs.Computing.{computing}
 use Rattle.theorems.specs.Premises.{after}
-use Rattle.theorems.specs.Apart.{Apart, partyIn, outputsIn, apart, spoken, jointly, bands, Meets, Together}
+use Rattle.theorems.specs.Apart.{Apart, partyIn, outputsIn, apart, spoken, jointly, bands, Meets}
 use Rattle.theorems.proofs.Runs.{Idle, after-idle}
 use Rattle.theorems.proofs.Apart.{together-prime}
 

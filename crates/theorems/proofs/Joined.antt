@@ -1,7 +1,7 @@
 -- The joint run of parties' own lists gives each party its own lists back.
 -- Assumes nothing.
 use Prim.Native.Nat.{ℕ, zero, suc, _+_, _*_, _<_, _≤_}
-use mathlib.Core.Path.{_≡_, refl, sym, ap, ap₂, _∙_}
+use mathlib.Core.Path.{_≡_, refl, _∙_}
 use mathlib.Core.List.{List, _++_}
 use native.Mathlib.Decide.{ℕ-discrete}
 use native.Mathlib.Omega.{arith}
@@ -10,15 +10,14 @@ use lib.Seq.{length-take-le, take-all, take-append-le, drop-append-le, drop-at}
 use Rattle.field.specs.Ops.{Ops}
 use Rattle.field.specs.Field.{Field}
 use Rattle.circuit.specs.Verdict.{Accepted}
-use Rattle.circuit.specs.Count.{prepSize, inputCount, inCount}
+use Rattle.circuit.specs.Count.{prepSize, inputCount}
 use Rattle.circuit.specs.Accept.{askCircuit}
 use Rattle.circuit.specs.Valid.{Valid}
 use Rattle.steps.specs.Scratch.{layout, scratchSize}
 use Rattle.steps.specs.Party.{Party}
-use Rattle.steps.specs.Code.{AllBelow}
 use Rattle.party.specs.Ask.{askParties, askLent}
 use Rattle.party.proofs.Accepted.{Lends, lends}
-use Rattle.joint.specs.Joint.{Joint, joined, band, inputsAt, party}
+use Rattle.joint.specs.Joint.{joined, band, inputsAt, party}
 use Rattle.joint.proofs.Inputs.{starts-suc, starts-mono}
 use Rattle.joint.proofs.Words.{length-joined}
 use Rattle.joint.proofs.Bands.{band-joined}

@@ -1,4 +1,4 @@
--- The proofs of what is claimed of the joint run.
+-- The proofs of what is claimed of the joint run and of parties apart.
 pub mod Course
 pub mod Given
 pub mod Values

@@ -1,16 +1,16 @@
 -- What a joint run keeps on any preprocessing, good or bad: every scratch holds what the next round asks, the check shares held are elements,
 -- the shown value is the same at all parties, and the coefficients used are those of the rounds made.
 -- Assumes nothing.
-use Prim.Native.Nat.{ℕ, zero, suc, _+_, _-_, _*_, _<_, _≤_}
+use Prim.Native.Nat.{ℕ, suc, _+_, _-_, _*_, _<_, _≤_}
 use mathlib.Core.Path.{_≡_, refl, sym, ap, subst, _∙_}
 use mathlib.Core.Bool.{Bool, true, false, cond}
-use mathlib.Core.List.{List, []}
+use mathlib.Core.List.{List}
 use native.Mathlib.Omega.{arith}
-use lib.ListN.{length, take, drop}
+use lib.ListN.{length}
 use Rattle.field.specs.Ops.{Ops}
 use Rattle.field.specs.Field.{Field}
 use Rattle.field.proofs.Ring.{sub-lt}
-use Rattle.circuit.specs.Gate.{gate, gates, first}
+use Rattle.circuit.specs.Gate.{gate, gates}
 use Rattle.circuit.specs.Count.{unchecked}
 use Rattle.circuit.specs.Round.{Round, Input, Multiply, CommitOpened, RevealOpened, OpenOutput, CommitOutput, RevealOutput, isCommit, openedIn, coefficientsIn, rounds}
 use Rattle.circuit.specs.Round.{overRun}
@@ -19,14 +19,14 @@ use Rattle.circuit.proofs.Tests.{by-cases}
 use Rattle.circuit.proofs.Counts.{unchecked-fits}
 use Rattle.steps.specs.Scratch.{layout, scratchSize, Value, read}
 use Rattle.steps.specs.Position.{Point, Stage, Send, Receive, Finished, Aborted, finished, aborted, reach, resume, start, follow, keep, mayHold}
-use Rattle.steps.specs.Party.{Party, key}
+use Rattle.steps.specs.Party.{key}
 use Rattle.steps.specs.Send.{checkShare, holds}
-use Rattle.steps.specs.Receive.{heardSum, afterOpenOutput, passes, next, received}
-use Rattle.joint.specs.Joint.{Joint, band, party}
+use Rattle.steps.specs.Receive.{afterOpenOutput, passes, next, received}
+use Rattle.joint.specs.Joint.{Joint, party}
 use Rattle.joint.specs.Run.{State, begun, takes, said, step}
 use Rattle.steps.proofs.InOrder.{differ, begins}
 use Rattle.steps.proofs.Following.{followed, next-followed, next-aborted, next-holds, start-is}
-use Rattle.steps.proofs.Points.{Reached, reached, Entered, ended, begun as beginning, entered, Fits, FitsStage, spentStage, spent, sending, goes-start, fits-follow, spent-follow}
+use Rattle.steps.proofs.Points.{Reached, reached, Entered, ended, begun as beginning, entered, Fits, FitsStage, spentStage, spent, goes-start, fits-follow, spent-follow}
 use Rattle.steps.proofs.Slots.{value-opened-same}
 use Rattle.steps.proofs.Keeping.{Stands, Stood, received-stands, start-stands}
 use Rattle.joint.proofs.Words.{length-band}

@@ -17,7 +17,7 @@ use Rattle.steps.specs.Send.{sent, holds}
 use Rattle.party.specs.Ask.{askLent}
 use Rattle.party.specs.Entry.{Answer, Refusal, Next, Output, Abort, openAnswer, sendAnswer, sendOut, receiveAnswer, receiveScratch}
 use Rattle.joint.specs.Joint.{Joint, joined}
-use Rattle.joint.specs.Run.{Run, begun, takes, released, run}
+use Rattle.joint.specs.Run.{begun, takes, released, run}
 use Rattle.theorems.specs.Premises.{after}
 
 -- what the parties bring: the lists of party i; and in round k the coefficients that it is handed and the list that it lends for its words

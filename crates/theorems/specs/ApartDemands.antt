@@ -15,7 +15,7 @@ use Rattle.joint.specs.Good.{Good}
 use Rattle.joint.specs.Formula.{roundFormula}
 use Rattle.theorems.specs.Matching.{rule}
 use Rattle.theorems.specs.Secrecy.{Compared}
-use Rattle.theorems.specs.Apart.{Apart, partyIn, outputsIn, apart, heardIn, spoken, jointly, Meets}
+use Rattle.theorems.specs.Apart.{Apart, partyIn, outputsIn, apart, heardIn, jointly, Meets}
 
 -- "each score is the circuit's value on the plain inputs": after the rounds of the formula every party is finished and has released the scores
 pub record Scored (O : Ops) (D : Apart) (coefficients : List ℕ) : Type 0 where

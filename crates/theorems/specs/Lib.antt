@@ -1,4 +1,4 @@
--- What is claimed of the joint run: accuracy, rounds, aborts, and secrecy.
+-- What is claimed of the joint run: accuracy, rounds, aborts, and secrecy; and of parties apart, that they are the joint run.
 pub mod Premises
 pub mod Accuracy
 pub mod Abort

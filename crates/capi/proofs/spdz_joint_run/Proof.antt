@@ -1,6 +1,6 @@
 -- `capi::spdz_joint_run` meets its contract: an answer that has room is the entry's, and where there is none the questions alone are asked.
 -- Assumes nothing.
-use mathlib.Core.Path.{sym, ap, _∙_}
+use mathlib.Core.Path.{ap, _∙_}
 use Prim.Native.Nat.{_≤_}
 use native.Mathlib.Omega.{arith}
 use lib.ListN.{length}
