@@ -2,3 +2,4 @@
 pub mod Names
 pub mod Order
 pub mod Calls
+pub mod Lines

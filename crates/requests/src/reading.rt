@@ -19,6 +19,7 @@ use text::Numbers;
 ghost use Prim.Native.Nat.{_≤_};
 ghost use mathlib.Core.Path.{_≡_};
 ghost use Rattle.requests.specs.Order.{placed};
+ghost use Rattle.requests.specs.Lines.{oneIn, positionIn};
 
 const HASH: u8 = 35;
 
@@ -69,7 +70,9 @@ pub fn complain_numbers(number: u64, read: Numbers) {
 }
 
 // The number that is all of a text.
-fn one_number(rest: &[u8]) -> One {
+fn one_number(rest: &[u8]) -> One
+    ensures { λ r. ⌜ r ≡ oneIn (now (rest .entry)) ⌝ }
+{
     let mut list = [0u32; 1];
     let read = text::read_numbers(rest, &mut list);
     match read {
@@ -79,7 +82,9 @@ fn one_number(rest: &[u8]) -> One {
             }
             One::Fault(Numbers::TooMany)
         }
-        _ => One::Fault(read),
+        Numbers::Unlike => One::Fault(read),
+        Numbers::TooLarge => One::Fault(read),
+        Numbers::TooMany => One::Fault(read),
     }
 }
 
@@ -102,7 +107,9 @@ fn take_number(number: u64, rest: &[u8], request: Request) -> Request {
 }
 
 // The position that is all of a text.
-fn position_in(rest: &[u8]) -> Placed {
+fn position_in(rest: &[u8]) -> Placed
+    ensures { λ r. ⌜ r ≡ positionIn (now (rest .entry)) ⌝ }
+{
     let first = text::word_from(rest, 0);
     let first_start = first.start;
     let first_end = first.end;

@@ -9,6 +9,7 @@ ghost use mathlib.Core.Path.{_≡_};
 ghost use Rattle.io.specs.Counts.{Counts};
 ghost use Rattle.requests.specs.declared.naming.Field.the-variants.{Dropped};
 ghost use Rattle.requests.specs.Order as O;
+ghost use Rattle.requests.specs.Lines as W;
 
 // The most numbers of a list.
 pub const ROOM: usize = 16384;
@@ -162,25 +163,73 @@ pub fn dropped(request: Request) -> Request
     wanting(request, Field::Dropped)
 }
 
-pub fn is_complete(field: Field) -> bool {
+pub fn is_complete(field: Field) -> bool
+    ensures { λ r. ⌜ r ≡ W.ended (W.kind field) ⌝ }
+{
     match field {
+        Field::Start => false,
+        Field::Dropped => false,
+        Field::Parties => false,
+        Field::Party => false,
+        Field::Circuit => false,
+        Field::Prep => false,
+        Field::Preps => false,
+        Field::Inputs => false,
+        Field::Scratch => false,
+        Field::Position => false,
+        Field::Coefficients => false,
+        Field::Heard => false,
+        Field::Out => false,
+        Field::Transcript => false,
+        Field::Outputs => false,
         Field::Complete => true,
-        _ => false,
     }
 }
 
-pub fn is_dropped(field: Field) -> bool {
+pub fn is_dropped(field: Field) -> bool
+    ensures { λ r. ⌜ r ≡ W.lost (W.kind field) ⌝ }
+{
     match field {
+        Field::Start => false,
         Field::Dropped => true,
-        _ => false,
+        Field::Parties => false,
+        Field::Party => false,
+        Field::Circuit => false,
+        Field::Prep => false,
+        Field::Preps => false,
+        Field::Inputs => false,
+        Field::Scratch => false,
+        Field::Position => false,
+        Field::Coefficients => false,
+        Field::Heard => false,
+        Field::Out => false,
+        Field::Transcript => false,
+        Field::Outputs => false,
+        Field::Complete => false,
     }
 }
 
 // Whether a request has begun and is not yet complete.
-pub fn is_begun(field: Field) -> bool {
+pub fn is_begun(field: Field) -> bool
+    ensures { λ r. ⌜ r ≡ W.inside (W.kind field) ⌝ }
+{
     match field {
-        Field::Start | Field::Dropped | Field::Complete => false,
-        _ => true,
+        Field::Start => false,
+        Field::Dropped => false,
+        Field::Parties => true,
+        Field::Party => true,
+        Field::Circuit => true,
+        Field::Prep => true,
+        Field::Preps => true,
+        Field::Inputs => true,
+        Field::Scratch => true,
+        Field::Position => true,
+        Field::Coefficients => true,
+        Field::Heard => true,
+        Field::Out => true,
+        Field::Transcript => true,
+        Field::Outputs => true,
+        Field::Complete => false,
     }
 }
 
