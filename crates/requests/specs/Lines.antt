@@ -6,16 +6,21 @@ use mathlib.Core.List.{List, [], _∷_}
 use lib.ListN.{length, getD, take, drop}
 use lib.Dec.{eqb, ltb}
 use Rattle.text.specs.Text as X
-use Rattle.text.specs.Text.{run, numbersIn}
+use Rattle.text.specs.Text.{run, alike, numbersIn}
 use Rattle.text.specs.declared.Numbers.the-variants.{Unlike, TooLarge, TooMany}
 use Rattle.requests.specs.declared.reading.One.{One}
 use Rattle.requests.specs.declared.reading.One.the-variants.{Number, Fault}
 use Rattle.requests.specs.declared.reading.Placed.{Placed}
 use Rattle.requests.specs.declared.reading.Placed.the-variants as L
+use Rattle.requests.specs.declared.reading.Step.{Step}
+use Rattle.requests.specs.declared.reading.Step.the-variants as S
+use Rattle.requests.specs.declared.request.Lent.{Lent}
+use Rattle.requests.specs.declared.request.Request.{Request}
+use Rattle.requests.specs.declared.naming.Entry.{Entry}
 use Rattle.requests.specs.declared.naming.Field.{Field}
 use Rattle.requests.specs.declared.naming.Field.the-variants as F
-use Rattle.requests.specs.Names.{stageNamed}
-use Rattle.requests.specs.Order.{placed}
+use Rattle.requests.specs.Names.{fieldName, entryNamed, stageNamed}
+use Rattle.requests.specs.Order.{isEntry, started, wanting, movedOn, standing, placed}
 
 -- "`parties` and `party` are followed by one number."
 unfoldable pub oneOf : X.Ending → List ℕ → One
@@ -98,3 +103,79 @@ inside Ended = false
 inside ANumber = true
 inside APosition = true
 inside AList = true
+
+-- what is lent, with its two numbers, or with the lengths of its lists
+unfoldable pub numbers : Lent → ℕ → ℕ → Lent
+numbers l parties me =
+    record {
+      parties = parties;
+      me = me;
+      circuit = l .circuit;
+      prep = l .prep;
+      inputs = l .inputs;
+      scratch = l .scratch;
+      words = l .words;
+      out = l .out;
+      outputs = l .outputs;
+    }
+
+unfoldable pub lengths : Lent → ℕ → ℕ → ℕ → ℕ → ℕ → ℕ → ℕ → Lent
+lengths l circuit prep inputs scratch words out outputs =
+    record {
+      parties = l .parties;
+      me = l .me;
+      circuit = circuit;
+      prep = prep;
+      inputs = inputs;
+      scratch = scratch;
+      words = words;
+      out = out;
+      outputs = outputs;
+    }
+
+-- the number that was wanted: that of the parties, or else of this party
+unfoldable pub lentNumber : Lent → Field → ℕ → Lent
+lentNumber l F.Start n = numbers l (l .parties) n
+lentNumber l F.Dropped n = numbers l (l .parties) n
+lentNumber l F.Parties n = numbers l n (l .me)
+lentNumber l F.Party n = numbers l (l .parties) n
+lentNumber l F.Circuit n = numbers l (l .parties) n
+lentNumber l F.Prep n = numbers l (l .parties) n
+lentNumber l F.Preps n = numbers l (l .parties) n
+lentNumber l F.Inputs n = numbers l (l .parties) n
+lentNumber l F.Scratch n = numbers l (l .parties) n
+lentNumber l F.Position n = numbers l (l .parties) n
+lentNumber l F.Coefficients n = numbers l (l .parties) n
+lentNumber l F.Heard n = numbers l (l .parties) n
+lentNumber l F.Out n = numbers l (l .parties) n
+lentNumber l F.Transcript n = numbers l (l .parties) n
+lentNumber l F.Outputs n = numbers l (l .parties) n
+lentNumber l F.Complete n = numbers l (l .parties) n
+
+-- the length of the list that was wanted: of those named, or else of the outputs
+unfoldable pub lentList : Lent → Field → ℕ → Lent
+lentList l F.Start n = lengths l (l .circuit) (l .prep) (l .inputs) (l .scratch) (l .words) (l .out) n
+lentList l F.Dropped n = lengths l (l .circuit) (l .prep) (l .inputs) (l .scratch) (l .words) (l .out) n
+lentList l F.Parties n = lengths l (l .circuit) (l .prep) (l .inputs) (l .scratch) (l .words) (l .out) n
+lentList l F.Party n = lengths l (l .circuit) (l .prep) (l .inputs) (l .scratch) (l .words) (l .out) n
+lentList l F.Circuit n = lengths l n (l .prep) (l .inputs) (l .scratch) (l .words) (l .out) (l .outputs)
+lentList l F.Prep n = lengths l (l .circuit) n (l .inputs) (l .scratch) (l .words) (l .out) (l .outputs)
+lentList l F.Preps n = lengths l (l .circuit) n (l .inputs) (l .scratch) (l .words) (l .out) (l .outputs)
+lentList l F.Inputs n = lengths l (l .circuit) (l .prep) n (l .scratch) (l .words) (l .out) (l .outputs)
+lentList l F.Scratch n = lengths l (l .circuit) (l .prep) (l .inputs) n (l .words) (l .out) (l .outputs)
+lentList l F.Position n = lengths l (l .circuit) (l .prep) (l .inputs) (l .scratch) (l .words) (l .out) n
+lentList l F.Coefficients n = lengths l (l .circuit) (l .prep) (l .inputs) (l .scratch) n (l .out) (l .outputs)
+lentList l F.Heard n = lengths l (l .circuit) (l .prep) (l .inputs) (l .scratch) n (l .out) (l .outputs)
+lentList l F.Out n = lengths l (l .circuit) (l .prep) (l .inputs) (l .scratch) (l .words) n (l .outputs)
+lentList l F.Transcript n = lengths l (l .circuit) (l .prep) (l .inputs) (l .scratch) (l .words) n (l .outputs)
+lentList l F.Outputs n = lengths l (l .circuit) (l .prep) (l .inputs) (l .scratch) (l .words) (l .out) n
+lentList l F.Complete n = lengths l (l .circuit) (l .prep) (l .inputs) (l .scratch) (l .words) (l .out) n
+
+unfoldable pub lending : Request → Lent → Request
+lending q lent = record { entry = q .entry; wanted = q .wanted; at = q .at; lent = lent }
+
+unfoldable pub withNumber : Request → ℕ → Request
+withNumber q n = lending q (lentNumber (q .lent) (q .wanted) n)
+
+unfoldable pub withLength : Request → ℕ → Request
+withLength q n = lending q (lentList (q .lent) (q .wanted) n)

@@ -234,31 +234,60 @@ pub fn is_begun(field: Field) -> bool
 }
 
 // What is lent, with the length of the list that was wanted.
-fn lent_list(lent: Lent, wanted: Field, n: usize) -> Lent {
+fn lent_list(lent: Lent, wanted: Field, n: usize) -> Lent
+    ensures { λ r. ⌜ r ≡ W.lentList lent wanted n ⌝ }
+{
     let mut next = lent;
     match wanted {
+        Field::Start => next.outputs = n,
+        Field::Dropped => next.outputs = n,
+        Field::Parties => next.outputs = n,
+        Field::Party => next.outputs = n,
         Field::Circuit => next.circuit = n,
-        Field::Prep | Field::Preps => next.prep = n,
+        Field::Prep => next.prep = n,
+        Field::Preps => next.prep = n,
         Field::Inputs => next.inputs = n,
         Field::Scratch => next.scratch = n,
-        Field::Coefficients | Field::Heard => next.words = n,
-        Field::Out | Field::Transcript => next.out = n,
-        _ => next.outputs = n,
+        Field::Position => next.outputs = n,
+        Field::Coefficients => next.words = n,
+        Field::Heard => next.words = n,
+        Field::Out => next.out = n,
+        Field::Transcript => next.out = n,
+        Field::Outputs => next.outputs = n,
+        Field::Complete => next.outputs = n,
     }
     next
 }
 
 // What is lent, with the number that was wanted.
-fn lent_number(lent: Lent, wanted: Field, n: u32) -> Lent {
+fn lent_number(lent: Lent, wanted: Field, n: u32) -> Lent
+    ensures { λ r. ⌜ r ≡ W.lentNumber lent wanted n ⌝ }
+{
     let mut next = lent;
     match wanted {
+        Field::Start => next.me = n,
+        Field::Dropped => next.me = n,
         Field::Parties => next.parties = n,
-        _ => next.me = n,
+        Field::Party => next.me = n,
+        Field::Circuit => next.me = n,
+        Field::Prep => next.me = n,
+        Field::Preps => next.me = n,
+        Field::Inputs => next.me = n,
+        Field::Scratch => next.me = n,
+        Field::Position => next.me = n,
+        Field::Coefficients => next.me = n,
+        Field::Heard => next.me = n,
+        Field::Out => next.me = n,
+        Field::Transcript => next.me = n,
+        Field::Outputs => next.me = n,
+        Field::Complete => next.me = n,
     }
     next
 }
 
-pub fn with_length(request: Request, n: usize) -> Request {
+pub fn with_length(request: Request, n: usize) -> Request
+    ensures { λ r. ⌜ r ≡ W.withLength request n ⌝ }
+{
     let lent = request.lent;
     let wanted = request.wanted;
     let mut next = request;
@@ -266,7 +295,9 @@ pub fn with_length(request: Request, n: usize) -> Request {
     next
 }
 
-pub fn with_number(request: Request, n: u32) -> Request {
+pub fn with_number(request: Request, n: u32) -> Request
+    ensures { λ r. ⌜ r ≡ W.withNumber request n ⌝ }
+{
     let lent = request.lent;
     let wanted = request.wanted;
     let mut next = request;
