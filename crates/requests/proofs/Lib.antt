@@ -2,3 +2,4 @@
 pub mod Names
 pub mod Order
 pub mod Lines
+pub mod Taking

@@ -179,3 +179,61 @@ withNumber q n = lending q (lentNumber (q .lent) (q .wanted) n)
 
 unfoldable pub withLength : Request → ℕ → Request
 withLength q n = lending q (lentList (q .lent) (q .wanted) n)
+
+-- "The request is dropped": nothing is wanted until the next begins.
+unfoldable pub dropped : Request → Request
+dropped q = wanting q F.Dropped
+
+-- a request for which a number was wanted, and one for which a position was
+unfoldable pub withOne : One → Request → Request
+withOne (Number n) q = withNumber q n
+withOne (Fault f) q = dropped q
+
+unfoldable pub takeNumber : List ℕ → Request → Request
+takeNumber rest q = withOne (oneIn rest) q
+
+unfoldable pub withPlace : Placed → Request → Request
+withPlace (L.Position at) q = standing q at
+withPlace L.Fault q = dropped q
+
+unfoldable pub takePosition : List ℕ → Request → Request
+takePosition rest q = withPlace (positionIn rest) q
+
+-- what follows the name of what is wanted; a list is read later, from its place of the line on
+unfoldable pub takeKind : Kind → List ℕ → ℕ → Request → Step
+takeKind Outside rest place q = S.List q place
+takeKind Lost rest place q = S.List q place
+takeKind Ended rest place q = S.List q place
+takeKind ANumber rest place q = S.Goes (movedOn (takeNumber rest q))
+takeKind APosition rest place q = S.Goes (movedOn (takePosition rest q))
+takeKind AList rest place q = S.List q place
+
+unfoldable pub takeWanted : List ℕ → ℕ → Request → Step
+takeWanted rest place q = takeKind (kind (q .wanted)) rest place q
+
+-- "Reading goes on with the next line that begins with an entry's name": others are skipped in a dropped request, and "a line that begins with another word" drops it.
+unfoldable pub takeField : List ℕ → List ℕ → ℕ → Request → Step
+takeField name rest place q =
+    cond (lost (kind (q .wanted))) (S.Goes q)
+    (cond (alike name (fieldName (q .wanted))) (takeWanted rest place q) (S.Goes (dropped q)))
+
+-- "Nothing may follow the name of an entry": bare says that nothing does.
+unfoldable pub begin : Entry → Bool → Request → Request
+begin entry bare q = cond bare (started entry F.Parties) (dropped q)
+
+-- whether there is no word at or after a place
+unfoldable pub empty : List ℕ → ℕ → Bool
+empty line from = eqb (startFrom line from) (endFrom line from)
+
+-- a line with a word, by the entry that its first word names
+unfoldable pub takeNamed : Entry → List ℕ → Request → Step
+takeNamed entry line q =
+    cond (isEntry entry) (S.Goes (begin entry (empty line (endFrom line 0)) q))
+    (takeField (wordFrom line 0) (drop (endFrom line 0) line) (endFrom line 0) q)
+
+-- "A line with no word, or whose first byte is `#`, is skipped, within a request too."
+unfoldable pub takeLine : List ℕ → Request → Step
+takeLine line q =
+    cond (empty line 0) (S.Goes q)
+    (cond (eqb (getD line 0 0) 35) (S.Goes q)
+    (takeNamed (entryNamed (wordFrom line 0)) line q))

@@ -19,7 +19,8 @@ use text::Numbers;
 ghost use Prim.Native.Nat.{_≤_};
 ghost use mathlib.Core.Path.{_≡_};
 ghost use Rattle.requests.specs.Order.{placed};
-ghost use Rattle.requests.specs.Lines.{oneIn, positionIn};
+ghost use Rattle.requests.specs.Lines as W;
+ghost use Rattle.requests.specs.Lines.{oneIn, positionIn, takeNumber, takePosition, takeWanted, takeField, takeLine};
 
 const HASH: u8 = 35;
 
@@ -96,7 +97,9 @@ fn complain_one(number: u64, read: Numbers) {
 }
 
 // A request for which a number was wanted: that of the parties, or of this party.
-fn take_number(number: u64, rest: &[u8], request: Request) -> Request {
+fn take_number(number: u64, rest: &[u8], request: Request) -> Request
+    ensures { λ r. ⌜ r ≡ takeNumber (now (rest .entry)) request ⌝ }
+{
     match one_number(rest) {
         One::Number(n) => with_number(request, n),
         One::Fault(read) => {
@@ -149,7 +152,9 @@ fn position_of(gate: One, stage: Named, held: One) -> Placed
     }
 }
 
-fn take_position(number: u64, rest: &[u8], request: Request) -> Request {
+fn take_position(number: u64, rest: &[u8], request: Request) -> Request
+    ensures { λ r. ⌜ r ≡ takePosition (now (rest .entry)) request ⌝ }
+{
     match position_in(rest) {
         Placed::Position(at) => with_position(request, at),
         Placed::Fault => {
@@ -160,17 +165,34 @@ fn take_position(number: u64, rest: &[u8], request: Request) -> Request {
 }
 
 // The line of what is wanted; its list begins at a place.
-fn take_wanted(number: u64, rest: &[u8], start: usize, request: Request) -> Step {
+fn take_wanted(number: u64, rest: &[u8], start: usize, request: Request) -> Step
+    ensures { λ r. ⌜ r ≡ takeWanted (now (rest .entry)) start request ⌝ }
+{
     let wanted = request.wanted;
     match wanted {
-        Field::Parties | Field::Party => Step::Goes(moved_on(take_number(number, rest, request))),
+        Field::Start => Step::List(request, start),
+        Field::Dropped => Step::List(request, start),
+        Field::Parties => Step::Goes(moved_on(take_number(number, rest, request))),
+        Field::Party => Step::Goes(moved_on(take_number(number, rest, request))),
+        Field::Circuit => Step::List(request, start),
+        Field::Prep => Step::List(request, start),
+        Field::Preps => Step::List(request, start),
+        Field::Inputs => Step::List(request, start),
+        Field::Scratch => Step::List(request, start),
         Field::Position => Step::Goes(moved_on(take_position(number, rest, request))),
-        _ => Step::List(request, start),
+        Field::Coefficients => Step::List(request, start),
+        Field::Heard => Step::List(request, start),
+        Field::Out => Step::List(request, start),
+        Field::Transcript => Step::List(request, start),
+        Field::Outputs => Step::List(request, start),
+        Field::Complete => Step::List(request, start),
     }
 }
 
 // A line that begins with no entry's name.
-fn take_field(number: u64, name: &[u8], rest: &[u8], start: usize, request: Request) -> Step {
+fn take_field(number: u64, name: &[u8], rest: &[u8], start: usize, request: Request) -> Step
+    ensures { λ r. ⌜ r ≡ takeField (now (name .entry)) (now (rest .entry)) start request ⌝ }
+{
     let wanted = request.wanted;
     if is_dropped(wanted) {
         return Step::Goes(request);
@@ -183,7 +205,9 @@ fn take_field(number: u64, name: &[u8], rest: &[u8], start: usize, request: Requ
 }
 
 // A line that begins with an entry's name; bare says that nothing else is there.
-fn begin(number: u64, entry: Entry, bare: bool, request: Request) -> Request {
+fn begin(number: u64, entry: Entry, bare: bool, request: Request) -> Request
+    ensures { λ r. ⌜ r ≡ W.begin entry bare request ⌝ }
+{
     let wanted = request.wanted;
     if is_begun(wanted) {
         complain_wanted(number, wanted);
@@ -203,7 +227,9 @@ pub fn shorter(n: usize, end: usize) -> usize
 }
 
 // A line of the input.
-pub fn take_line(number: u64, line: &[u8], request: Request) -> Step {
+pub fn take_line(number: u64, line: &[u8], request: Request) -> Step
+    ensures { λ r. ⌜ r ≡ takeLine (now (line .entry)) request ⌝ }
+{
     let word = text::word_from(line, 0);
     let start = word.start;
     let end = word.end;

@@ -1,0 +1,43 @@
+-- `requests::reading::begin` meets its contract: one law for each answer.
+-- Assumes nothing.
+use Rattle.requests.proofs.Taking.{begun-bare, begun-more}
+use borrow.Author.Needs.{needs}
+use Rattle.requests.proofs.reading.begin.Statement.{statement}
+use Rattle.requests.proofs.reading.begin.Tie as tie
+
+is-begun-requires : tie.Need-is-begun-requires
+is-begun-requires c κs = search needs
+
+complain-wanted-requires : tie.Need-complain-wanted-requires
+complain-wanted-requires c κs = search needs
+
+slice-aggregate-complain : tie.Need-slice-aggregate-complain
+slice-aggregate-complain c = search needs
+
+complain-requires : tie.Need-complain-requires
+complain-requires c κs = search needs
+
+dropped-requires : tie.Need-dropped-requires
+dropped-requires c κs = search needs
+
+returns : tie.Need-returns
+returns c = begun-more _ (c .before .before .before .before .before .before .args .bare) _ (c .before .before .before .if2 .taken) (c .dropped .ensures)
+
+started-requires : tie.Need-started-requires
+started-requires c κs = search needs
+
+returns-2 : tie.Need-returns-2
+returns-2 c = begun-bare _ (c .before .before .before .before .args .bare) _ (c .before .if2 .left) (c .started .ensures)
+
+pub begin-spec : {M : Type 1} → statement M
+begin-spec =
+    tie.close
+    (tie.spec
+    is-begun-requires
+    complain-wanted-requires
+    slice-aggregate-complain
+    complain-requires
+    dropped-requires
+    returns
+    started-requires
+    returns-2)

@@ -1,0 +1,43 @@
+-- `requests::reading::take_number` meets its contract: one law for each answer.
+-- Assumes nothing.
+use Rattle.requests.proofs.Taking.{number-taken, number-refused}
+use borrow.Author.Needs.{needs}
+use Rattle.requests.proofs.reading.take_number.Statement.{statement}
+use Rattle.requests.proofs.reading.take_number.Tie as tie
+
+one-number-requires : tie.Need-one-number-requires
+one-number-requires c κs = search needs
+
+enum-known-n : tie.Need-enum-known-n
+enum-known-n c = search needs
+
+with-number-requires : tie.Need-with-number-requires
+with-number-requires c κs = search needs
+
+enum-known-read : tie.Need-enum-known-read
+enum-known-read c = search needs
+
+complain-one-requires : tie.Need-complain-one-requires
+complain-one-requires c κs = search needs
+
+dropped-requires : tie.Need-dropped-requires
+dropped-requires c κs = search needs
+
+returns : tie.Need-returns
+returns c = number-taken _ _ (c .before .before .before .before .one-number .ensures) (c .before .before .n .given .1) (c .with-number .ensures)
+
+returns-2 : tie.Need-returns-2
+returns-2 c = number-refused _ _ (c .before .before .before .before .before .one-number .ensures) (c .before .before .before .read .given .1) (c .dropped .ensures)
+
+pub take-number-spec : {M : Type 1} → statement M
+take-number-spec =
+    tie.close
+    (tie.spec
+    one-number-requires
+    enum-known-n
+    with-number-requires
+    enum-known-read
+    complain-one-requires
+    dropped-requires
+    returns
+    returns-2)
