@@ -1,4 +1,4 @@
--- What is proved of the names and the order of requests.
+-- What is proved of the names, the order and the lines of requests.
 pub mod Names
 pub mod Order
 pub mod Lines

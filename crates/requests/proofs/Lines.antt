@@ -1,16 +1,15 @@
 -- One number, and the words of a position, as the code finds them.
 -- Assumes nothing.
-use Prim.Native.Nat.{ℕ, suc, _+_, _-_, _<_, _≤_}
+use Prim.Native.Nat.{ℕ, suc, _-_, _<_, _≤_}
 use mathlib.Core.Path.{_≡_, refl, sym, ap, _∙_}
-use mathlib.Core.Bool.{true, false}
+use mathlib.Core.Bool.{Bool, true, false, false≢true}
 use mathlib.Core.Logic.{_≢_}
 use mathlib.Core.List.{List, [], _∷_}
 use native.Mathlib.Omega.{arith}
 use lib.ListN.{length, getD, take, drop}
-use lib.Dec.{ltb}
 use borrow.Author.Tests.{lt-ltb, le-ltb}
 use Rattle.text.specs.Text as X
-use Rattle.text.specs.Text.{run, numbersIn, atStart, readInto}
+use Rattle.text.specs.Text.{numbersIn, atStart, readInto}
 use Rattle.text.specs.Code.{Word, told, numbersTold}
 use Rattle.text.specs.declared.Span.{Span}
 use Rattle.text.specs.declared.Numbers.{Numbers}
@@ -42,26 +41,19 @@ other-count X.Unlike ns p q = let z : _≡_ {A = ℕ} 0 1 = cc in absurd (omega 
 other-count X.TooLarge ns p q = let z : _≡_ {A = ℕ} 0 1 = cc in absurd (omega arith)
 other-count X.TooMany ns p q = refl
 
-unlike-of : (e : X.Ending) (ns : List ℕ) → told (length ns) e ≡ Unlike → Fault Unlike ≡ oneOf e ns
-unfolding told oneOf
-unlike-of X.Whole ns p = let z : _≡_ {A = ℕ} 0 1 = cc in absurd (omega arith)
-unlike-of X.Unlike ns p = refl
-unlike-of X.TooLarge ns p = let z : _≡_ {A = ℕ} 0 1 = cc in absurd (omega arith)
-unlike-of X.TooMany ns p = let z : _≡_ {A = ℕ} 0 1 = cc in absurd (omega arith)
+-- no fault is told
+unfoldable pub counts : Numbers → Bool
+counts (Count n) = true
+counts Unlike = false
+counts TooLarge = false
+counts TooMany = false
 
-large-of : (e : X.Ending) (ns : List ℕ) → told (length ns) e ≡ TooLarge → Fault TooLarge ≡ oneOf e ns
-unfolding told oneOf
-large-of X.Whole ns p = let z : _≡_ {A = ℕ} 0 1 = cc in absurd (omega arith)
-large-of X.Unlike ns p = let z : _≡_ {A = ℕ} 0 1 = cc in absurd (omega arith)
-large-of X.TooLarge ns p = refl
-large-of X.TooMany ns p = let z : _≡_ {A = ℕ} 0 1 = cc in absurd (omega arith)
-
-many-of : (e : X.Ending) (ns : List ℕ) → told (length ns) e ≡ TooMany → Fault TooMany ≡ oneOf e ns
-unfolding told oneOf
-many-of X.Whole ns p = let z : _≡_ {A = ℕ} 0 1 = cc in absurd (omega arith)
-many-of X.Unlike ns p = let z : _≡_ {A = ℕ} 0 1 = cc in absurd (omega arith)
-many-of X.TooLarge ns p = let z : _≡_ {A = ℕ} 0 1 = cc in absurd (omega arith)
-many-of X.TooMany ns p = refl
+fault-of : (e : X.Ending) (ns : List ℕ) → counts (told (length ns) e) ≡ false → Fault (told (length ns) e) ≡ oneOf e ns
+unfolding counts told oneOf
+fault-of X.Whole ns p = absurd (false≢true (sym p))
+fault-of X.Unlike ns p = refl
+fault-of X.TooLarge ns p = refl
+fault-of X.TooMany ns p = refl
 
 -- what was told, where there is room for one number
 module _ (text : List ℕ) {read : Numbers} (told : read ≡ numbersTold (numbersIn 1 text)) where
@@ -73,17 +65,9 @@ module _ (text : List ℕ) {read : Numbers} (told : read ≡ numbersTold (number
   unfolding oneIn numbersTold
   not-one p q = other-count (numbersIn 1 text .ending) (numbersIn 1 text .numbers) (sym told ∙ p) q
 
-  pub unlike : read ≡ Unlike → Fault read ≡ oneIn text
+  pub faulty : counts read ≡ false → Fault read ≡ oneIn text
   unfolding oneIn numbersTold
-  unlike p = ap Fault p ∙ unlike-of (numbersIn 1 text .ending) (numbersIn 1 text .numbers) (sym told ∙ p)
-
-  pub large : read ≡ TooLarge → Fault read ≡ oneIn text
-  unfolding oneIn numbersTold
-  large p = ap Fault p ∙ large-of (numbersIn 1 text .ending) (numbersIn 1 text .numbers) (sym told ∙ p)
-
-  pub many : read ≡ TooMany → Fault read ≡ oneIn text
-  unfolding oneIn numbersTold
-  many p = ap Fault p ∙ many-of (numbersIn 1 text .ending) (numbersIn 1 text .numbers) (sym told ∙ p)
+  faulty p = ap Fault told ∙ fault-of (numbersIn 1 text .ending) (numbersIn 1 text .numbers) (ap counts (sym told) ∙ p)
 
 -- a word that is found is the definition's
 module _ {line : List ℕ} {from : ℕ} {w : Span} (found : Word line from w) where

@@ -1,7 +1,7 @@
 -- What a line comes to, by the cases in which the code answers.
 -- Assumes nothing.
 use Prim.Native.Nat.{ℕ, _-_}
-use mathlib.Core.Path.{_≡_, refl, sym, ap, _∙_}
+use mathlib.Core.Path.{_≡_, ap, _∙_}
 use mathlib.Core.Bool.{Bool, true, false, not}
 use mathlib.Core.Logic.{_≢_}
 use mathlib.Core.List.{List}
@@ -23,7 +23,7 @@ use Rattle.requests.specs.declared.reading.Step.the-variants.{Goes}
 use Rattle.requests.specs.declared.request.Request.{Request}
 use Rattle.requests.specs.Names.{fieldName, spelled, entryNamed}
 use Rattle.requests.specs.Order.{isEntry, started, wanting, movedOn, standing}
-use Rattle.requests.specs.Lines.{oneIn, positionIn, endFrom, wordFrom, Kind, ANumber, APosition, kind, lost, withNumber, dropped, withOne, takeNumber, withPlace, takePosition, takeKind, takeWanted, takeField, begin, empty, takeNamed, takeLine}
+use Rattle.requests.specs.Lines.{oneIn, positionIn, ANumber, APosition, kind, lost, withNumber, dropped, withOne, takeNumber, withPlace, takePosition, takeKind, takeWanted, takeField, begin, empty, takeNamed, takeLine}
 use Rattle.requests.proofs.Lines.{word-start, word-end, word-text}
 
 module _ (text : List ℕ) (q : Request) {r : Request} where
