@@ -5,7 +5,7 @@ use mathlib.Core.Path.{_≡_, refl, ap, ap₂, _∙_}
 use mathlib.Core.Bool.{Bool, true, false, cond}
 use mathlib.Core.List.{List, _++_}
 use native.Mathlib.Omega.{arith}
-use lib.ListN.{length, getD, List·getD-append}
+use lib.ListN.{length, List·getD-append}
 use lib.Seq.{set-append-left}
 use Rattle.field.specs.Ops.{Ops}
 use Rattle.field.specs.Field.{Field}
@@ -177,9 +177,9 @@ module _ {O : Ops} (F : Field O) (P : Party) (l e : List ℕ) (j : ℕ) where
   holds-front r k coefficients =
       ap (λ (x : ℕ). cond (isCommit r) x 0)
       (ap₂ (O .sub)
-      (sum-ext F _ _ _ (λ t h. ap (O .mul (getD coefficients t 0)) (read-front y e l (ValueMac t) (k .room) (k .opened t h .within))))
+      (sum-ext F _ _ _ (λ t h. ap (O .mul _) (read-front y e l (ValueMac t) (k .room) (k .opened t h .within))))
       (ap (O .mul (key P))
-      (sum-ext F _ _ _ (λ t h. ap (O .mul (getD coefficients t 0)) (read-front y e l (Value t) (k .room) (k .opened t h .within))))))
+      (sum-ext F _ _ _ (λ t h. ap (O .mul _) (read-front y e l (Value t) (k .room) (k .opened t h .within))))))
 
   -- The linear gates that follow.
   onward-front : (r : Round) → Asks r → (l′ : List ℕ) → length l′ ≡ length l → onward O P j (l′ ++ e) ≡ onward O P j l′ ++ e
