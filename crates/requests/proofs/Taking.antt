@@ -23,7 +23,8 @@ use Rattle.requests.specs.declared.reading.Step.the-variants.{Goes}
 use Rattle.requests.specs.declared.request.Request.{Request}
 use Rattle.requests.specs.Names.{fieldName, spelled, entryNamed}
 use Rattle.requests.specs.Order.{isEntry, started, wanting, movedOn, standing}
-use Rattle.requests.specs.Lines.{oneIn, positionIn, ANumber, APosition, kind, lost, withNumber, dropped, withOne, takeNumber, withPlace, takePosition, takeKind, takeWanted, takeField, begin, empty, takeNamed, takeLine}
+use Rattle.requests.specs.declared.request.Kind.the-variants.{ANumber, APosition}
+use Rattle.requests.specs.Lines.{oneIn, positionIn, kind, lost, withNumber, dropped, withOne, takeNumber, withPlace, takePosition, takeKind, takeWanted, takeField, begin, empty, takeNamed, takeLine}
 use Rattle.requests.proofs.Lines.{word-start, word-end, word-text}
 
 module _ (text : List ℕ) (q : Request) {r : Request} where

@@ -14,6 +14,8 @@ use Rattle.requests.specs.declared.reading.Placed.{Placed}
 use Rattle.requests.specs.declared.reading.Placed.the-variants as L
 use Rattle.requests.specs.declared.reading.Step.{Step}
 use Rattle.requests.specs.declared.reading.Step.the-variants as S
+use Rattle.requests.specs.declared.request.Kind.{Kind}
+use Rattle.requests.specs.declared.request.Kind.the-variants.{Outside, Lost, Ended, ANumber, APosition, AList}
 use Rattle.requests.specs.declared.request.Lent.{Lent}
 use Rattle.requests.specs.declared.request.Request.{Request}
 use Rattle.requests.specs.declared.naming.Entry.{Entry}
@@ -58,9 +60,6 @@ positionIn text =
     (placed (oneIn (wordFrom text (ends 0 text))) (stageNamed (wordFrom text (ends 1 text))) (oneIn (wordFrom text (ends 2 text))))
 
 -- what is wanted is one number, a position or a list; or nothing is: outside a request, in a dropped one, or after its last line
-pub data Kind : Type 0 where
-  Outside Lost Ended ANumber APosition AList : Kind
-
 unfoldable pub kind : Field → Kind
 kind F.Start = Outside
 kind F.Dropped = Lost

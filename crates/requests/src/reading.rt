@@ -6,10 +6,12 @@ use crate::naming::entry_named;
 use crate::naming::is_entry;
 use crate::naming::spell_field;
 use crate::naming::stage_named;
+use crate::request::Kind;
 use crate::request::Request;
 use crate::request::dropped;
 use crate::request::is_begun;
 use crate::request::is_dropped;
+use crate::request::kind_of;
 use crate::request::moved_on;
 use crate::request::started;
 use crate::request::with_number;
@@ -169,23 +171,13 @@ fn take_wanted(number: u64, rest: &[u8], start: usize, request: Request) -> Step
     ensures { λ r. ⌜ r ≡ takeWanted (now (rest .entry)) start request ⌝ }
 {
     let wanted = request.wanted;
-    match wanted {
-        Field::Start => Step::List(request, start),
-        Field::Dropped => Step::List(request, start),
-        Field::Parties => Step::Goes(moved_on(take_number(number, rest, request))),
-        Field::Party => Step::Goes(moved_on(take_number(number, rest, request))),
-        Field::Circuit => Step::List(request, start),
-        Field::Prep => Step::List(request, start),
-        Field::Preps => Step::List(request, start),
-        Field::Inputs => Step::List(request, start),
-        Field::Scratch => Step::List(request, start),
-        Field::Position => Step::Goes(moved_on(take_position(number, rest, request))),
-        Field::Coefficients => Step::List(request, start),
-        Field::Heard => Step::List(request, start),
-        Field::Out => Step::List(request, start),
-        Field::Transcript => Step::List(request, start),
-        Field::Outputs => Step::List(request, start),
-        Field::Complete => Step::List(request, start),
+    match kind_of(wanted) {
+        Kind::Outside => Step::List(request, start),
+        Kind::Lost => Step::List(request, start),
+        Kind::Ended => Step::List(request, start),
+        Kind::ANumber => Step::Goes(moved_on(take_number(number, rest, request))),
+        Kind::APosition => Step::Goes(moved_on(take_position(number, rest, request))),
+        Kind::AList => Step::List(request, start),
     }
 }
 

@@ -37,6 +37,16 @@ pub struct Lent {
     pub outputs: usize,
 }
 
+// What is wanted next: one number, a position or a list; or nothing, outside a request, in a dropped one or after its last line.
+pub enum Kind {
+    Outside,
+    Lost,
+    Ended,
+    ANumber,
+    APosition,
+    AList,
+}
+
 // The entry, what comes next, and what has been read.
 pub struct Request {
     pub entry: Entry,
@@ -163,49 +173,52 @@ pub fn dropped(request: Request) -> Request
     wanting(request, Field::Dropped)
 }
 
+pub fn kind_of(field: Field) -> Kind
+    ensures { λ r. ⌜ r ≡ W.kind field ⌝ }
+{
+    match field {
+        Field::Start => Kind::Outside,
+        Field::Dropped => Kind::Lost,
+        Field::Parties => Kind::ANumber,
+        Field::Party => Kind::ANumber,
+        Field::Circuit => Kind::AList,
+        Field::Prep => Kind::AList,
+        Field::Preps => Kind::AList,
+        Field::Inputs => Kind::AList,
+        Field::Scratch => Kind::AList,
+        Field::Position => Kind::APosition,
+        Field::Coefficients => Kind::AList,
+        Field::Heard => Kind::AList,
+        Field::Out => Kind::AList,
+        Field::Transcript => Kind::AList,
+        Field::Outputs => Kind::AList,
+        Field::Complete => Kind::Ended,
+    }
+}
+
 pub fn is_complete(field: Field) -> bool
     ensures { λ r. ⌜ r ≡ W.ended (W.kind field) ⌝ }
 {
-    match field {
-        Field::Start => false,
-        Field::Dropped => false,
-        Field::Parties => false,
-        Field::Party => false,
-        Field::Circuit => false,
-        Field::Prep => false,
-        Field::Preps => false,
-        Field::Inputs => false,
-        Field::Scratch => false,
-        Field::Position => false,
-        Field::Coefficients => false,
-        Field::Heard => false,
-        Field::Out => false,
-        Field::Transcript => false,
-        Field::Outputs => false,
-        Field::Complete => true,
+    match kind_of(field) {
+        Kind::Outside => false,
+        Kind::Lost => false,
+        Kind::Ended => true,
+        Kind::ANumber => false,
+        Kind::APosition => false,
+        Kind::AList => false,
     }
 }
 
 pub fn is_dropped(field: Field) -> bool
     ensures { λ r. ⌜ r ≡ W.lost (W.kind field) ⌝ }
 {
-    match field {
-        Field::Start => false,
-        Field::Dropped => true,
-        Field::Parties => false,
-        Field::Party => false,
-        Field::Circuit => false,
-        Field::Prep => false,
-        Field::Preps => false,
-        Field::Inputs => false,
-        Field::Scratch => false,
-        Field::Position => false,
-        Field::Coefficients => false,
-        Field::Heard => false,
-        Field::Out => false,
-        Field::Transcript => false,
-        Field::Outputs => false,
-        Field::Complete => false,
+    match kind_of(field) {
+        Kind::Outside => false,
+        Kind::Lost => true,
+        Kind::Ended => false,
+        Kind::ANumber => false,
+        Kind::APosition => false,
+        Kind::AList => false,
     }
 }
 
@@ -213,23 +226,13 @@ pub fn is_dropped(field: Field) -> bool
 pub fn is_begun(field: Field) -> bool
     ensures { λ r. ⌜ r ≡ W.inside (W.kind field) ⌝ }
 {
-    match field {
-        Field::Start => false,
-        Field::Dropped => false,
-        Field::Parties => true,
-        Field::Party => true,
-        Field::Circuit => true,
-        Field::Prep => true,
-        Field::Preps => true,
-        Field::Inputs => true,
-        Field::Scratch => true,
-        Field::Position => true,
-        Field::Coefficients => true,
-        Field::Heard => true,
-        Field::Out => true,
-        Field::Transcript => true,
-        Field::Outputs => true,
-        Field::Complete => false,
+    match kind_of(field) {
+        Kind::Outside => false,
+        Kind::Lost => false,
+        Kind::Ended => false,
+        Kind::ANumber => true,
+        Kind::APosition => true,
+        Kind::AList => true,
     }
 }
 

@@ -1,11 +1,20 @@
--- `requests::reading::take_wanted` meets its contract: one answer for each field.
+-- `requests::reading::take_wanted` meets its contract: a number, a position or a list is taken, by the kind of what is wanted.
 -- Assumes nothing.
-use mathlib.Core.Path.{ap}
-use Rattle.requests.specs.Lines.{kind, takeKind, takeWanted}
+use mathlib.Core.Path.{sym, _∙_}
+use Rattle.requests.specs.Lines.{takeKind, takeWanted}
 use Rattle.requests.proofs.Taking.{number-goes, position-goes}
 use borrow.Author.Needs.{needs}
 use Rattle.requests.proofs.reading.take_wanted.Statement.{statement}
 use Rattle.requests.proofs.reading.take_wanted.Tie as tie
+use Rattle.requests.proofs.reading.take_wanted.Reads as reads
+use Rattle.requests.proofs.reading.take_wanted.Lts as lts
+use Rattle.requests.proofs.reading.take_number.Reads as take-number-reads
+use Rattle.requests.proofs.reading.take_position.Reads as take-position-reads
+use Rattle.requests.proofs.request.kind_of.Reads as kind-of-reads
+use Rattle.requests.proofs.request.moved_on.Reads as moved-on-reads
+
+kind-of-requires : tie.Need-kind-of-requires
+kind-of-requires c κs = search needs
 
 enum-told : tie.Need-enum-told
 enum-told c = search needs
@@ -16,166 +25,67 @@ enum-told-2 c = search needs
 enum-told-3 : tie.Need-enum-told-3
 enum-told-3 c = search needs
 
+enum-told-4 : tie.Need-enum-told-4
+enum-told-4 c = search needs
+
 take-number-requires : tie.Need-take-number-requires
 take-number-requires c κs = search needs
 
 moved-on-requires : tie.Need-moved-on-requires
 moved-on-requires c κs = search needs
 
-enum-told-4 : tie.Need-enum-told-4
-enum-told-4 c = search needs
-
-take-number-requires-2 : tie.Need-take-number-requires-2
-take-number-requires-2 c κs = search needs
-
-moved-on-requires-2 : tie.Need-moved-on-requires-2
-moved-on-requires-2 c κs = search needs
-
 enum-told-5 : tie.Need-enum-told-5
 enum-told-5 c = search needs
-
-enum-told-6 : tie.Need-enum-told-6
-enum-told-6 c = search needs
-
-enum-told-7 : tie.Need-enum-told-7
-enum-told-7 c = search needs
-
-enum-told-8 : tie.Need-enum-told-8
-enum-told-8 c = search needs
-
-enum-told-9 : tie.Need-enum-told-9
-enum-told-9 c = search needs
-
-enum-told-10 : tie.Need-enum-told-10
-enum-told-10 c = search needs
 
 take-position-requires : tie.Need-take-position-requires
 take-position-requires c κs = search needs
 
-moved-on-requires-3 : tie.Need-moved-on-requires-3
-moved-on-requires-3 c κs = search needs
+moved-on-requires-2 : tie.Need-moved-on-requires-2
+moved-on-requires-2 c κs = search needs
 
-enum-told-11 : tie.Need-enum-told-11
-enum-told-11 c = search needs
-
-enum-told-12 : tie.Need-enum-told-12
-enum-told-12 c = search needs
-
-enum-told-13 : tie.Need-enum-told-13
-enum-told-13 c = search needs
-
-enum-told-14 : tie.Need-enum-told-14
-enum-told-14 c = search needs
-
-enum-told-15 : tie.Need-enum-told-15
-enum-told-15 c = search needs
-
-enum-told-16 : tie.Need-enum-told-16
-enum-told-16 c = search needs
+enum-told-6 : tie.Need-enum-told-6
+enum-told-6 c = search needs
 
 returns : tie.Need-returns
-unfolding kind takeKind takeWanted
-returns c = rw (c .enum-told .given .1)
+unfolding takeKind takeWanted
+returns c = rw (sym (c .before .before .kind-of .ensures) ∙ c .enum-told .given .1)
 
 returns-2 : tie.Need-returns-2
-unfolding kind takeKind takeWanted
-returns-2 c = rw (c .enum-told2 .given .1)
+unfolding takeKind takeWanted
+returns-2 c = rw (sym (c .before .before .kind-of .ensures) ∙ c .enum-told2 .given .1)
 
 returns-3 : tie.Need-returns-3
-unfolding kind
-returns-3 c = number-goes _ _ _ (ap kind (c .before .before .enum-told3 .given .1)) (c .before .take-number .ensures) (c .moved-on .ensures)
+unfolding takeKind takeWanted
+returns-3 c = rw (sym (c .before .before .kind-of .ensures) ∙ c .enum-told3 .given .1)
 
 returns-4 : tie.Need-returns-4
-unfolding kind
-returns-4 c = number-goes _ _ _ (ap kind (c .before .before .enum-told4 .given .1)) (c .before .take-number2 .ensures) (c .moved-on2 .ensures)
+returns-4 c = number-goes _ _ _ (sym (c .before .before .before .before .kind-of .ensures) ∙ c .before .before .enum-told4 .given .1) (c .before .take-number .ensures) (c .moved-on .ensures)
 
 returns-5 : tie.Need-returns-5
-unfolding kind takeKind takeWanted
-returns-5 c = rw (c .enum-told5 .given .1)
+returns-5 c = position-goes _ _ _ (sym (c .before .before .before .before .kind-of .ensures) ∙ c .before .before .enum-told5 .given .1) (c .before .take-position .ensures) (c .moved-on2 .ensures)
 
 returns-6 : tie.Need-returns-6
-unfolding kind takeKind takeWanted
-returns-6 c = rw (c .enum-told6 .given .1)
-
-returns-7 : tie.Need-returns-7
-unfolding kind takeKind takeWanted
-returns-7 c = rw (c .enum-told7 .given .1)
-
-returns-8 : tie.Need-returns-8
-unfolding kind takeKind takeWanted
-returns-8 c = rw (c .enum-told8 .given .1)
-
-returns-9 : tie.Need-returns-9
-unfolding kind takeKind takeWanted
-returns-9 c = rw (c .enum-told9 .given .1)
-
-returns-10 : tie.Need-returns-10
-unfolding kind
-returns-10 c = position-goes _ _ _ (ap kind (c .before .before .enum-told10 .given .1)) (c .before .take-position .ensures) (c .moved-on3 .ensures)
-
-returns-11 : tie.Need-returns-11
-unfolding kind takeKind takeWanted
-returns-11 c = rw (c .enum-told11 .given .1)
-
-returns-12 : tie.Need-returns-12
-unfolding kind takeKind takeWanted
-returns-12 c = rw (c .enum-told12 .given .1)
-
-returns-13 : tie.Need-returns-13
-unfolding kind takeKind takeWanted
-returns-13 c = rw (c .enum-told13 .given .1)
-
-returns-14 : tie.Need-returns-14
-unfolding kind takeKind takeWanted
-returns-14 c = rw (c .enum-told14 .given .1)
-
-returns-15 : tie.Need-returns-15
-unfolding kind takeKind takeWanted
-returns-15 c = rw (c .enum-told15 .given .1)
-
-returns-16 : tie.Need-returns-16
-unfolding kind takeKind takeWanted
-returns-16 c = rw (c .enum-told16 .given .1)
+unfolding takeKind takeWanted
+returns-6 c = rw (sym (c .before .before .kind-of .ensures) ∙ c .enum-told6 .given .1)
 
 pub take-wanted-spec : {M : Type 1} → statement M
 take-wanted-spec =
     tie.close
     (tie.spec
+    kind-of-requires
     enum-told
     enum-told-2
     enum-told-3
+    enum-told-4
     take-number-requires
     moved-on-requires
-    enum-told-4
-    take-number-requires-2
-    moved-on-requires-2
     enum-told-5
-    enum-told-6
-    enum-told-7
-    enum-told-8
-    enum-told-9
-    enum-told-10
     take-position-requires
-    moved-on-requires-3
-    enum-told-11
-    enum-told-12
-    enum-told-13
-    enum-told-14
-    enum-told-15
-    enum-told-16
+    moved-on-requires-2
+    enum-told-6
     returns
     returns-2
     returns-3
     returns-4
     returns-5
-    returns-6
-    returns-7
-    returns-8
-    returns-9
-    returns-10
-    returns-11
-    returns-12
-    returns-13
-    returns-14
-    returns-15
-    returns-16)
+    returns-6)

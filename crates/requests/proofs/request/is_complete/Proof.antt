@@ -1,9 +1,14 @@
--- `requests::request::is_complete` meets its contract: one answer for each field.
+-- `requests::request::is_complete` meets its contract: one answer for each kind.
 -- Assumes nothing.
-use Rattle.requests.specs.Lines.{kind, ended}
+use mathlib.Core.Path.{sym, ap, _∙_}
+use Rattle.requests.specs.Lines.{ended}
 use borrow.Author.Needs.{needs}
 use Rattle.requests.proofs.request.is_complete.Statement.{statement}
 use Rattle.requests.proofs.request.is_complete.Tie as tie
+use Rattle.requests.proofs.request.kind_of.Reads as kind-of-reads
+
+kind-of-requires : tie.Need-kind-of-requires
+kind-of-requires c κs = search needs
 
 enum-told : tie.Need-enum-told
 enum-told c = search needs
@@ -23,133 +28,44 @@ enum-told-5 c = search needs
 enum-told-6 : tie.Need-enum-told-6
 enum-told-6 c = search needs
 
-enum-told-7 : tie.Need-enum-told-7
-enum-told-7 c = search needs
-
-enum-told-8 : tie.Need-enum-told-8
-enum-told-8 c = search needs
-
-enum-told-9 : tie.Need-enum-told-9
-enum-told-9 c = search needs
-
-enum-told-10 : tie.Need-enum-told-10
-enum-told-10 c = search needs
-
-enum-told-11 : tie.Need-enum-told-11
-enum-told-11 c = search needs
-
-enum-told-12 : tie.Need-enum-told-12
-enum-told-12 c = search needs
-
-enum-told-13 : tie.Need-enum-told-13
-enum-told-13 c = search needs
-
-enum-told-14 : tie.Need-enum-told-14
-enum-told-14 c = search needs
-
-enum-told-15 : tie.Need-enum-told-15
-enum-told-15 c = search needs
-
-enum-told-16 : tie.Need-enum-told-16
-enum-told-16 c = search needs
-
 returns : tie.Need-returns
-unfolding kind ended
-returns c = rw (c .enum-told .given .1)
+unfolding ended
+returns c = ap ended (sym (c .enum-told .given .1) ∙ c .before .before .kind-of .ensures)
 
 returns-2 : tie.Need-returns-2
-unfolding kind ended
-returns-2 c = rw (c .enum-told2 .given .1)
+unfolding ended
+returns-2 c = ap ended (sym (c .enum-told2 .given .1) ∙ c .before .before .kind-of .ensures)
 
 returns-3 : tie.Need-returns-3
-unfolding kind ended
-returns-3 c = rw (c .enum-told3 .given .1)
+unfolding ended
+returns-3 c = ap ended (sym (c .enum-told3 .given .1) ∙ c .before .before .kind-of .ensures)
 
 returns-4 : tie.Need-returns-4
-unfolding kind ended
-returns-4 c = rw (c .enum-told4 .given .1)
+unfolding ended
+returns-4 c = ap ended (sym (c .enum-told4 .given .1) ∙ c .before .before .kind-of .ensures)
 
 returns-5 : tie.Need-returns-5
-unfolding kind ended
-returns-5 c = rw (c .enum-told5 .given .1)
+unfolding ended
+returns-5 c = ap ended (sym (c .enum-told5 .given .1) ∙ c .before .before .kind-of .ensures)
 
 returns-6 : tie.Need-returns-6
-unfolding kind ended
-returns-6 c = rw (c .enum-told6 .given .1)
-
-returns-7 : tie.Need-returns-7
-unfolding kind ended
-returns-7 c = rw (c .enum-told7 .given .1)
-
-returns-8 : tie.Need-returns-8
-unfolding kind ended
-returns-8 c = rw (c .enum-told8 .given .1)
-
-returns-9 : tie.Need-returns-9
-unfolding kind ended
-returns-9 c = rw (c .enum-told9 .given .1)
-
-returns-10 : tie.Need-returns-10
-unfolding kind ended
-returns-10 c = rw (c .enum-told10 .given .1)
-
-returns-11 : tie.Need-returns-11
-unfolding kind ended
-returns-11 c = rw (c .enum-told11 .given .1)
-
-returns-12 : tie.Need-returns-12
-unfolding kind ended
-returns-12 c = rw (c .enum-told12 .given .1)
-
-returns-13 : tie.Need-returns-13
-unfolding kind ended
-returns-13 c = rw (c .enum-told13 .given .1)
-
-returns-14 : tie.Need-returns-14
-unfolding kind ended
-returns-14 c = rw (c .enum-told14 .given .1)
-
-returns-15 : tie.Need-returns-15
-unfolding kind ended
-returns-15 c = rw (c .enum-told15 .given .1)
-
-returns-16 : tie.Need-returns-16
-unfolding kind ended
-returns-16 c = rw (c .enum-told16 .given .1)
+unfolding ended
+returns-6 c = ap ended (sym (c .enum-told6 .given .1) ∙ c .before .before .kind-of .ensures)
 
 pub is-complete-spec : {M : Type 1} → statement M
 is-complete-spec =
     tie.close
     (tie.spec
+    kind-of-requires
     enum-told
     enum-told-2
     enum-told-3
     enum-told-4
     enum-told-5
     enum-told-6
-    enum-told-7
-    enum-told-8
-    enum-told-9
-    enum-told-10
-    enum-told-11
-    enum-told-12
-    enum-told-13
-    enum-told-14
-    enum-told-15
-    enum-told-16
     returns
     returns-2
     returns-3
     returns-4
     returns-5
-    returns-6
-    returns-7
-    returns-8
-    returns-9
-    returns-10
-    returns-11
-    returns-12
-    returns-13
-    returns-14
-    returns-15
-    returns-16)
+    returns-6)
