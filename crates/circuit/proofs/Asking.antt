@@ -10,9 +10,9 @@ use native.Mathlib.Omega.{arith}
 use lib.ListN.{length, getD}
 use borrow.Author.Tests.{eq-eqb, le-leb}
 use Rattle.circuit.specs.Verdict.{Verdict, Accepted, Refused, ask, _then_, each}
-use Rattle.circuit.specs.Gate.{Gate, gateSize, entry, gate, gates}
-use Rattle.circuit.specs.Kind.{Role, isOut}
-use Rattle.circuit.specs.Accept.{fewestGates, mostGates, role, isKind, nameOk, restOk, askName, askRest, askGate, askSize, askLast, askCircuit}
+use Rattle.circuit.specs.Gate.{gateSize, entry, gate, gates}
+use Rattle.circuit.specs.Kind.{Role, Shape, shape, role, isOut}
+use Rattle.circuit.specs.Accept.{fewestGates, mostGates, isKind, nameOk, restOk, askName, askRest, askGate, askSize, askLast, askCircuit}
 use Rattle.circuit.proofs.Tests.{both-true}
 use Rattle.circuit.proofs.Verdicts.{said-yes, said-no, ask-yes, ask-no, then-both, then-refused, then-passed, each-none, each-more, each-refused, each-done}
 
@@ -44,41 +44,41 @@ module _ (f : ℕ → Verdict) where
   numbers-refused {k} a l e = each-refused f k 3 l (a .passed) e
 
 module _ (n q : ℕ) (c : List ℕ) (j : ℕ) where
-  -- w is what the code found number k + 1 of g to be for, and g is gate j
-  module _ (k : ℕ) {w : Role} {g : Gate} (at : g ≡ gate c j) (use₁ : w ≡ role g (k + 1)) where
-    found : w ≡ role (gate c j) (suc k)
+  -- w is what the code found number k + 1 to be for, and s is the shape of gate j
+  module _ (k : ℕ) {w : Role} {s : Shape} (at : s ≡ shape (gate c j)) (use₁ : w ≡ role s (k + 1)) {x : ℕ} (here : x ≡ getD c (gateSize * j + 1 + k) 0) where
+    found : w ≡ role (shape (gate c j)) (suc k)
     found = rw (← add-one k, ← at) use₁
 
-    name-said : {r : Bool} → r ≡ nameOk n c j (getD c (gateSize * j + 1 + k) 0) w → r ≡ nameOk n c j (entry c j (suc k)) (role (gate c j) (suc k))
-    name-said e = rw (← number-at c j k, ← found) e
+    name-said : {r : Bool} → r ≡ nameOk n c j x w → r ≡ nameOk n c j (entry c j (suc k)) (role (shape (gate c j)) (suc k))
+    name-said e = rw (← number-at c j k, ← here, ← found) e
 
-    rest-said : {r : Bool} → r ≡ restOk q (getD c (gateSize * j + 1 + k) 0) w → r ≡ restOk q (entry c j (suc k)) (role (gate c j) (suc k))
-    rest-said e = rw (← number-at c j k, ← found) e
+    rest-said : {r : Bool} → r ≡ restOk q x w → r ≡ restOk q (entry c j (suc k)) (role (shape (gate c j)) (suc k))
+    rest-said e = rw (← number-at c j k, ← here, ← found) e
 
-    pub name-yes : {r : Bool} → r ≡ nameOk n c j (getD c (gateSize * j + 1 + k) 0) w → not r ≡ false → askName n q c j k ≡ Accepted
+    pub name-yes : {r : Bool} → r ≡ nameOk n c j x w → not r ≡ false → askName n q c j k ≡ Accepted
     unfolding askName
     name-yes e h = ask-yes 5 j (said-yes (name-said e) h)
 
-    pub name-no : {r : Bool} → r ≡ nameOk n c j (getD c (gateSize * j + 1 + k) 0) w → not r ≡ true → askName n q c j k ≡ Refused 5 j
+    pub name-no : {r : Bool} → r ≡ nameOk n c j x w → not r ≡ true → askName n q c j k ≡ Refused 5 j
     unfolding askName
     name-no e h = ask-no 5 j (said-no (name-said e) h)
 
-    pub rest-yes : {r : Bool} → r ≡ restOk q (getD c (gateSize * j + 1 + k) 0) w → not r ≡ false → askRest n q c j k ≡ Accepted
+    pub rest-yes : {r : Bool} → r ≡ restOk q x w → not r ≡ false → askRest n q c j k ≡ Accepted
     unfolding askRest
     rest-yes e h = ask-yes 6 j (said-yes (rest-said e) h)
 
-    pub rest-no : {r : Bool} → r ≡ restOk q (getD c (gateSize * j + 1 + k) 0) w → not r ≡ true → askRest n q c j k ≡ Refused 6 j
+    pub rest-no : {r : Bool} → r ≡ restOk q x w → not r ≡ true → askRest n q c j k ≡ Refused 6 j
     unfolding askRest
     rest-no e h = ask-no 6 j (said-no (rest-said e) h)
 
   -- the gate is refused at its kind, at a name or at the rest, or passes
-  module _ {r : Bool} (said : r ≡ isKind (getD c (gateSize * j) 0)) where
+  module _ {x : ℕ} (here : x ≡ getD c (gateSize * j) 0) {r : Bool} (said : r ≡ isKind x) where
     is-kind : not r ≡ false → ask 4 j (isKind (entry c j 0)) ≡ Accepted
-    is-kind h = ask-yes 4 j (rw (← kind-at c j) (said-yes said h))
+    is-kind h = ask-yes 4 j (rw (← kind-at c j, ← here) (said-yes said h))
 
     pub gate-kind : not r ≡ true → askGate n q c j ≡ Refused 4 j
     unfolding askGate
-    gate-kind h = then-refused _ (ask-no 4 j (rw (← kind-at c j) (said-no said h)))
+    gate-kind h = then-refused _ (ask-no 4 j (rw (← kind-at c j, ← here) (said-no said h)))
 
     module _ (h : not r ≡ false) {k : ℕ} (names : Numbers (askName n q c j) k) where
       pub gate-name : k < 3 → askName n q c j k ≡ Refused 5 j → askGate n q c j ≡ Refused 5 j

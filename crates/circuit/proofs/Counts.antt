@@ -9,10 +9,10 @@ use native.Mathlib.Nat.{le-of-suc-le-suc, eq-or-lt-of-le, mul-suc}
 use native.Mathlib.Numerals.{add-one}
 use native.Mathlib.Omega.{arith}
 use borrow.Author.Tests.{eq-eqb}
-use Rattle.circuit.specs.Gate.{Gate, In, kind, first, gate, gates}
-use Rattle.circuit.specs.Kind.{shape, hasValue, isIn, ownedBy}
+use Rattle.circuit.specs.Gate.{Gate, gate, gates}
+use Rattle.circuit.specs.Kind.{Output, Shape, shape, isClass, isIn, ownedBy}
 use Rattle.circuit.specs.Count.{total, count, prepAt, prepSize, capacity, inputAt, inputCount, inCount, uncheckedAfter, unchecked}
-use Rattle.circuit.proofs.Tests.{by-cases}
+use Rattle.circuit.proofs.Tests.{by-cases, both-true}
 use Rattle.circuit.proofs.KindLaws.{shape-low}
 
 module _ (f : Gate → ℕ) (c : List ℕ) where
@@ -39,17 +39,17 @@ module _ (f : Gate → ℕ) (c : List ℕ) where
   total-le k h (suc j) = omega (arith, total-le k h j, h (gate c j), mul-suc k j)
 
 -- what is unchecked after a gate: what was, with what it opens, and nothing after an output
-module _ (g : Gate) (u : ℕ) where
-  pub unchecked-valued : hasValue g ≡ true → uncheckedAfter g u ≡ u + shape g .openings
+module _ (s : Shape) (u : ℕ) where
+  pub unchecked-valued : isClass Output (s .class) ≡ false → uncheckedAfter s u ≡ u + s .openings
   unfolding uncheckedAfter
   unchecked-valued e = rw e
 
-  pub unchecked-out : hasValue g ≡ false → uncheckedAfter g u ≡ 0
+  pub unchecked-out : isClass Output (s .class) ≡ true → uncheckedAfter s u ≡ 0
   unfolding uncheckedAfter
   unchecked-out e = rw e
 
-  pub unchecked-after-le : uncheckedAfter g u ≤ u + shape g .openings
-  unchecked-after-le = by-cases (hasValue g) (λ e. omega (arith, unchecked-valued e)) (λ e. omega (arith, unchecked-out e))
+  pub unchecked-after-le : uncheckedAfter s u ≤ u + s .openings
+  unchecked-after-le = by-cases (isClass Output (s .class)) (λ e. omega (arith, unchecked-out e)) (λ e. omega (arith, unchecked-valued e))
 
 pub bit-le : (b : Bool) {r : ℕ} → r ≡ cond b 1 0 → r ≤ 1
 bit-le true e = omega arith
@@ -103,14 +103,14 @@ module _ (c : List ℕ) where
   unfolding capacity
   capacity-le = omega (arith, openings-le (gates c))
 
-  pub unchecked-more : (j : ℕ) → unchecked c (j + 1) ≡ uncheckedAfter (gate c j) (unchecked c j)
+  pub unchecked-more : (j : ℕ) → unchecked c (j + 1) ≡ uncheckedAfter (shape (gate c j)) (unchecked c j)
   unfolding unchecked
   unchecked-more j = rw add-one
 
   pub unchecked-le : (j : ℕ) → unchecked c j ≤ total (λ g. shape g .openings) c j
   unfolding unchecked total
   unchecked-le zero = omega arith
-  unchecked-le (suc j) = omega (arith, unchecked-le j, unchecked-after-le (gate c j) (unchecked c j))
+  unchecked-le (suc j) = omega (arith, unchecked-le j, unchecked-after-le (shape (gate c j)) (unchecked c j))
 
   pub unchecked-few : (j : ℕ) → unchecked c j ≤ 2 * j
   unchecked-few j = omega (arith, unchecked-le j, openings-le j)
@@ -128,9 +128,9 @@ module _ (c : List ℕ) where
   unfolding inputAt
   input-more i j = count-more (ownedBy i) c j
 
-  pub input-within : (i j : ℕ) → gate c j ≡ In i → j < gates c → inputAt c i j < inputCount c i
-  unfolding inputAt inputCount ownedBy isIn kind first
-  input-within i j e h = count-within (ownedBy i) c j (gates c) (rw e (eq-eqb i i refl)) h
+  pub input-within : (i j : ℕ) → isIn (gate c j) ≡ true → gate c j .first ≡ i → j < gates c → inputAt c i j < inputCount c i
+  unfolding inputAt inputCount ownedBy
+  input-within i j own e h = count-within (ownedBy i) c j (gates c) (both-true own (eq-eqb (gate c j .first) i e)) h
 
   pub input-le : (i j : ℕ) → inputAt c i j ≤ j
   unfolding inputAt

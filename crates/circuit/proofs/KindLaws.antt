@@ -1,68 +1,123 @@
--- What a test of a gate's kind tells of the gate, and bounds on what a kind reads, opens and sends.
+-- What a class tells of a shape: one record of facts for each class, proved of every kind in one place. Laws elsewhere go by the class.
 -- Assumes nothing.
-use Prim.Native.Nat.{ℕ, _≤_}
-use mathlib.Core.Path.{_≡_, refl, ap}
-use mathlib.Core.Bool.{true, false, not}
+use Prim.Native.Nat.{ℕ, zero, suc, _+_, _*_, _≤_}
+use mathlib.Core.Path.{_≡_, refl, ap, sym, subst, _∙_}
+use mathlib.Core.Bool.{Bool, true, false}
 use native.Mathlib.Omega.{arith}
-use Rattle.circuit.specs.Gate.{Gate, In, Add, Sub, Plus, Times, Mul, Out, kind}
-use Rattle.circuit.specs.Kind.{Shape, shape, hasValue, isIn, isMul, isOut}
-use Rattle.circuit.specs.Code.{shapeOf}
+use lib.Dec.{eqb}
+use borrow.Author.Tests.{eqb-true, eq-eqb}
+use Rattle.circuit.specs.Gate.{Kind, In, Add, Sub, Plus, Times, Mul, Out, Gate}
+use Rattle.circuit.specs.Kind.{Class, Local, Owned, Opens, Output, Role, Unused, Party, Wire, Constant, Shape, kindShape, shape, classNumber, isClass}
+use Rattle.circuit.specs.Code.{classOf, shapeOf}
 use Rattle.circuit.specs.declared.Shape as code
-use Rattle.circuit.proofs.Tests.{false-no}
 
--- to show a fact of every gate, show it of every kind
-pub kinds :
-    (P : Gate → Type 0) →
-    ((s : ℕ) → P (In s)) →
-    ((x y : ℕ) → P (Add x y)) →
-    ((x y : ℕ) → P (Sub x y)) →
-    ((x k : ℕ) → P (Plus x k)) →
-    ((x k : ℕ) → P (Times x k)) →
-    ((x y : ℕ) → P (Mul x y)) →
-    ((x : ℕ) → P (Out x)) →
-    (g : Gate) →
-    P g
-kinds P in₁ add₁ sub₁ plus₁ times₁ mul₁ out₁ (In s) = in₁ s
-kinds P in₁ add₁ sub₁ plus₁ times₁ mul₁ out₁ (Add x y) = add₁ x y
-kinds P in₁ add₁ sub₁ plus₁ times₁ mul₁ out₁ (Sub x y) = sub₁ x y
-kinds P in₁ add₁ sub₁ plus₁ times₁ mul₁ out₁ (Plus x k) = plus₁ x k
-kinds P in₁ add₁ sub₁ plus₁ times₁ mul₁ out₁ (Times x k) = times₁ x k
-kinds P in₁ add₁ sub₁ plus₁ times₁ mul₁ out₁ (Mul x y) = mul₁ x y
-kinds P in₁ add₁ sub₁ plus₁ times₁ mul₁ out₁ (Out x) = out₁ x
+pub record LocalFacts (s : Shape) : Type 0 where
+  pub prep : s .prep ≡ 0
+  pub openings : s .openings ≡ 0
+  pub words : s .words ≡ 0
+  pub first : s .first ≡ Wire
 
-pub is-in : (g : Gate) → isIn g ≡ true → (s : ℕ) × (g ≡ In s)
-unfolding isIn kind
-is-in (In s) e = (s, refl)
-is-in (Add x y) e = false-no e
-is-in (Sub x y) e = false-no e
-is-in (Plus x k) e = false-no e
-is-in (Times x k) e = false-no e
-is-in (Mul x y) e = false-no e
-is-in (Out x) e = false-no e
+pub record OwnedFacts (s : Shape) : Type 0 where
+  pub prep : s .prep ≡ 3
+  pub openings : s .openings ≡ 0
+  pub words : s .words ≡ 1
+  pub first : s .first ≡ Party
 
-pub is-mul : (g : Gate) → isMul g ≡ true → (x : ℕ) × (y : ℕ) × (g ≡ Mul x y)
-unfolding isMul kind
-is-mul (In s) e = false-no e
-is-mul (Add x y) e = false-no e
-is-mul (Sub x y) e = false-no e
-is-mul (Plus x k) e = false-no e
-is-mul (Times x k) e = false-no e
-is-mul (Mul x y) e = (x, y, refl)
-is-mul (Out x) e = false-no e
+pub record OpensFacts (s : Shape) : Type 0 where
+  pub some : 1 ≤ s .openings
+  pub few : s .openings ≤ 2
+  pub words : s .words ≡ s .openings
+  pub prep : s .prep ≡ 2 * s .openings + 2
+  pub first : s .first ≡ Wire
+  pub second : s .openings ≡ 2 → s .second ≡ Wire
 
-pub is-out : (g : Gate) → isOut g ≡ true → (x : ℕ) × (g ≡ Out x)
-unfolding isOut kind
-is-out (In s) e = false-no e
-is-out (Add x y) e = false-no e
-is-out (Sub x y) e = false-no e
-is-out (Plus x k) e = false-no e
-is-out (Times x k) e = false-no e
-is-out (Mul x y) e = false-no e
-is-out (Out x) e = (x, refl)
+pub record OutputFacts (s : Shape) : Type 0 where
+  pub prep : s .prep ≡ 0
+  pub openings : s .openings ≡ 0
+  pub words : s .words ≡ 1
+  pub first : s .first ≡ Wire
 
-pub out-value : (g : Gate) → isOut g ≡ not (hasValue g)
-unfolding isOut kind hasValue
-out-value = kinds (λ g. isOut g ≡ not (hasValue g)) (λ s. refl) (λ x y. refl) (λ x y. refl) (λ x k. refl) (λ x k. refl) (λ x y. refl) (λ x. refl)
+abbrev pub Facts : Class → Shape → Type 0
+Facts Local s = LocalFacts s
+Facts Owned s = OwnedFacts s
+Facts Opens s = OpensFacts s
+Facts Output s = OutputFacts s
+
+-- the facts of every kind
+pub facts : (k : Kind) → Facts (kindShape k .class) (kindShape k)
+unfolding kindShape
+facts In = record { prep = refl; openings = refl; words = refl; first = refl }
+facts Add = record { prep = refl; openings = refl; words = refl; first = refl }
+facts Sub = record { prep = refl; openings = refl; words = refl; first = refl }
+facts Plus = record { prep = refl; openings = refl; words = refl; first = refl }
+facts Times = record { prep = refl; openings = refl; words = refl; first = refl }
+facts Mul = record { some = omega arith; few = omega arith; words = refl; prep = refl; first = refl; second = λ e. refl }
+facts Out = record { prep = refl; openings = refl; words = refl; first = refl }
+
+-- the class of a number
+classAt : ℕ → Class
+classAt zero = Local
+classAt (suc zero) = Owned
+classAt (suc (suc zero)) = Opens
+classAt (suc (suc (suc n))) = Output
+
+class-at : (k : Class) → classAt (classNumber k) ≡ k
+unfolding classAt classNumber
+class-at Local = refl
+class-at Owned = refl
+class-at Opens = refl
+class-at Output = refl
+
+-- a test of the class tells the class, and the class passes its test
+pub is-class : (k : Class) {h : Class} → isClass k h ≡ true → h ≡ k
+unfolding isClass
+is-class k {h} e = sym (class-at h) ∙ ap classAt (eqb-true (classNumber h) (classNumber k) e) ∙ class-at k
+
+pub class-is : {k h : Class} → h ≡ k → isClass k h ≡ true
+unfolding isClass
+class-is {k} e = ap (isClass k) e ∙ eq-eqb (classNumber k) (classNumber k) refl
+
+-- what a class is not
+module _ {h : Class} where
+  pub local-no-in : h ≡ Local → isClass Owned h ≡ false
+  unfolding isClass classNumber
+  local-no-in = ap (isClass Owned)
+
+  pub local-no-out : h ≡ Local → isClass Output h ≡ false
+  unfolding isClass classNumber
+  local-no-out = ap (isClass Output)
+
+  pub owned-no-out : h ≡ Owned → isClass Output h ≡ false
+  unfolding isClass classNumber
+  owned-no-out = ap (isClass Output)
+
+  pub opens-no-in : h ≡ Opens → isClass Owned h ≡ false
+  unfolding isClass classNumber
+  opens-no-in = ap (isClass Owned)
+
+  pub opens-no-out : h ≡ Opens → isClass Output h ≡ false
+  unfolding isClass classNumber
+  opens-no-out = ap (isClass Output)
+
+  pub output-no-in : h ≡ Output → isClass Owned h ≡ false
+  unfolding isClass classNumber
+  output-no-in = ap (isClass Owned)
+
+module _ (g : Gate) where
+  pub gate-facts : {k : Class} → shape g .class ≡ k → Facts k (shape g)
+  gate-facts e = subst (λ (k : Class). Facts k (shape g)) e (facts (g .kind))
+
+  pub local-facts : shape g .class ≡ Local → LocalFacts (shape g)
+  local-facts = gate-facts
+
+  pub owned-facts : shape g .class ≡ Owned → OwnedFacts (shape g)
+  owned-facts = gate-facts
+
+  pub opens-facts : shape g .class ≡ Opens → OpensFacts (shape g)
+  opens-facts = gate-facts
+
+  pub output-facts : shape g .class ≡ Output → OutputFacts (shape g)
+  output-facts = gate-facts
 
 -- the longest record, the most openings and the most words of a kind
 pub record Low (s : Shape) : Type 0 where
@@ -70,31 +125,35 @@ pub record Low (s : Shape) : Type 0 where
   pub openings : s .openings ≤ 2
   pub words : s .words ≤ 2
 
+pub facts-low : (k : Class) (s : Shape) → Facts k s → Low s
+facts-low Local s f = record { prep = omega (arith, f .prep); openings = omega (arith, f .openings); words = omega (arith, f .words) }
+facts-low Owned s f = record { prep = omega (arith, f .prep); openings = omega (arith, f .openings); words = omega (arith, f .words) }
+facts-low Opens s f = record { prep = omega (arith, f .prep, f .few); openings = f .few; words = omega (arith, f .words, f .few) }
+facts-low Output s f = record { prep = omega (arith, f .prep); openings = omega (arith, f .openings); words = omega (arith, f .words) }
+
+pub kind-low : (k : Kind) → Low (kindShape k)
+kind-low k = facts-low (kindShape k .class) (kindShape k) (facts k)
+
 pub shape-low : (g : Gate) → Low (shape g)
-unfolding shape
-shape-low =
-    kinds (λ g. Low (shape g)) (λ s. low (omega arith) (omega arith) (omega arith)) (λ x y. none) (λ x y. none) (λ x k. none) (λ x k. none)
-    (λ x y. low (omega arith) (omega arith) (omega arith)) (λ x. low (omega arith) (omega arith) (omega arith))
-  where
-    low : {p o w : ℕ} → p ≤ 6 → o ≤ 2 → w ≤ 2 → Low (record { prep = p; openings = o; words = w })
-    low a b c = record { prep = a; openings = b; words = c }
+shape-low g = kind-low (g .kind)
 
-    none : Low (record { prep = 0; openings = 0; words = 0 })
-    none = low (omega arith) (omega arith) (omega arith)
+-- what the code's shape of a kind says
+module _ (r : code.Shape) (k : Kind) (e : shapeOf r ≡ kindShape k) where
+  pub shape-class : classOf (r .class) ≡ kindShape k .class
+  unfolding shapeOf
+  shape-class = ap (λ (s : Shape). s .class) e
 
--- what the code's shape of a gate says, field by field
-module _ (r : code.Shape) (g : Gate) (e : shapeOf r ≡ shape g) where
-  pub shape-prep : r .prep ≡ shape g .prep
+  pub shape-prep : r .prep ≡ kindShape k .prep
   unfolding shapeOf
   shape-prep = ap (λ (s : Shape). s .prep) e
 
-  pub shape-openings : r .openings ≡ shape g .openings
+  pub shape-openings : r .openings ≡ kindShape k .openings
   unfolding shapeOf
   shape-openings = ap (λ (s : Shape). s .openings) e
 
-  pub shape-words : r .words ≡ shape g .words
+  pub shape-words : r .words ≡ kindShape k .words
   unfolding shapeOf
   shape-words = ap (λ (s : Shape). s .words) e
 
   pub shape-small : (r .prep ≤ 6) × (r .openings ≤ 2) × (r .words ≤ 2)
-  shape-small = (rw shape-prep (shape-low g .prep), rw shape-openings (shape-low g .openings), rw shape-words (shape-low g .words))
+  shape-small = (rw shape-prep (kind-low k .prep), rw shape-openings (kind-low k .openings), rw shape-words (kind-low k .words))

@@ -4,8 +4,9 @@ pub mod Tests
 pub mod Verdicts
 pub mod KindLaws
 pub mod Counts
-pub mod Rounds
+pub mod RoundLaws
 pub mod Tallies
 pub mod Gates
 pub mod Asking
 pub mod Valid
+pub mod Loops

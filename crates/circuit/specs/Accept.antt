@@ -1,13 +1,13 @@
 -- Which circuits are accepted: questions 3 to 7 of document 01, in their order.
 -- Assumes nothing.
 use Prim.Native.Nat.{ℕ, suc, _-_, _%_}
-use mathlib.Core.Bool.{Bool, true, cond, _&&_}
+use mathlib.Core.Bool.{Bool, true, _&&_}
 use mathlib.Core.List.{List}
 use lib.ListN.{length}
 use lib.Dec.{ltb, leb, eqb}
 use Rattle.circuit.specs.Verdict.{Verdict, ask, _then_, each}
-use Rattle.circuit.specs.Gate.{Gate, gateSize, entry, gate, gates, kindIn, kindOut}
-use Rattle.circuit.specs.Kind.{hasValue, isOut, Role, Unused, Party, Wire, Constant, roles}
+use Rattle.circuit.specs.Gate.{gateSize, entry, gate, gates, firstKind, lastKind}
+use Rattle.circuit.specs.Kind.{shape, hasValue, isOut, role, Role, Unused, Party, Wire, Constant}
 
 -- "L from 2 to 256"
 abbrev pub fewestGates : ℕ
@@ -16,13 +16,9 @@ fewestGates = 2
 abbrev pub mostGates : ℕ
 mostGates = 256
 
--- number k of a gate is its first, its second or its constant
-unfoldable pub role : Gate → ℕ → Role
-role g k = cond (eqb k 1) (roles g .first) (cond (eqb k 2) (roles g .second) (roles g .constant))
-
 -- "is the kind 1 to 7? 4."
 unfoldable pub isKind : ℕ → Bool
-isKind kind = leb kindIn kind && leb kind kindOut
+isKind kind = leb firstKind kind && leb kind lastKind
 
 -- may gate j name gate x? "each named line earlier and with a value"
 unfoldable pub mayName : List ℕ → ℕ → ℕ → Bool
@@ -45,10 +41,10 @@ restOk q x Constant = ltb x q
 -- n parties, and a field of q elements
 module _ (n q : ℕ) (c : List ℕ) where
   unfoldable pub askName : ℕ → ℕ → Verdict
-  askName j k = ask 5 j (nameOk n c j (entry c j (suc k)) (role (gate c j) (suc k)))
+  askName j k = ask 5 j (nameOk n c j (entry c j (suc k)) (role (shape (gate c j)) (suc k)))
 
   unfoldable pub askRest : ℕ → ℕ → Verdict
-  askRest j k = ask 6 j (restOk q (entry c j (suc k)) (role (gate c j) (suc k)))
+  askRest j k = ask 6 j (restOk q (entry c j (suc k)) (role (shape (gate c j)) (suc k)))
 
   -- "Of each line": 4 of its kind, 5 and then 6 of its first, second and constant
   unfoldable pub askGate : ℕ → Verdict

@@ -10,12 +10,16 @@ use Rattle.circuit.specs.Count.{total, count, prepAt, inputAt, unchecked
 use Rattle.circuit.specs.Round as R
 use Rattle.circuit.specs.declared.Verdict.{Verdict}
 use Rattle.circuit.specs.declared.Verdict.the-variants.{Accepted, Refused}
-use Rattle.circuit.specs.declared.Gate.{Gate}
-use Rattle.circuit.specs.declared.Gate.the-variants.{In, Add, Sub, Plus, Times, Mul, Out}
+use Rattle.circuit.specs.declared.Kind.{Kind}
+use Rattle.circuit.specs.declared.Kind.the-variants.{In, Add, Sub, Plus, Times, Mul, Out}
+use Rattle.circuit.specs.declared.Class.{Class}
+use Rattle.circuit.specs.declared.Class.the-variants.{Local, Owned, Opens, Output}
 use Rattle.circuit.specs.declared.Role.{Role}
 use Rattle.circuit.specs.declared.Role.the-variants.{Unused, Party, Wire, Constant}
+use Rattle.circuit.specs.declared.Check.{Check}
+use Rattle.circuit.specs.declared.Check.the-variants.{First, Second}
 use Rattle.circuit.specs.declared.Round.{Round}
-use Rattle.circuit.specs.declared.Round.the-variants.{Input, Multiply, CommitOpened, RevealOpened, OpenOutput, CommitOutput, RevealOutput}
+use Rattle.circuit.specs.declared.Round.the-variants.{Own, Open, Commit, Reveal}
 use Rattle.circuit.specs.declared.Shape.{Shape}
 use Rattle.circuit.specs.declared.Tally.{Tally}
 use Rattle.circuit.specs.declared.Totals.{Totals}
@@ -25,14 +29,20 @@ unfoldable pub verdictOf : Verdict → Q.Verdict
 verdictOf Accepted = Q.Accepted
 verdictOf (Refused number index) = Q.Refused number index
 
-unfoldable pub gateOf : Gate → G.Gate
-gateOf (In s) = G.In s
-gateOf (Add x y) = G.Add x y
-gateOf (Sub x y) = G.Sub x y
-gateOf (Plus x k) = G.Plus x k
-gateOf (Times x k) = G.Times x k
-gateOf (Mul x y) = G.Mul x y
-gateOf (Out x) = G.Out x
+unfoldable pub kindOf : Kind → G.Kind
+kindOf In = G.In
+kindOf Add = G.Add
+kindOf Sub = G.Sub
+kindOf Plus = G.Plus
+kindOf Times = G.Times
+kindOf Mul = G.Mul
+kindOf Out = G.Out
+
+unfoldable pub classOf : Class → K.Class
+classOf Local = K.Local
+classOf Owned = K.Owned
+classOf Opens = K.Opens
+classOf Output = K.Output
 
 unfoldable pub roleOf : Role → K.Role
 roleOf Unused = K.Unused
@@ -40,17 +50,27 @@ roleOf Party = K.Party
 roleOf Wire = K.Wire
 roleOf Constant = K.Constant
 
+unfoldable pub checkOf : Check → R.Check
+checkOf First = R.First
+checkOf Second = R.Second
+
 unfoldable pub roundOf : Round → R.Round
-roundOf Input = R.Input
-roundOf Multiply = R.Multiply
-roundOf CommitOpened = R.CommitOpened
-roundOf RevealOpened = R.RevealOpened
-roundOf OpenOutput = R.OpenOutput
-roundOf CommitOutput = R.CommitOutput
-roundOf RevealOutput = R.RevealOutput
+roundOf Own = R.Own
+roundOf Open = R.Open
+roundOf (Commit k) = R.Commit (checkOf k)
+roundOf (Reveal k) = R.Reveal (checkOf k)
 
 unfoldable pub shapeOf : Shape → K.Shape
-shapeOf r = record { prep = r .prep; openings = r .openings; words = r .words }
+shapeOf r =
+    record {
+      class = classOf (r .class);
+      prep = r .prep;
+      openings = r .openings;
+      words = r .words;
+      first = roleOf (r .first);
+      second = roleOf (r .second);
+      constant = roleOf (r .constant);
+    }
 
 -- what is counted of the gates before j: where the record of gate j starts, all openings, the unchecked ones, and the inputs of party i
 pub record Tallied (c : List ℕ) (i j : ℕ) (t : Tally) : Type 0 where

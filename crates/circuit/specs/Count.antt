@@ -4,7 +4,7 @@ use Prim.Native.Nat.{ℕ, zero, suc, _+_}
 use mathlib.Core.Bool.{Bool, cond}
 use mathlib.Core.List.{List}
 use Rattle.circuit.specs.Gate.{Gate, gate, gates}
-use Rattle.circuit.specs.Kind.{shape, hasValue, ownedBy, isIn, isOut}
+use Rattle.circuit.specs.Kind.{Shape, shape, Output, isClass, ownedBy, isIn, isOut}
 
 -- the sum of f over the gates before j
 unfoldable pub total : (Gate → ℕ) → List ℕ → ℕ → ℕ
@@ -45,10 +45,10 @@ unfoldable pub outCount : List ℕ → ℕ
 outCount c = count isOut c (gates c)
 
 -- the entries that are unchecked after a gate, where u are before it: an output checks them all
-unfoldable pub uncheckedAfter : Gate → ℕ → ℕ
-uncheckedAfter g u = cond (hasValue g) (u + shape g .openings) 0
+unfoldable pub uncheckedAfter : Shape → ℕ → ℕ
+uncheckedAfter s u = cond (isClass Output (s .class)) 0 (u + s .openings)
 
 -- how many entries are opened and unchecked when gate j is reached
 unfoldable pub unchecked : List ℕ → ℕ → ℕ
 unchecked c zero = 0
-unchecked c (suc j) = uncheckedAfter (gate c j) (unchecked c j)
+unchecked c (suc j) = uncheckedAfter (shape (gate c j)) (unchecked c j)

@@ -1,82 +1,81 @@
--- What a gate's kind tells of it. Every length and count is made of these.
+-- What a gate's kind tells of it: one table. Every test, length and count is made of it.
 -- Assumes nothing.
 use Prim.Native.Nat.{ℕ}
-use mathlib.Core.Bool.{Bool, true, false, _&&_}
+use mathlib.Core.Bool.{Bool, cond, not, _&&_}
 use lib.Dec.{eqb}
-use Rattle.circuit.specs.Gate.{Gate, In, Add, Sub, Plus, Times, Mul, Out, kind, first, kindIn, kindMul, kindOut}
+use Rattle.circuit.specs.Gate.{Kind, In, Add, Sub, Plus, Times, Mul, Out, Gate}
 
--- what a gate reads of the preprocessing, opens and sends
+-- Local: "They need no round", each party works them out by itself. Owned: one party's input. Opens: differences with the masks of a record
+-- are opened. Output: a value is opened and checked; "An out line has no value and cannot be named."
+pub data Class : Type 0 where
+  Local Owned Opens Output : Class
+
+-- what a number of a gate is for
+pub data Role : Type 0 where
+  Unused Party Wire Constant : Role
+
+-- what a kind reads of the preprocessing, opens and sends, and what its numbers are for
 pub record Shape : Type 0 where
+  pub class : Class
   -- "three numbers for each in line .. and six for each mul line": the length of its record
   pub prep : ℕ
   -- how many values it opens that wait for the next output's first check
   pub openings : ℕ
   -- "in, one word", "mul, two words", "show, one word": the words of a party in its own round
   pub words : ℕ
-
-abbrev shaped : ℕ → ℕ → ℕ → Shape
-shaped prep openings words = record { prep = prep; openings = openings; words = words }
-
-unfoldable pub shape : Gate → Shape
-shape (In s) = shaped 3 0 1
-shape (Add x y) = shaped 0 0 0
-shape (Sub x y) = shaped 0 0 0
-shape (Plus x k) = shaped 0 0 0
-shape (Times x k) = shaped 0 0 0
-shape (Mul x y) = shaped 6 2 2
-shape (Out x) = shaped 0 0 1
-
--- "An out line has no value and cannot be named."
-unfoldable pub hasValue : Gate → Bool
-hasValue (In s) = true
-hasValue (Add x y) = true
-hasValue (Sub x y) = true
-hasValue (Plus x k) = true
-hasValue (Times x k) = true
-hasValue (Mul x y) = true
-hasValue (Out x) = false
-
--- "They need no round": add, sub, plus and times
-unfoldable pub isLinear : Gate → Bool
-isLinear (In s) = false
-isLinear (Add x y) = true
-isLinear (Sub x y) = true
-isLinear (Plus x k) = true
-isLinear (Times x k) = true
-isLinear (Mul x y) = false
-isLinear (Out x) = false
-
-unfoldable pub isIn : Gate → Bool
-isIn g = eqb (kind g) kindIn
-
-unfoldable pub isMul : Gate → Bool
-isMul g = eqb (kind g) kindMul
-
-unfoldable pub isOut : Gate → Bool
-isOut g = eqb (kind g) kindOut
-
--- is it an in gate of party i?
-unfoldable pub ownedBy : ℕ → Gate → Bool
-ownedBy i g = isIn g && eqb (first g) i
-
--- what a number of a gate is for
-pub data Role : Type 0 where
-  Unused Party Wire Constant : Role
-
--- what first, second and the constant are for
-pub record Roles : Type 0 where
   pub first : Role
   pub second : Role
   pub constant : Role
 
-abbrev roled : Role → Role → Role → Roles
-roled first second constant = record { first = first; second = second; constant = constant }
+abbrev shaped : Class → ℕ → ℕ → ℕ → Role → Role → Role → Shape
+shaped class prep openings words first second constant =
+    record { class = class; prep = prep; openings = openings; words = words; first = first; second = second; constant = constant }
 
-unfoldable pub roles : Gate → Roles
-roles (In s) = roled Party Unused Unused
-roles (Add x y) = roled Wire Wire Unused
-roles (Sub x y) = roled Wire Wire Unused
-roles (Plus x k) = roled Wire Unused Constant
-roles (Times x k) = roled Wire Unused Constant
-roles (Mul x y) = roled Wire Wire Unused
-roles (Out x) = roled Wire Unused Unused
+unfoldable pub kindShape : Kind → Shape
+kindShape In = shaped Owned 3 0 1 Party Unused Unused
+kindShape Add = shaped Local 0 0 0 Wire Wire Unused
+kindShape Sub = shaped Local 0 0 0 Wire Wire Unused
+kindShape Plus = shaped Local 0 0 0 Wire Unused Constant
+kindShape Times = shaped Local 0 0 0 Wire Unused Constant
+kindShape Mul = shaped Opens 6 2 2 Wire Wire Unused
+kindShape Out = shaped Output 0 0 1 Wire Unused Unused
+
+abbrev pub shape : Gate → Shape
+shape g = kindShape (g .kind)
+
+-- a number for each class, by which two are told apart
+unfoldable pub classNumber : Class → ℕ
+classNumber Local = 0
+classNumber Owned = 1
+classNumber Opens = 2
+classNumber Output = 3
+
+unfoldable pub isClass : Class → Class → Bool
+isClass k h = eqb (classNumber h) (classNumber k)
+
+abbrev pub isLinear : Gate → Bool
+isLinear g = isClass Local (shape g .class)
+
+abbrev pub isIn : Gate → Bool
+isIn g = isClass Owned (shape g .class)
+
+abbrev pub opens : Gate → Bool
+opens g = isClass Opens (shape g .class)
+
+abbrev pub isOut : Gate → Bool
+isOut g = isClass Output (shape g .class)
+
+abbrev pub hasValue : Gate → Bool
+hasValue g = not (isOut g)
+
+-- is it an in gate of party i?
+unfoldable pub ownedBy : ℕ → Gate → Bool
+ownedBy i g = isIn g && eqb (g .first) i
+
+-- what number k of a gate is for: 1 its first, 2 its second, 3 its constant
+unfoldable pub role : Shape → ℕ → Role
+role s k = cond (eqb k 1) (s .first) (cond (eqb k 2) (s .second) (s .constant))
+
+-- the gate that gives the second factor of a product: where one value is opened, that is the first again
+unfoldable pub factor : Gate → ℕ
+factor g = cond (eqb (shape g .openings) 2) (g .second) (g .first)

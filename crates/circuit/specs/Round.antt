@@ -1,63 +1,60 @@
 -- The rounds of a gate. In each, every party sends its words and then hears the words of all.
 -- Assumes nothing.
 use Prim.Native.Nat.{ℕ, zero, suc, _+_}
-use mathlib.Core.Bool.{Bool, true, false, cond}
+use mathlib.Core.Bool.{Bool, true, false, cond, not}
 use mathlib.Core.List.{List, [], _∷_, _++_}
 use lib.Dec.{eqb}
-use Rattle.circuit.specs.Gate.{Gate, In, Add, Sub, Plus, Times, Mul, Out, gate, gates}
-use Rattle.circuit.specs.Kind.{shape}
+use Rattle.circuit.specs.Gate.{Gate, gate, gates}
+use Rattle.circuit.specs.Kind.{Class, Local, Owned, Opens, Output, Shape, shape}
 use Rattle.circuit.specs.Count.{unchecked}
 
--- Document 01's in, mul, seal and reveal of what is opened and unchecked, show, seal and reveal of the shown value
+-- the two checks of an output: of what is opened and unchecked, and of the shown value
+pub data Check : Type 0 where
+  First Second : Check
+
+-- a gate's own round (document 01's in and mul), the opening of an output (show), the commitment (seal) and the reveal of a check
 pub data Round : Type 0 where
-  Input Multiply CommitOpened RevealOpened OpenOutput CommitOutput RevealOutput : Round
+  Own Open : Round
+  Commit Reveal : Check → Round
 
 -- a number for each round, by which two are told apart
 unfoldable pub roundNumber : Round → ℕ
-roundNumber Input = 0
-roundNumber Multiply = 1
-roundNumber CommitOpened = 2
-roundNumber RevealOpened = 3
-roundNumber OpenOutput = 4
-roundNumber CommitOutput = 5
-roundNumber RevealOutput = 6
+roundNumber Own = 0
+roundNumber Open = 1
+roundNumber (Commit First) = 2
+roundNumber (Reveal First) = 3
+roundNumber (Commit Second) = 4
+roundNumber (Reveal Second) = 5
 
 unfoldable pub isCommit : Round → Bool
-isCommit Input = false
-isCommit Multiply = false
-isCommit CommitOpened = true
-isCommit RevealOpened = false
-isCommit OpenOutput = false
-isCommit CommitOutput = true
-isCommit RevealOutput = false
+isCommit Own = false
+isCommit Open = false
+isCommit (Commit k) = true
+isCommit (Reveal k) = false
 
 unfoldable pub isReveal : Round → Bool
-isReveal Input = false
-isReveal Multiply = false
-isReveal CommitOpened = false
-isReveal RevealOpened = true
-isReveal OpenOutput = false
-isReveal CommitOutput = false
-isReveal RevealOutput = true
+isReveal Own = false
+isReveal Open = false
+isReveal (Commit k) = false
+isReveal (Reveal k) = true
 
--- "out: if anything is opened and unchecked, a check (seal, reveal); then show ..; then a check of it."
-unfoldable pub outRounds : ℕ → List Round
-outRounds u =
-    cond (eqb u 0) [] (CommitOpened ∷ RevealOpened ∷ [])
-    ++ (OpenOutput ∷ CommitOutput ∷ RevealOutput ∷ [])
+-- "if anything is opened and unchecked, a check (seal, reveal); then show ..; then a check of it": the second there is always
+unfoldable pub hasCheck : ℕ → Check → Bool
+hasCheck u First = not (eqb u 0)
+hasCheck u Second = true
 
--- the rounds of a gate in order, where u entries are opened and unchecked
-unfoldable pub roundsOf : ℕ → Gate → List Round
-roundsOf u (In s) = Input ∷ []
-roundsOf u (Add x y) = []
-roundsOf u (Sub x y) = []
-roundsOf u (Plus x k) = []
-roundsOf u (Times x k) = []
-roundsOf u (Mul x y) = Multiply ∷ []
-roundsOf u (Out x) = outRounds u
+unfoldable pub checkRounds : ℕ → Check → List Round
+checkRounds u k = cond (hasCheck u k) (Commit k ∷ Reveal k ∷ []) []
+
+-- the rounds of a gate in order, by its class, where u entries are opened and unchecked
+unfoldable pub classRounds : ℕ → Class → List Round
+classRounds u Local = []
+classRounds u Owned = Own ∷ []
+classRounds u Opens = Own ∷ []
+classRounds u Output = checkRounds u First ++ (Open ∷ checkRounds u Second)
 
 unfoldable pub rounds : List ℕ → ℕ → List Round
-rounds c j = roundsOf (unchecked c j) (gate c j)
+rounds c j = classRounds (unchecked c j) (shape (gate c j) .class)
 
 -- is r one of these rounds?
 unfoldable pub among : Round → List Round → Bool
@@ -69,30 +66,35 @@ unfoldable pub following : Round → List Round → List Round
 following r [] = []
 following r (s ∷ rs) = cond (eqb (roundNumber r) (roundNumber s)) rs (following r rs)
 
--- a commitment is one word, the mark, and a reveal one word, the check share
-abbrev pub checkWords : ℕ
-checkWords = 1
+-- a commitment is one word, the mark
+abbrev pub commitWords : ℕ
+commitWords = 1
+
+-- and a reveal one word, the check share
+abbrev pub revealWords : ℕ
+revealWords = 1
 
 -- how many words a party sends in a round: the gate's own, or those of a check
-unfoldable pub words : Gate → Round → ℕ
-words g Input = shape g .words
-words g Multiply = shape g .words
-words g CommitOpened = checkWords
-words g RevealOpened = checkWords
-words g OpenOutput = shape g .words
-words g CommitOutput = checkWords
-words g RevealOutput = checkWords
+unfoldable pub shapeWords : Shape → Round → ℕ
+shapeWords s Own = s .words
+shapeWords s Open = s .words
+shapeWords s (Commit k) = commitWords
+shapeWords s (Reveal k) = revealWords
 
--- how many entries are opened and unchecked in a round, where u were when its gate was reached: u until the first check has passed,
--- none at the show, and then the shown value alone
+abbrev pub words : Gate → Round → ℕ
+words g r = shapeWords (shape g) r
+
+-- how many entries a check is of, where u are opened and unchecked when its gate is reached
+unfoldable pub checked : ℕ → Check → ℕ
+checked u First = u
+checked u Second = 1
+
+-- how many entries are opened and unchecked in a round: u until the first check has passed, none at the show, and then the shown value alone
 unfoldable pub openedIn : ℕ → Round → ℕ
-openedIn u Input = u
-openedIn u Multiply = u
-openedIn u CommitOpened = u
-openedIn u RevealOpened = u
-openedIn u OpenOutput = 0
-openedIn u CommitOutput = 1
-openedIn u RevealOutput = 1
+openedIn u Own = u
+openedIn u Open = 0
+openedIn u (Commit k) = checked u k
+openedIn u (Reveal k) = checked u k
 
 -- "draws are handed over when the seal is spoken, one for each opened entry in order"
 unfoldable pub coefficientsIn : ℕ → Round → ℕ

@@ -1,35 +1,33 @@
 -- What an accepted circuit is, gate by gate. That it is just what questions 3 to 7 accept is proved (`proofs/Valid.antt`).
 -- Assumes nothing.
-use Prim.Native.Nat.{ℕ, suc, _*_, _-_, _<_, _≤_}
+use Prim.Native.Nat.{ℕ, _*_, _-_, _<_, _≤_}
 use mathlib.Core.Path.{_≡_}
 use mathlib.Core.Bool.{true}
 use mathlib.Core.List.{List}
 use lib.ListN.{length}
-use Rattle.circuit.specs.Gate.{Gate, In, Add, Sub, Plus, Times, Mul, Out, gateSize, entry, gate, gates, kindIn, kindOut}
-use Rattle.circuit.specs.Kind.{hasValue, isOut, Unused}
-use Rattle.circuit.specs.Accept.{fewestGates, mostGates, role}
+use Rattle.circuit.specs.Gate.{gateSize, entry, gate, gates, firstKind, lastKind}
+use Rattle.circuit.specs.Kind.{shape, hasValue, isOut, Role, Unused, Party, Wire, Constant}
+use Rattle.circuit.specs.Accept.{fewestGates, mostGates}
 
 -- gate j may name gate x: it is earlier and has a value
 pub record Ref (c : List ℕ) (j x : ℕ) : Type 0 where
   pub earlier : x < j
   pub valued : hasValue (gate c x) ≡ true
 
--- what gate j names is there, and its constant is an element; n parties, q elements
-abbrev pub Names : ℕ → ℕ → List ℕ → ℕ → Gate → Type 0
-Names n q c j (In s) = s < n
-Names n q c j (Add x y) = Ref c j x × Ref c j y
-Names n q c j (Sub x y) = Ref c j x × Ref c j y
-Names n q c j (Plus x k) = Ref c j x × (k < q)
-Names n q c j (Times x k) = Ref c j x × (k < q)
-Names n q c j (Mul x y) = Ref c j x × Ref c j y
-Names n q c j (Out x) = Ref c j x
+-- a number x of gate j is what it is for: 0, a party, a gate that may be named, or an element; n parties, q elements
+abbrev pub Fits : ℕ → ℕ → List ℕ → ℕ → Role → ℕ → Type 0
+Fits n q c j Unused x = x ≡ 0
+Fits n q c j Party x = x < n
+Fits n q c j Wire x = Ref c j x
+Fits n q c j Constant x = x < q
 
--- gate j is one of the seven kinds, names what it may, and has 0 where a number is unused
+-- gate j is one of the seven kinds, and each of its numbers is what it is for
 pub record ValidGate (n q : ℕ) (c : List ℕ) (j : ℕ) : Type 0 where
-  pub low : kindIn ≤ entry c j 0
-  pub high : entry c j 0 ≤ kindOut
-  pub names : Names n q c j (gate c j)
-  pub unused : (k : ℕ) → k < 3 → role (gate c j) (suc k) ≡ Unused → entry c j (suc k) ≡ 0
+  pub low : firstKind ≤ entry c j 0
+  pub high : entry c j 0 ≤ lastKind
+  pub first : Fits n q c j (shape (gate c j) .first) (gate c j .first)
+  pub second : Fits n q c j (shape (gate c j) .second) (gate c j .second)
+  pub constant : Fits n q c j (shape (gate c j) .constant) (gate c j .constant)
 
 pub record Valid (n q : ℕ) (c : List ℕ) : Type 0 where
   pub whole : length c ≡ gateSize * gates c

@@ -1,7 +1,4 @@
--- The prime field as an instance of the laws, what follows from the laws for every field, and products: their bounds and their sums.
-pub mod PrimeField
-pub mod Ring
-pub mod Solver
-pub mod Sums
+-- The prime field as an instance of the laws, and products: their bounds and their sums.
+pub mod Laws
 pub mod Bounds
 pub mod Products

@@ -5,8 +5,8 @@ use mathlib.Core.Path.{_≡_, ap, sym, _∙_}
 use native.Mathlib.Omega.{arith}
 use Rattle.field.specs.Prime.{p, norm, add, mul}
 use Rattle.field.specs.Prime.Laws.{norm-eq, add-eq, mul-eq, add-norm}
-use Rattle.field.proofs.PrimeField.{primeField}
-use Rattle.field.proofs.Ring.{add-norm-r}
+use Rattle.field.proofs.Laws.{laws}
+use Rattle.algebra.proofs.Ring.{add-norm-r}
 
 -- The element of a product of numbers is the product.
 pub norm-product : (x y : ℕ) → norm (x * y) ≡ mul x y
@@ -18,7 +18,7 @@ norm-more s x y =
     norm-eq (s + x * y)
     ∙ sym (add-eq s (x * y))
     ∙ sym (add-norm s (x * y))
-    ∙ sym (add-norm-r primeField (norm s) (x * y))
+    ∙ sym (add-norm-r laws (norm s) (x * y))
     ∙ ap (add (norm s)) (norm-product x y)
 
 -- A number from which p * p is taken off stands for the same element.

@@ -1,5 +1,3 @@
--- The field: its operations, its laws, sums of its elements, and the numbers below the prime that the code works with.
-pub mod Ops
-pub mod Field
-pub mod Sum
+-- The field of the prime that the code works with, and the names by which the crates above know it.
 pub mod Prime
+pub mod Words

@@ -1,9 +1,8 @@
 -- The field of the prime p, which the code works with. Its operations are shut: outside this module and the module below it nothing
 -- is known of them but what Laws says.
 -- Assumes nothing.
-use Prim.Native.Nat.{ℕ, _+_, _*_, _-_, _%_, _<_}
-use mathlib.Core.Path.{_≡_}
-use Rattle.field.specs.Ops.{Ops}
+use Prim.Native.Nat.{ℕ, _+_, _*_, _-_, _%_}
+use Rattle.algebra.specs.Ops.{Ops}
 pub mod Laws
 
 -- The size of the field, the prime 2^31 - 1 of document 01.
@@ -45,8 +44,3 @@ modular =
       sub = λ x y. (x + (p - y % p)) % p;
       mul = λ x y. (x * y) % p;
     }
-
--- What a function ensures of its result r: it is v, and it is below p.
-pub record Is (v r : ℕ) : Type 0 where
-  pub is : r ≡ v
-  pub below : r < p

@@ -8,7 +8,7 @@ use native.Mathlib.Omega.{arith}
 use lib.ListN.{length}
 use lib.Dec.{leb}
 use borrow.Author.Tests.{leb-true, eqb-true}
-use Rattle.field.specs.Prime.{p}
+use Rattle.field.specs.Words.{size}
 use Rattle.circuit.specs.Verdict.{Verdict, Accepted, _then_}
 use Rattle.circuit.specs.Count.{prepSize, inCount, outCount}
 use Rattle.circuit.specs.Round.{wordCount, coefficientCount}
@@ -17,17 +17,17 @@ use Rattle.circuit.specs.Valid.{Valid}
 use Rattle.circuit.proofs.Tests.{both-left, both-right}
 use Rattle.circuit.proofs.Verdicts.{ask-true, then-left, then-right, elements-below}
 use Rattle.circuit.proofs.Valid.{valid}
-use Rattle.steps.specs.Scratch.{layout, scratchSize}
-use Rattle.party.specs.Ask.{askParties, fewestParties, mostParties}
-use Rattle.party.proofs.Loops.{then-assoc}
-use Rattle.joint.specs.Joint.{Joint}
-use Rattle.joint.specs.Ask.{askJoint}
+use Rattle.protocol.specs.Scratch.{layout, scratchSize}
+use Rattle.protocol.specs.Ask.{askParties, fewestParties, mostParties}
+use Rattle.circuit.proofs.Loops.{then-assoc}
+use Rattle.protocol.specs.Joint.{Joint}
+use Rattle.protocol.specs.JointAsk.{askJoint}
 use Rattle.joint.specs.declared.Frame.{Frame}
 use Rattle.joint.specs.Code.{Framed, listsOf, roomsOf, Runnable}
 
 -- 1 and 3 to 7
 abbrev pub settingOf : ℕ → List ℕ → Verdict
-settingOf n c = askParties n then askCircuit n p c
+settingOf n c = askParties n then askCircuit n size c
 
 -- and the others
 abbrev pub lentOf : ℕ → List ℕ → List ℕ → List ℕ → ℕ → List ℕ → ℕ → ℕ → Verdict
@@ -38,7 +38,7 @@ lentOf n c preps inputs room coefficients transcript outputs =
 -- The groups make up the questions of the joint run ..
 pub asked : (J : Joint) (l : List ℕ) (transcript outputs : ℕ)
     → (settingOf (J .parties) (J .circuit) then lentOf (J .parties) (J .circuit) (J .preps) (J .inputs) (length l) (J .coefficients) transcript outputs)
-    ≡ askJoint p J l transcript outputs
+    ≡ askJoint size J l transcript outputs
 unfolding askJoint
 asked J l transcript outputs = simp then-assoc
 
@@ -58,7 +58,7 @@ lent-asked n c preps inputs room coefficients transcript outputs e₁ e₂ e₃ 
 pub record Settled (n : ℕ) (c : List ℕ) : Type 0 where
   pub some : fewestParties ≤ n
   pub few : n ≤ mostParties
-  pub valid : Valid n p c
+  pub valid : Valid n size c
 
 pub settled : (n : ℕ) (c : List ℕ) → settingOf n c ≡ Accepted → Settled n c
 unfolding askParties
@@ -67,7 +67,7 @@ settled n c e =
     record {
       some = leb-true fewestParties n (both-left (leb fewestParties n) (leb n mostParties) b);
       few = leb-true n mostParties (both-right (leb fewestParties n) (leb n mostParties) b);
-      valid = valid n p c (then-right _ _ e);
+      valid = valid n size c (then-right _ _ e);
     }
 
 module _ (J : Joint) (l : List ℕ) (transcript outputs : ℕ) (first : Settled (J .parties) (J .circuit))
@@ -95,15 +95,15 @@ module _ (J : Joint) (l : List ℕ) (transcript outputs : ℕ) (first : Settled 
               few = first .few;
               valid = first .valid;
               preps-long = eqb-true _ _ (ask-true 8 0 _ (then-left _ _ l₈));
-              preps-low = elements-below 9 p (J .preps) (omega arith) (then-left _ _ l₉);
+              preps-low = elements-below 9 size (J .preps) (omega arith) (then-left _ _ l₉);
               inputs-long = eqb-true _ _ (ask-true 10 0 _ (then-left _ _ l₁₀));
-              inputs-low = elements-below 11 p (J .inputs) (omega arith) (then-left _ _ l₁₁);
+              inputs-low = elements-below 11 size (J .inputs) (omega arith) (then-left _ _ l₁₁);
             };
         room =
             rw (framed .scratch)
             (leb-true (J .parties * scratchSize (layout (J .circuit))) (length l) (ask-true 12 0 (leb (J .parties * scratchSize (layout (J .circuit))) (length l)) (then-right _ _ l₁₁)));
         coefficient-count = eqb-true _ _ (ask-true 16 0 _ (then-left _ _ rooms));
-        coefficients-low = elements-below 17 p (J .coefficients) (omega arith) (then-left _ _ r₁₇);
+        coefficients-low = elements-below 17 size (J .coefficients) (omega arith) (then-left _ _ r₁₇);
         words-fit = rw et at (leb-true (J .parties * wordCount (J .circuit)) transcript (both-left (leb (J .parties * wordCount (J .circuit)) transcript) (leb (outCount (J .circuit)) outputs) b));
         outputs-fit = rw eo at (leb-true (outCount (J .circuit)) outputs (both-right (leb (J .parties * wordCount (J .circuit)) transcript) (leb (outCount (J .circuit)) outputs) b));
       }

@@ -1,6 +1,6 @@
 -- Arrays with a number for each party, filled one after another.
 -- Assumes nothing.
-use Prim.Native.Nat.{ℕ, zero, suc, _+_, _<_, _≤_}
+use Prim.Native.Nat.{ℕ, suc, _+_, _<_, _≤_}
 use mathlib.Core.Path.{_≡_, refl, sym, ap, _∙_}
 use mathlib.Core.Bool.{true, false, cond}
 use mathlib.Core.List.{List}
@@ -11,33 +11,19 @@ use lib.ListN.{length, getD, set, replicate, length-set}
 use lib.Seq.{getD-set-same, getD-set-other}
 use lib.Dec.{eqb}
 use borrow.Author.Tests.{eq-eqb, ne-eqb}
-use Rattle.field.specs.Prime.{p}
-use Rattle.circuit.specs.Gate.{first, gate, gates}
+use Rattle.field.specs.Words.{size}
+use Rattle.circuit.specs.Gate.{gate, gates}
 use Rattle.circuit.specs.Kind.{isIn, ownedBy}
 use Rattle.circuit.specs.Count.{total, count, inputAt, inputCount}
 use Rattle.circuit.specs.Accept.{mostGates}
 use Rattle.circuit.specs.Valid.{Valid}
 use Rattle.circuit.proofs.Counts.{total-mono, input-more, input-le, in-count-le}
-use Rattle.party.specs.Ask.{mostParties}
-use Rattle.steps.proofs.HeardWords.{owner-low}
-use Rattle.joint.specs.Joint.{inputsAt}
+use Rattle.protocol.specs.Ask.{mostParties}
+use Rattle.protocol.proofs.HeardWords.{owner-low}
+use Rattle.protocol.specs.Joint.{inputsAt}
 use Rattle.joint.specs.Code.{Small, Counted, CountedOn, Placed}
-use Rattle.joint.proofs.Inputs.{inputs-all, starts-suc, starts-mono}
-
-module _ {A : Type 0} (d : A) (P : ℕ → A → Type 0) (xs : List A) (i : ℕ) (x : A) where
-  -- What holds of each entry before i, and of what is set at i, holds of each before i + 1.
-  pub each-set : i < length xs → ((k : ℕ) → k < i → P k (getD xs k d)) → P i x → (k : ℕ) → k < i + 1 → P k (getD (set xs i x) k d)
-  each-set h before here k l = go (ℕ-discrete k i)
-    where
-      go : Dec (k ≡ i) → P k (getD (set xs i x) k d)
-      go (yes e) = rw (e, getD-set-same xs i x d h) here
-      go (no e) = rw (getD-set-other xs i k x d e) (before k (omega arith))
-
--- an array of zeros
-pub zeros : (n i : ℕ) → _≡_ {A = ℕ} (getD (replicate n 0) i 0) 0
-zeros zero i = refl
-zeros (suc n) zero = refl
-zeros (suc n) (suc i) = zeros n i
+use Rattle.protocol.proofs.Gathering.{each-set, zeros}
+use Rattle.protocol.proofs.Inputs.{inputs-all, starts-suc, starts-mono}
 
 -- no party had an input before the first gate
 none-yet : (c : List ℕ) (i : ℕ) → inputAt c i 0 ≡ 0
@@ -51,7 +37,7 @@ module _ {n : ℕ} {c : List ℕ} {j : ℕ} {before : List ℕ} (k : Small n bef
   counted-other e =
       record { eight = k .eight; each = λ i h. let z : inputAt c i (j + 1) ≡ inputAt c i j + 0 = rw e at (input-more c i j) in omega (arith, z) }
 
-  module _ (v : Valid n p c) (few : n ≤ mostParties) (h : j < gates c) (e : isIn (gate c j) ≡ true) {s : ℕ} (es : s ≡ first (gate c j)) where
+  module _ (v : Valid n size c) (few : n ≤ mostParties) (h : j < gates c) (e : isIn (gate c j) ≡ true) {s : ℕ} (es : s ≡ gate c j .first) where
     owner-party : s < n
     owner-party = rw es (owner-low v h e)
 
@@ -107,7 +93,7 @@ module _ (n : ℕ) (c : List ℕ) where
   unfolding inputsAt
   starting h = record { upto = omega arith; eight = h; place = refl; are = λ k l. absurd (omega arith) }
 
-  module _ (v : Valid n p c) {to : ℕ} (whole : to ≡ gates c) {counts : List ℕ} (d : Counted n c to counts)
+  module _ (v : Valid n size c) {to : ℕ} (whole : to ≡ gates c) {counts : List ℕ} (d : Counted n c to counts)
       {starts : List ℕ} {at i : ℕ} (inv : Starting starts at i) (h : i < n) where
     next-start : at + getD counts i 0 ≡ inputsAt c (i + 1)
     unfolding inputCount
@@ -131,7 +117,7 @@ module _ (n : ℕ) (c : List ℕ) where
 
 -- where parties stand in the joined inputs
 module _ {n : ℕ} {c : List ℕ} {j : ℕ} {places : List ℕ} (k : Placed n c j places) where
-  pub placed-small : Valid n p c → j ≤ gates c → Small n places
+  pub placed-small : Valid n size c → j ≤ gates c → Small n places
   unfolding inputAt inputCount count
   placed-small v h =
       record {

@@ -7,16 +7,17 @@ use native.Mathlib.Nat.{add-sub-cancel-left}
 use native.Mathlib.Omega.{arith}
 use lib.ListN.{length, getD, take, drop, length-drop}
 use lib.Seq.{length-take-le, take-add, drop-at, drop-drop, getD-take, getD-drop}
-use Rattle.field.specs.Prime.{p}
-use Rattle.steps.specs.Scratch.{scratchSize}
-use Rattle.steps.specs.Code.{layoutOf, Below}
-use Rattle.steps.proofs.Readiness.{part-below}
-use Rattle.joint.specs.Joint.{band}
+use Rattle.field.specs.Words.{size}
+use Rattle.protocol.specs.Scratch.{scratchSize}
+use Rattle.protocol.specs.Holding.{Below}
+use Rattle.protocol.specs.Code.{layoutOf}
+use Rattle.protocol.proofs.Readiness.{part-below}
+use Rattle.protocol.specs.Joint.{band}
 use Rattle.joint.specs.declared.Frame.{Frame}
 use Rattle.joint.specs.Code.{prepFrom, keyIn, Prepared, Banded}
-use Rattle.joint.proofs.Words.{length-band}
-use Rattle.joint.proofs.Bands.{band-end}
-use Rattle.joint.proofs.Said.{below-part}
+use Rattle.protocol.proofs.Words.{length-band}
+use Rattle.protocol.proofs.Bands.{band-end}
+use Rattle.protocol.proofs.Said.{below-part}
 
 -- a part's part
 drop-take : (a m : ℕ) (xs : List ℕ) → a ≤ length xs → drop a (take (a + m) xs) ≡ take m (drop a xs)
@@ -38,11 +39,11 @@ module _ {f : Frame} {preps : List ℕ} {a k : ℕ} (q : Prepared f preps a k) (
   pub cut-long : k ≤ length (prepFrom f preps a i)
   cut-long = simp length-drop (omega (arith, length-band (f .prep) (f .parties) preps (q .long) i h, q .fits))
 
-  band-low : Below (band (f .prep) preps i)
+  band-low : Below size (band (f .prep) preps i)
   unfolding band
   band-low = below-part preps (f .prep) (i * f .prep) (q .low)
 
-  pub cut-low : Below (prepFrom f preps a i)
+  pub cut-low : Below size (prepFrom f preps a i)
   cut-low = part-below a (band (f .prep) preps i) refl band-low
 
   -- the first number is the key share
@@ -53,7 +54,7 @@ module _ {f : Frame} {preps : List ℕ} {a k : ℕ} (q : Prepared f preps a k) (
   unfolding band
   key-is s = sym (getD-take (f .prep) (drop (i * f .prep) preps) 0 0 (omega (arith, q .fits)) ∙ getD-drop (i * f .prep) preps 0 0 ∙ ap (λ (z : ℕ). getD preps z 0) (omega arith))
 
-  pub key-low : keyIn f preps i < p
+  pub key-low : keyIn f preps i < size
   key-low = band-low 0
 
 module _ {f : Frame} {l : List ℕ} (b : Banded f l) (i : ℕ) (h : i < f .parties) where

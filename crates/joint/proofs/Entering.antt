@@ -4,18 +4,18 @@ use Prim.Native.Nat.{ℕ, _≤_}
 use mathlib.Core.Path.{_≡_, refl, sym, ap, subst, _∙_}
 use mathlib.Core.List.{List}
 use lib.ListN.{length}
-use Rattle.field.specs.Prime.{p, prime}
+use Rattle.field.specs.Words.{size, ops}
 use Rattle.circuit.specs.Verdict.{Verdict, Accepted, Refused}
 use Rattle.circuit.specs.Gate.{gates}
 use Rattle.circuit.specs.Valid.{Valid}
 use Rattle.circuit.specs.Code.{Totalled}
 use Rattle.circuit.specs.declared.Totals.{Totals}
 use Rattle.circuit.proofs.Verdicts.{then-refused, then-passed}
-use Rattle.party.specs.Ask.{mostParties}
-use Rattle.party.specs.Entry.{leave}
-use Rattle.joint.specs.Joint.{Joint}
-use Rattle.joint.specs.Ask.{askJoint}
-use Rattle.joint.specs.Entry.{JointAnswer, Refusal, jointly, verdict, jointAnswer, jointScratch, jointTranscript, jointOutputs}
+use Rattle.protocol.specs.Ask.{mostParties}
+use Rattle.protocol.specs.Entry.{leave}
+use Rattle.protocol.specs.Joint.{Joint}
+use Rattle.protocol.specs.JointAsk.{askJoint}
+use Rattle.protocol.specs.JointEntry.{JointAnswer, Refusal, jointly, verdict, jointAnswer, jointScratch, jointTranscript, jointOutputs}
 use Rattle.joint.specs.declared.JointAnswer as D
 use Rattle.joint.specs.declared.Frame.{Frame}
 use Rattle.joint.specs.Code.{jointOf, jointAnswerOf, Placed, Framed, Runnable, Ran}
@@ -25,22 +25,22 @@ use Rattle.joint.proofs.Accepting.{settingOf, lentOf, asked, Settled, s
 -- what the entry ensures
 abbrev Ensured : Joint → List ℕ → List ℕ → List ℕ → JointAnswer → List ℕ → List ℕ → List ℕ → Type 0
 Ensured J l t o a l′ t′ o′ =
-    (a ≡ jointAnswer prime J l t o)
-    × ((l′ ≡ jointScratch prime J l t o) × ((t′ ≡ jointTranscript prime J l t o) × (o′ ≡ jointOutputs prime J l t o)))
+    (a ≡ jointAnswer ops J l t o)
+    × ((l′ ≡ jointScratch ops J l t o) × ((t′ ≡ jointTranscript ops J l t o) × (o′ ≡ jointOutputs ops J l t o)))
 
 -- what is asked of the frame
 pub frame-asked : {n : ℕ} {c : List ℕ} {f : Frame} {m : ℕ} {t : Totals} → Settled n c → Framed n c f → m ≡ gates c → Totalled c m t
-    → Valid (f .parties) p c × (f .parties ≤ mostParties) × Framed (f .parties) c f × Totalled c (f .layout .gates) t
+    → Valid (f .parties) size c × (f .parties ≤ mostParties) × Framed (f .parties) c f × Totalled c (f .layout .gates) t
 frame-asked {c = c} {f = f} {t = t} s framed count all =
-    subst (λ (k : ℕ). Valid k p c × (k ≤ mostParties) × Framed k c f × Totalled c (f .layout .gates) t) (sym (framed .parties))
+    subst (λ (k : ℕ). Valid k size c × (k ≤ mostParties) × Framed k c f × Totalled c (f .layout .gates) t) (sym (framed .parties))
     (s .valid, s .few, framed, rw (gates-are (s .valid) framed, ← count) all)
 
 module _ (J : Joint) (l t o : List ℕ) where
-  entry-refused : {number index : ℕ} → askJoint p J l (length t) (length o) ≡ Refused number index → Ensured J l t o (Refusal number index) l t o
+  entry-refused : {number index : ℕ} → askJoint size J l (length t) (length o) ≡ Refused number index → Ensured J l t o (Refusal number index) l t o
   unfolding jointAnswer jointScratch jointTranscript jointOutputs verdict jointly leave
   entry-refused e = (rw e, (rw e, (rw e, rw e)))
 
-  entry-ran : askJoint p J l (length t) (length o) ≡ Accepted → {a : D.JointAnswer} {l′ t′ o′ : List ℕ} → Ran J l t o a l′ t′ o′
+  entry-ran : askJoint size J l (length t) (length o) ≡ Accepted → {a : D.JointAnswer} {l′ t′ o′ : List ℕ} → Ran J l t o a l′ t′ o′
       → Ensured J l t o (jointAnswerOf a) l′ t′ o′
   unfolding jointAnswer jointScratch jointTranscript jointOutputs verdict jointly leave
   entry-ran e d = (rw e (d .answer), (rw e (d .scratch), (rw e (d .transcript), rw e (d .outputs))))
@@ -57,7 +57,7 @@ module _ (n : ℕ) (c preps inputs coefficients l t o : List ℕ) (s : settingOf
   abbrev lent : Verdict
   lent = lentOf (f .parties) c preps inputs (length l) coefficients (length t) (length o)
 
-  lent-is : lent ≡ askJoint p J l (length t) (length o)
+  lent-is : lent ≡ askJoint size J l (length t) (length o)
   lent-is =
       ap (λ (k : ℕ). lentOf k c preps inputs (length l) coefficients (length t) (length o)) (framed .parties)
       ∙ sym (then-passed _ s)

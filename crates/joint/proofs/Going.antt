@@ -1,35 +1,36 @@
 -- A round leaves what the next round asks.
 -- Assumes nothing.
 use Prim.Native.Nat.{ℕ, _+_, _<_, _≤_}
-use mathlib.Core.Path.{_≡_, refl, ap}
-use mathlib.Core.Bool.{true}
+use mathlib.Core.Path.{_≡_, refl, sym, ap, _∙_}
+use mathlib.Core.Bool.{true, false}
 use mathlib.Core.List.{List}
 use native.Mathlib.Omega.{arith}
-use lib.ListN.{length}
-use Rattle.field.specs.Prime.{prime}
-use Rattle.field.proofs.PrimeField.{primeField}
+use lib.ListN.{length, getD}
+use Rattle.field.specs.Words.{ops, size}
+use Rattle.field.proofs.Laws.{laws}
 use Rattle.circuit.specs.Gate.{gates}
 use Rattle.circuit.specs.Count.{unchecked}
-use Rattle.circuit.specs.Round.{Round, rounds, among, coefficientsIn}
-use Rattle.steps.specs.Position.{Point, Send, stageOccurs}
-use Rattle.steps.specs.Receive.{next, received}
-use Rattle.steps.specs.Code.{pointOf, Sited, Ready}
-use Rattle.steps.proofs.Following.{Possible, next-possible}
-use Rattle.steps.proofs.Points.{FitsStage}
-use Rattle.steps.proofs.Keeping.{ready-stood, received-stands, ready-next}
-use Rattle.joint.specs.Joint.{Joint, band, party}
-use Rattle.joint.specs.Run.{said, step}
+use Rattle.circuit.specs.Round.{Round, isCommit, isReveal, rounds, among, coefficientsIn}
+use Rattle.protocol.specs.Position.{Point, Send, keep, stageOccurs, mayHold}
+use Rattle.protocol.specs.Receive.{next, received}
+use Rattle.protocol.specs.Code.{pointOf, Sited}
+use Rattle.protocol.specs.Ready.{Ready}
+use Rattle.protocol.proofs.Following.{Possible, next-possible, next-holds}
+use Rattle.protocol.proofs.Points.{FitsStage}
+use Rattle.protocol.proofs.Keeping.{ready-stood, received-stands, ready-next}
+use Rattle.protocol.specs.Joint.{Joint, band, party}
+use Rattle.protocol.specs.Run.{said, step}
 use Rattle.joint.specs.declared.Frame.{Frame}
 use Rattle.joint.specs.declared.Course.{Course}
 use Rattle.joint.specs.Code.{siteOf, stateOf, Going, Turned}
 
-module _ (J : Joint) (f : Frame) (s : Course) (r : Round) (l : List ℕ) (g : Going J f s r l) where
+module _ (J : Joint) (f : Frame) (s : Course) (r : Round) (held l : List ℕ) (g : Going J f s r held l) where
   -- the words of all in this round
   abbrev pub heardIn : List ℕ
-  heardIn = said prime J (stateOf f s l) r
+  heardIn = said ops J (stateOf f s held l) r
 
   abbrev pub nextIn : Point
-  nextIn = next prime (J .parties) (J .circuit) (s .point .gate) r heardIn
+  nextIn = next ops (J .parties) (J .circuit) (s .point .gate) r heardIn
 
   first : 0 < J .parties
   first = omega (arith, g .lent .some)
@@ -44,9 +45,9 @@ module _ (J : Joint) (f : Frame) (s : Course) (r : Round) (l : List ℕ) (g : Go
   occurs = g .ready 0 first .occurs
 
   pub next-there : Possible (J .circuit) nextIn
-  next-there = next-possible (J .circuit) prime (J .parties) (s .point .gate) heardIn r occurs within
+  next-there = next-possible (J .circuit) ops (J .parties) (s .point .gate) heardIn r occurs within
 
-  module _ {t o : List ℕ} {s′ : Course} {l′ t′ o′ : List ℕ} (d : Turned J f s r l t o s′ l′ t′ o′) where
+  module _ {t o : List ℕ} {s′ : Course} {held′ l′ t′ o′ : List ℕ} (d : Turned J f s r held l t o s′ held′ l′ t′ o′) where
     -- where the round leads
     pub point-is : pointOf (s′ .point) ≡ nextIn
     unfolding stateOf step pointOf
@@ -71,27 +72,37 @@ module _ (J : Joint) (f : Frame) (s : Course) (r : Round) (l : List ℕ) (g : Go
           input = refl;
         }
 
-    received-is : (i : ℕ) → i < J .parties → band (f .scratch) l′ i ≡ received prime (party J i) (band (f .scratch) l i) (s .point .gate) r heardIn
+    received-is : (i : ℕ) → i < J .parties → band (f .scratch) l′ i ≡ received ops (party J i) (band (f .scratch) l i) (s .point .gate) r heardIn
     unfolding stateOf step pointOf
     received-is i h = d .alike .scratch i h
 
-    ready-then : (r′ : Round) → nextIn .stage ≡ Send r′ → (i : ℕ) → i < J .parties → Ready (party J i) (band (f .scratch) l′ i) (f .layout) (siteOf (J .circuit) s′ i) r′
+    ready-then : (r′ : Round) → nextIn .stage ≡ Send r′ → (i : ℕ) → i < J .parties → Ready size (party J i) (band (f .scratch) l′ i) (f .layout) (siteOf (J .circuit) s′ i) r′
     unfolding siteOf party
     ready-then r′ e i h =
         ready-next (party J i) (band (f .scratch) l i) (band (f .scratch) l′ i) (f .layout) (siteOf (J .circuit) s i) (siteOf (J .circuit) s′ i) r r′ nextIn (g .ready i h)
-        (rw (received-is i h) (received-stands primeField (party J i) (band (f .scratch) l i) (s .point .gate) heardIn r (ready-stood (g .ready i h))))
+        (rw (received-is i h) (received-stands laws (party J i) (band (f .scratch) l i) (s .point .gate) heardIn r (ready-stood (g .ready i h))))
         (next-there .occurs) (sited i h) gate-is e
+
+    -- a check share is held where the next round is a reveal alone
+    none-held : (r′ : Round) → nextIn .stage ≡ Send r′ → isReveal r′ ≡ false → (i : ℕ) → i < J .parties → getD held′ i 0 ≡ 0
+    unfolding stateOf step keep mayHold
+    none-held r′ e n i h =
+        let z : isCommit r ≡ false =
+        sym (next-holds (J .circuit) ops (J .parties) (s .point .gate) heardIn r occurs) ∙ ap mayHold e ∙ n in
+        d .alike .held i h ∙ rw z
 
     -- what the next round asks, if there is one and the coefficients last
     pub going-next : (r′ : Round) → nextIn .stage ≡ Send r′
         → s′ .used + coefficientsIn (unchecked (J .circuit) (s′ .point .gate)) r′ ≤ length (J .coefficients)
-        → Going J f s′ r′ l′
+        → Going J f s′ r′ held′ l′
     going-next r′ e coefficient-count =
         record {
           lent = g .lent;
           room = omega (arith, g .room, d .long);
           tallied = d .tallied;
+          eight = d .eight;
           held-low = d .held-low;
+          held-none = none-held r′ e;
           ready = ready-then r′ e;
           coefficient-count = coefficient-count;
           coefficients-low = g .coefficients-low;

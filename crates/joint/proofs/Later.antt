@@ -8,20 +8,20 @@ use mathlib.Core.Logic.{inl, inr, ⊎-elim}
 use native.Mathlib.Decide.{ℕ-discrete}
 use native.Mathlib.Numerals.{add-one}
 use native.Mathlib.Omega.{arith}
-use Rattle.field.specs.Prime.{prime}
-use Rattle.circuit.specs.Gate.{Gate, In, Add, Sub, Plus, Times, Mul, Out, kind, gate, gates}
-use Rattle.circuit.specs.Kind.{isIn, isOut, isLinear, ownedBy, shape}
+use Rattle.algebra.specs.Ops.{Ops}
+use Rattle.circuit.specs.Gate.{Gate, gate, gates}
+use Rattle.circuit.specs.Kind.{Local, isOut, isLinear, ownedBy, shape}
 use Rattle.circuit.specs.Count.{total, count, prepAt, inputAt, unchecked}
 use Rattle.circuit.specs.Round.{Round}
 use Rattle.circuit.specs.Valid.{Valid}
 use Rattle.circuit.specs.Code.{Tallied}
 use Rattle.circuit.specs.declared.Tally.{Tally}
 use Rattle.circuit.proofs.Counts.{total-mono}
-use Rattle.circuit.proofs.Tests.{false-no}
-use Rattle.steps.specs.Position.{Point, finished, aborted, reach, resume, follow}
-use Rattle.steps.specs.Receive.{passes, next}
-use Rattle.steps.proofs.Following.{unchecked-reach}
-use Rattle.steps.proofs.Points.{Reached, reached, Entered, ended, begun, entered, Followed, stays, leaves, followed}
+use Rattle.circuit.proofs.KindLaws.{is-class, local-no-in, local-no-out, local-facts}
+use Rattle.protocol.specs.Position.{Point, finished, aborted, reach, resume, follow}
+use Rattle.protocol.specs.Receive.{passes, next}
+use Rattle.protocol.proofs.Following.{unchecked-reach}
+use Rattle.protocol.proofs.Points.{Reached, reached, Entered, ended, begun, entered, Followed, stays, leaves, followed}
 use Rattle.joint.specs.Code.{Onward, Placed}
 
 -- A linear gate has no record, opens nothing and is nobody's.
@@ -32,14 +32,10 @@ record Idle (g : Gate) : Type 0 where
   pub no-out : isOut g ≡ false
 
 idle : (g : Gate) → isLinear g ≡ true → Idle g
-unfolding shape isLinear ownedBy isIn isOut kind
-idle (In s) e = false-no e
-idle (Add x y) e = record { prep = refl; openings = refl; nobody = λ i. refl; no-out = refl }
-idle (Sub x y) e = record { prep = refl; openings = refl; nobody = λ i. refl; no-out = refl }
-idle (Plus x k) e = record { prep = refl; openings = refl; nobody = λ i. refl; no-out = refl }
-idle (Times x k) e = record { prep = refl; openings = refl; nobody = λ i. refl; no-out = refl }
-idle (Mul x y) e = false-no e
-idle (Out x) e = false-no e
+unfolding ownedBy
+idle g e =
+    let k : shape g .class ≡ Local = is-class Local e in
+    record { prep = local-facts g k .prep; openings = local-facts g k .openings; nobody = λ i. rw (local-no-in k); no-out = local-no-out k }
 
 module _ (c : List ℕ) where
   -- So a sum to which such gates add nothing passes over them.
@@ -125,9 +121,9 @@ module _ (c : List ℕ) where
       go x (begun r rs m e b q) = rw q (inr (ap (λ (m : ℕ). reach c (gates c - m) m) (sym (add-one j))))
 
   -- The point after a round is at the gate or at the stop after it.
-  pub next-onward : {n q : ℕ} → Valid n q c → (m j : ℕ) (r : Round) (heard : List ℕ) → j < gates c → Onward c j (next prime m c j r heard .gate)
+  pub next-onward : {n q : ℕ} → Valid n q c → (O : Ops) (m j : ℕ) (r : Round) (heard : List ℕ) → j < gates c → Onward c j (next O m c j r heard .gate)
   unfolding next aborted
-  next-onward v m j r heard h = go (passes prime m r heard)
+  next-onward v O m j r heard h = go (passes O m r heard)
     where
       from : (x : Point) → Followed c j r x → Onward c j (x .gate)
       from x (stays r′ rest e q) = rw q (inl refl)

@@ -6,7 +6,7 @@ use mathlib.Core.List.{List}
 use native.Mathlib.Nat.{mul-le-mul}
 use native.Mathlib.Omega.{arith}
 use lib.ListN.{length}
-use Rattle.field.specs.Prime.{p}
+use Rattle.field.specs.Words.{size}
 use Rattle.circuit.specs.Gate.{gateSize, gates}
 use Rattle.circuit.specs.Kind.{shape, isIn, isOut}
 use Rattle.circuit.specs.Count.{total, count, prepAt, prepSize, capacity, inCount, outCount}
@@ -16,10 +16,10 @@ use Rattle.circuit.specs.Valid.{Valid}
 use Rattle.circuit.specs.Code.{Totalled}
 use Rattle.circuit.specs.declared.Totals.{Totals}
 use Rattle.circuit.proofs.Counts.{prep-size-le, capacity-le}
-use Rattle.circuit.proofs.Rounds.{words-run-le}
-use Rattle.steps.specs.Scratch.{Layout, layout, scratchSize}
-use Rattle.steps.specs.Code.{layoutOf}
-use Rattle.party.specs.Ask.{mostParties}
+use Rattle.circuit.proofs.RoundLaws.{words-run-le}
+use Rattle.protocol.specs.Scratch.{Layout, layout, scratchSize}
+use Rattle.protocol.specs.Code.{layoutOf}
+use Rattle.protocol.specs.Ask.{mostParties}
 use Rattle.joint.specs.declared.Frame.{Frame}
 use Rattle.joint.specs.Code.{Framed}
 
@@ -27,7 +27,7 @@ use Rattle.joint.specs.Code.{Framed}
 product-few : {n x : ℕ} (k : ℕ) → n ≤ mostParties → x ≤ k → n * x ≤ mostParties * k
 product-few k h g = mul-le-mul h g
 
-module _ {n : ℕ} {c : List ℕ} (v : Valid n p c) where
+module _ {n : ℕ} {c : List ℕ} (v : Valid n size c) where
   -- the code's number of gates
   pub count-is : length c / gateSize ≡ gates c
   unfolding gates

@@ -10,13 +10,14 @@ use Rattle.circuit.specs.Gate.{gate, gates}
 use Rattle.circuit.specs.Kind.{shape}
 use Rattle.circuit.specs.Count.{prepAt, prepSize, inputCount}
 use Rattle.circuit.proofs.Counts.{prep-within, prep-positive}
-use Rattle.steps.specs.Code.{Below}
-use Rattle.joint.specs.Joint.{Joint, band, inputsAt, party}
+use Rattle.field.specs.Words.{size}
+use Rattle.protocol.specs.Holding.{Below}
+use Rattle.protocol.specs.Joint.{Joint, band, inputsAt, party}
 use Rattle.joint.specs.declared.Frame.{Frame}
 use Rattle.joint.specs.Code.{jointOf, Lent, prepFrom, keyIn, Prepared, Banded}
-use Rattle.joint.proofs.Words.{length-band}
-use Rattle.joint.proofs.Said.{below-part}
-use Rattle.joint.proofs.Inputs.{inputs-all, starts-suc, starts-mono}
+use Rattle.protocol.proofs.Words.{length-band}
+use Rattle.protocol.proofs.Said.{below-part}
+use Rattle.protocol.proofs.Inputs.{inputs-all, starts-suc, starts-mono}
 
 -- Coefficients are no party's own.
 abbrev pub undrawn : Joint → Joint
@@ -49,7 +50,7 @@ module _ {J : Joint} {f : Frame} (h : Lent J f) (i : ℕ) (l : i < J .parties) w
   unfolding party
   party-prep = length-band (prepSize (J .circuit)) (J .parties) (J .preps) (omega (arith, h .preps-long)) i l
 
-  pub party-prep-low : Below (party J i .prep)
+  pub party-prep-low : Below size (party J i .prep)
   unfolding party band
   party-prep-low = below-part (J .preps) (prepSize (J .circuit)) (i * prepSize (J .circuit)) (h .preps-low)
 
@@ -59,7 +60,7 @@ module _ {J : Joint} {f : Frame} (h : Lent J f) (i : ℕ) (l : i < J .parties) w
       length-take-le (inputCount (J .circuit) i) (drop (inputsAt (J .circuit) i) (J .inputs))
       (simp length-drop (omega (arith, inputs-end)))
 
-  pub party-inputs-low : Below (party J i .inputs)
+  pub party-inputs-low : Below size (party J i .inputs)
   unfolding party
   party-inputs-low = below-part (J .inputs) (inputCount (J .circuit) i) (inputsAt (J .circuit) i) (h .inputs-low)
 

@@ -5,46 +5,53 @@ use mathlib.Core.Path.{_≡_, refl, sym, ap, _∙_}
 use mathlib.Core.Bool.{true, false}
 use mathlib.Core.List.{List, [], _++_}
 use native.Mathlib.Omega.{arith}
-use lib.ListN.{length, drop, length-append}
+use lib.ListN.{length, drop, length-append, length-drop}
 use lib.Seq.{drop-at}
-use Rattle.field.specs.Prime.{p, prime}
-use Rattle.field.proofs.PrimeField.{primeField}
-use Rattle.circuit.specs.Gate.{gate, first}
-use Rattle.circuit.specs.Kind.{shape}
-use Rattle.circuit.specs.Round.{Round, Input, Multiply, OpenOutput, RevealOutput}
-use Rattle.circuit.proofs.Rounds.{gate-at-round}
-use Rattle.steps.specs.Position.{reach}
-use Rattle.steps.specs.Receive.{afterInput, afterMultiply, afterOpenOutput, settle, passes}
-use Rattle.steps.specs.Code.{layoutOf, pointOf, Held, Multiplies, Settles, Receives, heardFirst, Named, Summed}
-use Rattle.steps.proofs.Slots.{length-put, length-opened}
-use Rattle.steps.proofs.Settling.{settle-keeps, settle-none}
-use Rattle.steps.proofs.Readiness.{within-there, input-settles, multiply-asks, multiply-settles, output-settles}
-use Rattle.steps.proofs.Received.{input-made, multiply-received, output-asks, output-received, revealed, revealed-not}
-use Rattle.joint.specs.Joint.{joined, band, party}
+use Rattle.field.specs.Words.{size, ops}
+use Rattle.field.proofs.Laws.{laws}
+use Rattle.circuit.specs.Gate.{gateSize, Gate, gate}
+use Rattle.circuit.specs.Kind.{Class, Owned, Opens, shape, isClass, isLinear}
+use Rattle.circuit.specs.Round.{Check, First, Second, Round, Own, Open, Commit, Reveal}
+use Rattle.circuit.proofs.KindLaws.{owned-facts, opens-facts}
+use Rattle.protocol.specs.Position.{reach}
+use Rattle.protocol.specs.Receive.{afterInput, afterOpening, afterOpenOutput, afterLinear, settle, passes}
+use Rattle.protocol.specs.Holding.{Held, Reads}
+use Rattle.protocol.specs.Code.{layoutOf}
+use Rattle.protocol.specs.Ready.{Opening, Settles, Receives, heardFirst, Named, Summed}
+use Rattle.protocol.proofs.Slots.{length-put, length-opened}
+use Rattle.protocol.proofs.Lengths.{length-differences, length-afterLinear}
+use Rattle.protocol.proofs.Settling.{Settling, Reaching, settling-start, settling-asks, settling-again, settling-end, reaching-start, reaching-again, reaching-linear}
+use Rattle.protocol.proofs.Readiness.{within-there, input-settles, opening-asks, opening-settles, output-settles, own-owned, own-opens}
+use Rattle.protocol.proofs.Received as R
+use Rattle.protocol.specs.Joint.{Joint, joined, band, party}
 use Rattle.joint.specs.declared.Frame.{Frame}
 use Rattle.joint.specs.declared.Course.{Course}
-use Rattle.joint.specs.Code.{siteOf, stateOf, Lent, prepFrom, keyIn, Prepared, Banded, EachBand, rebanded, receivedBy}
-use Rattle.joint.proofs.Words.{length-joined, joined-ext}
-use Rattle.joint.proofs.Bands.{band-front, band-joined, joined-bands}
-use Rattle.joint.proofs.Cutting.{band-long, band-room}
+use Rattle.joint.specs.Code.{siteOf, Lent, prepFrom, keyIn, Prepared, Banded, EachBand, rebanded, receivedIn}
+use Rattle.protocol.proofs.Words.{length-joined, joined-ext}
+use Rattle.protocol.proofs.Bands.{band-front, band-joined, joined-bands}
+use Rattle.joint.proofs.Cutting.{band-long}
 use Rattle.joint.proofs.Parties.{lent-prepared, lent-key, lent-banded, lent-keyed, lent-record, lent-record-is}
 use Rattle.joint.proofs.SendTurns.{lentAll}
 
 -- what becomes of party i's band: at in gate j ..
 abbrev pub inputLeft : Frame → List ℕ → List ℕ → ℕ → ℕ → ℕ → ℕ → List ℕ
-inputLeft f preps l j a e i = afterInput prime i (keyIn f preps i) (layoutOf (f .layout)) (band (f .scratch) l i) j (prepFrom f preps a i) e
+inputLeft f preps l j a e i = afterInput ops i (keyIn f preps i) (layoutOf (f .layout)) (band (f .scratch) l i) j (prepFrom f preps a i) e
 
--- .. at mul gate j ..
-abbrev pub productLeft : Frame → List ℕ → List ℕ → ℕ → ℕ → ℕ → ℕ → ℕ → ℕ → ℕ → ℕ → List ℕ
-productLeft f preps l j x z a u e d i = afterMultiply prime i (keyIn f preps i) (layoutOf (f .layout)) (band (f .scratch) l i) j x z (prepFrom f preps a i) u e d
+-- .. at gate j, which opens k values ..
+abbrev pub openingLeft : Frame → List ℕ → List ℕ → ℕ → ℕ → ℕ → ℕ → ℕ → ℕ → ℕ → ℕ → ℕ → List ℕ
+openingLeft f preps l j x z a k u e d i = afterOpening ops i (keyIn f preps i) (layoutOf (f .layout)) (band (f .scratch) l i) j x z (prepFrom f preps a i) k u e d
 
 -- .. where an output is opened ..
 abbrev pub outputLeft : Frame → List ℕ → ℕ → ℕ → ℕ → List ℕ
-outputLeft f l x e i = afterOpenOutput prime (layoutOf (f .layout)) (band (f .scratch) l i) x e
+outputLeft f l x e i = afterOpenOutput ops (layoutOf (f .layout)) (band (f .scratch) l i) x e
+
+-- .. at linear gate j, which is g ..
+abbrev pub linearLeft : Frame → List ℕ → List ℕ → ℕ → Gate → ℕ → List ℕ
+linearLeft f preps l j g i = afterLinear ops i (keyIn f preps i) (layoutOf (f .layout)) (band (f .scratch) l i) j g
 
 -- .. and by the linear gates from gate a on
 abbrev pub settledLeft : Frame → List ℕ → List ℕ → List ℕ → ℕ → ℕ → List ℕ
-settledLeft f c preps l a i = settle prime i (keyIn f preps i) c (layoutOf (f .layout)) (f .layout .gates - a) a (band (f .scratch) l i)
+settledLeft f c preps l a i = settle ops i (keyIn f preps i) c (layoutOf (f .layout)) (f .layout .gates - a) a (band (f .scratch) l i)
 
 -- it is as long as before
 module _ {f : Frame} {l : List ℕ} (b : Banded f l) where
@@ -52,29 +59,17 @@ module _ {f : Frame} {l : List ℕ} (b : Banded f l) where
   unfolding afterInput
   input-each preps j a e i h = length-put (layoutOf (f .layout)) (band (f .scratch) l i) j _ ∙ band-long b i h
 
-  pub product-each : (preps : List ℕ) (j x z a u e d i : ℕ) → i < f .parties → length (productLeft f preps l j x z a u e d i) ≡ f .scratch
-  unfolding afterMultiply
-  product-each preps j x z a u e d i h = simp (length-put, length-opened) (band-long b i h)
+  pub opening-each : (preps : List ℕ) (j x z a k u e d i : ℕ) → i < f .parties → length (openingLeft f preps l j x z a k u e d i) ≡ f .scratch
+  unfolding afterOpening
+  opening-each preps j x z a k u e d i h =
+      length-put (layoutOf (f .layout)) _ j _ ∙ length-differences ops (layoutOf (f .layout)) (band (f .scratch) l i) x z (prepFrom f preps a i) k u e d ∙ band-long b i h
 
   pub output-each : (x e i : ℕ) → i < f .parties → length (outputLeft f l x e i) ≡ f .scratch
   unfolding afterOpenOutput
   output-each x e i h = length-opened (layoutOf (f .layout)) (band (f .scratch) l i) 0 e _ ∙ band-long b i h
 
-  pub settled-each : (c preps : List ℕ) (a : ℕ) → EachBand f l (λ i k. Settles c (layoutOf (f .layout)) (keyIn f preps i) k a)
-      → (i : ℕ) → i < f .parties → length (settledLeft f c preps l a i) ≡ f .scratch
-  unfolding layoutOf
-  settled-each c preps a s i h =
-      settle-keeps primeField c (layoutOf (f .layout)) i (keyIn f preps i) 0 (f .layout .gates - a) a (band (f .scratch) l i)
-      (omega (arith, s i h .upto)) (band-room b i h) (s i h .worked) (λ t z. absurd (omega arith)) .len
-      ∙ band-long b i h
-
-  -- where the stop is already reached, the bands are as they were
-  pub settled-none : (c preps : List ℕ) (a : ℕ) {stop : ℕ} → stop ≡ reach c (f .layout .gates - a) a → stop ≤ a → l ≡ rebanded f (settledLeft f c preps l a) l
-  settled-none c preps a e h =
-      sym (joined-bands (f .parties) (f .scratch) l (b .room))
-      ∙ ap (λ (zs : List ℕ). zs ++ drop (f .parties * f .scratch) l)
-      (joined-ext (f .parties) (band (f .scratch) l) (settledLeft f c preps l a)
-      (λ i k. sym (settle-none prime c (layoutOf (f .layout)) i (keyIn f preps i) (f .layout .gates - a) a (band (f .scratch) l i) (omega (arith, e)))))
+  pub linear-each : (preps : List ℕ) (j : ℕ) (g : Gate) (i : ℕ) → i < f .parties → length (linearLeft f preps l j g i) ≡ f .scratch
+  linear-each preps j g i h = length-afterLinear ops i (keyIn f preps i) (layoutOf (f .layout)) (band (f .scratch) l i) j g ∙ band-long b i h
 
 -- bands that came back as F i
 module _ {f : Frame} {l : List ℕ} (b : Banded f l) (F : ℕ → List ℕ) (each : (i : ℕ) → i < f .parties → length (F i) ≡ f .scratch)
@@ -91,28 +86,99 @@ module _ {f : Frame} {l : List ℕ} (b : Banded f l) (F : ℕ → List ℕ) (eac
   pub reband-banded : Banded f l₁
   reband-banded = record { size = b .size; room = rw (e, length-append, front) (omega arith) }
 
+  pub reband-excess : drop (f .parties * f .scratch) l₁ ≡ drop (f .parties * f .scratch) l
+  reband-excess =
+      ap (drop (f .parties * f .scratch)) e ∙ drop-at (joined (f .parties) F) (drop (f .parties * f .scratch) l) (f .parties * f .scratch) front
+
+  pub reband-length : length l₁ ≡ length l
+  reband-length = ap length e ∙ rw (length-append, front, length-drop) (omega (arith, b .room))
+
   -- and then once more, as G of what they were
   pub reband-twice : (G H : ℕ → List ℕ) → ((i : ℕ) → i < f .parties → G i ≡ H i) → {l₂ : List ℕ} → l₂ ≡ rebanded f G l₁ → l₂ ≡ rebanded f H l
   reband-twice G H same d =
       d
       ∙ ap (λ (z : List ℕ). z ++ drop (f .parties * f .scratch) l₁) (joined-ext (f .parties) G H same)
-      ∙ ap (λ (z : List ℕ). joined (f .parties) H ++ z)
-      (ap (drop (f .parties * f .scratch)) e ∙ drop-at (joined (f .parties) F) (drop (f .parties * f .scratch) l) (f .parties * f .scratch) front)
+      ∙ ap (λ (z : List ℕ). joined (f .parties) H ++ z) reband-excess
+
+-- The linear gates began at gate a with the scratch l₀ of all, and gate j is next with the scratch l: so for each party, and what lies
+-- beyond their bands is as it was.
+pub record SettlingAll (f : Frame) (c preps : List ℕ) (a : ℕ) (l₀ : List ℕ) (j : ℕ) (l : List ℕ) : Type 0 where
+  pub banded : Banded f l
+  pub long : length l ≡ length l₀
+  pub excess : drop (f .parties * f .scratch) l ≡ drop (f .parties * f .scratch) l₀
+  pub each : (i : ℕ) → i < f .parties → Settling ops c (layoutOf (f .layout)) i (keyIn f preps i) a (band (f .scratch) l₀ i) j (band (f .scratch) l i)
+  pub reaching : Reaching c (f .layout .gates) a j
+
+module _ (f : Frame) (c preps : List ℕ) (a : ℕ) (l₀ : List ℕ) (b : Banded f l₀) (some : 0 < f .parties)
+    (s : EachBand f l₀ (λ i k. Settles size c (layoutOf (f .layout)) (keyIn f preps i) k a)) where
+  pub all-start : SettlingAll f c preps a l₀ a l₀
+  unfolding layoutOf
+  all-start =
+      record {
+        banded = b;
+        long = refl;
+        excess = refl;
+        each = λ i h. settling-start c (layoutOf (f .layout)) i (keyIn f preps i) a (band (f .scratch) l₀ i) (s i h);
+        reaching = reaching-start c (f .layout .gates) a (s 0 some .upto);
+      }
+
+  module _ {j : ℕ} {l : List ℕ} (inv : SettlingAll f c preps a l₀ j l) {stop : ℕ} (e : stop ≡ reach c (f .layout .gates - a) a) where
+    module _ (h : j < stop) where
+      pub all-linear : (j < f .layout .gates) × (isLinear (gate c j) ≡ true)
+      all-linear = reaching-linear c (f .layout .gates) a j (inv .reaching) (omega (arith, e))
+
+      -- gate j can be read off the circuit, and what it reads off each band
+      pub all-there : gateSize * j + gateSize ≤ length c
+      unfolding layoutOf
+      all-there = omega (arith, all-linear .0, s 0 some .valid .whole, s 0 some .count)
+
+      module _ {g : Gate} (eg : g ≡ gate c j) where
+        pub all-reads : EachBand f l (λ i k. Reads size (layoutOf (f .layout)) k g)
+        unfolding layoutOf
+        all-reads i k =
+            settling-asks c (layoutOf (f .layout)) i (keyIn f preps i) a (band (f .scratch) l₀ i) j (band (f .scratch) l i) (inv .each i k) (s i k) (all-linear .0) eg .1
+
+        pub all-again : {l₁ : List ℕ} → l₁ ≡ rebanded f (linearLeft f preps l j g) l → SettlingAll f c preps a l₀ (j + 1) l₁
+        unfolding layoutOf
+        all-again d =
+            let each = linear-each (inv .banded) preps j g in
+            record {
+              banded = reband-banded (inv .banded) (linearLeft f preps l j g) each d;
+              long = reband-length (inv .banded) (linearLeft f preps l j g) each d ∙ inv .long;
+              excess = reband-excess (inv .banded) (linearLeft f preps l j g) each d ∙ inv .excess;
+              each = λ i k.
+                  settling-again c (layoutOf (f .layout)) i (keyIn f preps i) a (band (f .scratch) l₀ i) j (band (f .scratch) l i) (inv .each i k) laws
+                  (s i k .room) (all-linear .0) (all-linear .1)
+                  (reband-band (inv .banded) (linearLeft f preps l j g) each d i k ∙ ap (λ (z : Gate). linearLeft f preps l j z i) eg);
+              reaching = reaching-again c (f .layout .gates) a j (inv .reaching) (all-linear .0) (all-linear .1);
+            }
+
+    pub all-settled : stop ≤ j → l ≡ rebanded f (settledLeft f c preps l₀ a) l₀
+    unfolding layoutOf
+    all-settled h =
+        sym (joined-bands (f .parties) (f .scratch) l (inv .banded .room))
+        ∙ ap (λ (z : List ℕ). joined (f .parties) (band (f .scratch) l) ++ z) (inv .excess)
+        ∙ ap (λ (z : List ℕ). z ++ drop (f .parties * f .scratch) l₀)
+        (joined-ext (f .parties) (band (f .scratch) l) (settledLeft f c preps l₀ a)
+        (λ i k. settling-end c (layoutOf (f .layout)) i (keyIn f preps i) a (band (f .scratch) l₀ i) j (band (f .scratch) l i) (inv .each i k) (inv .reaching) (omega (arith, e))))
 
 module _ (f : Frame) (s : Course) (c preps inputs l heard : List ℕ) (t : Lent (lentAll f c preps inputs []) f) (room : f .parties * f .scratch ≤ length l) where
+  abbrev J : Joint
+  J = lentAll f c preps inputs []
+
   banded : Banded f l
   banded = lent-banded t room
 
   -- what each party is to receive
   abbrev asked : Round → Type 0
-  asked r = (i : ℕ) → i < f .parties → Receives (party (lentAll f c preps inputs []) i) (band (f .scratch) l i) (f .layout) (siteOf c s i) r heard
+  asked r = (i : ℕ) → i < f .parties → Receives size (party J i) (band (f .scratch) l i) (f .layout) (siteOf c s i) r heard
 
   some : 0 < f .parties
   some = omega (arith, t .some)
 
   -- the bands as they are defined
   abbrev bandsOf : Round → ℕ → List ℕ
-  bandsOf r = receivedBy (lentAll f c preps inputs []) (stateOf f s l) r heard
+  bandsOf r = receivedIn f J (s .point .gate) l r heard
 
   -- a round that leaves the bands
   pub left-alone : (r : Round) → ((i : ℕ) → i < f .parties → band (f .scratch) l i ≡ bandsOf r i) → l ≡ rebanded f (bandsOf r) l
@@ -120,20 +186,31 @@ module _ (f : Frame) (s : Course) (c preps inputs l heard : List ℕ) (t : Lent 
       sym (joined-bands (f .parties) (f .scratch) l room)
       ∙ ap (λ (z : List ℕ). z ++ drop (f .parties * f .scratch) l) (joined-ext (f .parties) (band (f .scratch) l) (bandsOf r) same)
 
+  pub commit-left : (k : Check) → l ≡ rebanded f (bandsOf (Commit k)) l
+  commit-left k = left-alone (Commit k) (λ i h. R.commit-received ops (party J i) (band (f .scratch) l i) (s .point .gate) heard k)
+
+  pub first-left : l ≡ rebanded f (bandsOf (Reveal First)) l
+  first-left = left-alone (Reveal First) (λ i h. R.first-received ops (party J i) (band (f .scratch) l i) (s .point .gate) heard)
+
+  pub stopped-left : (k : Check) → passes ops (f .parties) (Reveal k) heard ≡ false → l ≡ rebanded f (bandsOf (Reveal k)) l
+  unfolding party
+  stopped-left k e = left-alone (Reveal k) (λ i h. R.stopped-received ops (party J i) (band (f .scratch) l i) (s .point .gate) heard k e)
+
   -- what settling asks, where m is the scratch of all
   abbrev SettlesAll : List ℕ → ℕ → Type 0
   SettlesAll m stop =
       Prepared f preps 0 1
       × Banded f m
-      × EachBand f m (λ i k. Settles c (layoutOf (f .layout)) (keyIn f preps i) k (s .point .gate + 1))
+      × (0 < f .parties)
+      × EachBand f m (λ i k. Settles size c (layoutOf (f .layout)) (keyIn f preps i) k (s .point .gate + 1))
       × (stop ≡ reach c (f .layout .gates - (s .point .gate + 1)) (s .point .gate + 1))
 
   -- a round that leaves each band as F i, and then settles it
   module _ (F : ℕ → List ℕ) (each : (i : ℕ) → i < f .parties → length (F i) ≡ f .scratch) {l₁ : List ℕ} (d : l₁ ≡ rebanded f F l) where
-    settling-asked : ((i : ℕ) → i < f .parties → band (f .scratch) l₁ i ≡ F i → Settles c (layoutOf (f .layout)) (keyIn f preps i) (band (f .scratch) l₁ i) (s .point .gate + 1))
+    settling-asked : ((i : ℕ) → i < f .parties → band (f .scratch) l₁ i ≡ F i → Settles size c (layoutOf (f .layout)) (keyIn f preps i) (band (f .scratch) l₁ i) (s .point .gate + 1))
         → {stop : ℕ} → stop ≡ reach c (f .layout .gates - (s .point .gate + 1)) (s .point .gate + 1)
         → SettlesAll l₁ stop
-    settling-asked k z = (lent-key t, reband-banded banded F each d, λ i h. k i h (reband-band banded F each d i h), z)
+    settling-asked k z = (lent-key t, reband-banded banded F each d, some, λ i h. k i h (reband-band banded F each d i h), z)
 
     settling-made : (r : Round)
         → ((i : ℕ) → i < f .parties → band (f .scratch) l₁ i ≡ F i → settledLeft f c preps l₁ (s .point .gate + 1) i ≡ bandsOf r i)
@@ -142,121 +219,138 @@ module _ (f : Frame) (s : Course) (c preps inputs l heard : List ℕ) (t : Lent 
     settling-made r k =
         reband-twice banded F each d (settledLeft f c preps l₁ (s .point .gate + 1)) (bandsOf r) (λ i h. k i h (reband-band banded F each d i h))
 
-  pub aborted-left : passes prime (f .parties) RevealOutput heard ≡ false → l ≡ rebanded f (bandsOf RevealOutput) l
-  unfolding stateOf pointOf party
-  aborted-left e = left-alone RevealOutput (λ i h. revealed-not (party (lentAll f c preps inputs []) i) (band (f .scratch) l i) (s .point .gate) heard e)
-
-  -- in gates
-  module _ (w : asked Input) {e : ℕ} (e-low : e < p) where
-    pub inputs-ask : Prepared f preps (s .tally .prep) 2 × Banded f l × (s .point .gate < f .layout .gates) × (e < p)
-    unfolding shape siteOf party
-    inputs-ask =
-        let k = w 0 some .ready in
-        let n : shape (gate c (s .point .gate)) .prep ≡ 3 = rw (gate-at-round c (s .point .gate) Input (k .occurs) .1) in (
-          lent-prepared t (s .tally .prep) 2 (omega (arith, lent-record t (k .sited .prep) (k .sited .within), n)),
-          banded,
-          within-there (party (lentAll f c preps inputs []) 0) (band (f .scratch) l 0) (f .layout) (siteOf c s 0) Input k,
-          e-low,
-        )
-
-    module _ {l₁ : List ℕ} (d : l₁ ≡ rebanded f (inputLeft f preps l (s .point .gate) (s .tally .prep) e) l) where
-      lengths : (i : ℕ) → i < f .parties → length (inputLeft f preps l (s .point .gate) (s .tally .prep) e i) ≡ f .scratch
-      lengths = input-each banded preps (s .point .gate) (s .tally .prep) e
-
-      pub inputs-settle : {stop : ℕ} → stop ≡ reach c (f .layout .gates - (s .point .gate + 1)) (s .point .gate + 1) → SettlesAll l₁ stop
+  -- a gate's own round
+  module _ (w : asked Own) where
+    -- the class, by the code's test of it
+    module _ {h : Class} (e : h ≡ shape (gate c (s .point .gate)) .class) where
+      pub receives-in : isClass Owned h ≡ true → shape (gate c (s .point .gate)) .class ≡ Owned
       unfolding siteOf party
-      inputs-settle =
-          settling-asked _ lengths d
-          (λ i h q. rw (lent-keyed t i)
-          (input-settles (party (lentAll f c preps inputs []) i) (band (f .scratch) l i) (f .layout) (siteOf c s i) (w i h .ready) i (prepFrom f preps (s .tally .prep) i) e
-          (q ∙ rw (lent-keyed t i))))
+      receives-in = own-owned (w 0 some .ready) e
 
-      pub inputs-received : e ≡ heardFirst (f .parties) (gate c (s .point .gate)) Input heard → {l₂ : List ℕ}
-          → l₂ ≡ rebanded f (settledLeft f c preps l₁ (s .point .gate + 1)) l₁
-          → l₂ ≡ rebanded f (bandsOf Input) l
-      unfolding siteOf stateOf pointOf party
-      inputs-received ee =
-          settling-made _ lengths d Input
-          (λ i h q.
-          input-made (party (lentAll f c preps inputs []) i) (band (f .scratch) l i) (f .layout) (siteOf c s i) heard (w i h .ready)
-          (lent-record-is t (w i h .ready .sited .prep) (w i h .ready .sited .within) i) ee
-          (q ∙ rw (lent-keyed t i))
-          (rw (lent-keyed t i)))
-
-  -- mul gates
-  module _ (w : asked Multiply) {x z e d : ℕ} (n : Named (gate c (s .point .gate)) x z) (v : Summed (f .parties) (gate c (s .point .gate)) Multiply heard e d) where
-    abbrev products : ℕ → List ℕ
-    products = productLeft f preps l (s .point .gate) x z (s .tally .prep) (s .tally .unchecked) e d
-
-    pub products-ask : Prepared f preps (s .tally .prep) 6
-        × Banded f l
-        × EachBand f l (λ i m. Multiplies (keyIn f preps i) (layoutOf (f .layout)) m (s .point .gate) x z (prepFrom f preps (s .tally .prep) i) (s .tally .unchecked) e d)
-    unfolding shape siteOf party
-    products-ask =
-        let k = w 0 some .ready in
-        let six : shape (gate c (s .point .gate)) .prep ≡ 6 = rw (gate-at-round c (s .point .gate) Multiply (k .occurs) .2) in (
-          lent-prepared t (s .tally .prep) 6 (omega (arith, lent-record t (k .sited .prep) (k .sited .within), six)),
-          banded,
-          λ i h. rw (lent-keyed t i)
-              (multiply-asks (party (lentAll f c preps inputs []) i) (band (f .scratch) l i) (f .layout) (siteOf c s i) (w i h .ready)
-              (lent-record-is t (w i h .ready .sited .prep) (w i h .ready .sited .within) i) (n .first) (n .second) (v .first .below) (v .second .below)),
-        )
-
-    module _ {l₁ : List ℕ} (q : l₁ ≡ rebanded f products l) where
-      product-lengths : (i : ℕ) → i < f .parties → length (products i) ≡ f .scratch
-      product-lengths = product-each banded preps (s .point .gate) x z (s .tally .prep) (s .tally .unchecked) e d
-
-      pub products-settle : {stop : ℕ} → stop ≡ reach c (f .layout .gates - (s .point .gate + 1)) (s .point .gate + 1) → SettlesAll l₁ stop
+      pub receives-opens : isClass Owned h ≡ false → shape (gate c (s .point .gate)) .class ≡ Opens
       unfolding siteOf party
-      products-settle =
-          settling-asked products product-lengths q
-          (λ i h y. rw (lent-keyed t i)
-          (multiply-settles (party (lentAll f c preps inputs []) i) (band (f .scratch) l i) (f .layout) (siteOf c s i) (w i h .ready) i x z (prepFrom f preps (s .tally .prep) i) e d
-          (v .first .below) (v .second .below) (y ∙ rw (lent-keyed t i))))
+      receives-opens = own-opens (w 0 some .ready) e
 
-      pub products-received : {l₂ : List ℕ} → l₂ ≡ rebanded f (settledLeft f c preps l₁ (s .point .gate + 1)) l₁ → l₂ ≡ rebanded f (bandsOf Multiply) l
-      unfolding siteOf stateOf pointOf party
-      products-received =
-          settling-made products product-lengths q Multiply
-          (λ i h y.
-          multiply-received (party (lentAll f c preps inputs []) i) (band (f .scratch) l i) (f .layout) (siteOf c s i) heard (w i h .ready)
-          (lent-record-is t (w i h .ready .sited .prep) (w i h .ready .sited .within) i) n v
-          (y ∙ rw (lent-keyed t i))
-          (rw (lent-keyed t i)))
+    record-there : s .tally .prep + shape (gate c (s .point .gate)) .prep ≤ f .prep
+    unfolding siteOf party
+    record-there = lent-record t (w 0 some .ready .sited .prep) (w 0 some .ready .sited .within)
+
+    record-here : (i : ℕ) → prepFrom f preps (s .tally .prep) i ≡ drop (s .tally .prep) (party J i .prep)
+    unfolding siteOf party
+    record-here i = lent-record-is t (w 0 some .ready .sited .prep) (w 0 some .ready .sited .within) i
+
+    -- in gates
+    module _ (cl : shape (gate c (s .point .gate)) .class ≡ Owned) {e : ℕ} (e-low : e < size) where
+      pub inputs-ask : Prepared f preps (s .tally .prep) 2 × Banded f l × (s .point .gate < f .layout .gates) × (e < size)
+      unfolding siteOf party
+      inputs-ask = (
+        lent-prepared t (s .tally .prep) 2 (omega (arith, record-there, owned-facts (gate c (s .point .gate)) cl .prep)),
+        banded,
+        within-there (party J 0) (band (f .scratch) l 0) (f .layout) (siteOf c s 0) Own (w 0 some .ready),
+        e-low,
+      )
+
+      module _ {l₁ : List ℕ} (d : l₁ ≡ rebanded f (inputLeft f preps l (s .point .gate) (s .tally .prep) e) l) where
+        lengths : (i : ℕ) → i < f .parties → length (inputLeft f preps l (s .point .gate) (s .tally .prep) e i) ≡ f .scratch
+        lengths = input-each banded preps (s .point .gate) (s .tally .prep) e
+
+        pub inputs-settle : {stop : ℕ} → stop ≡ reach c (f .layout .gates - (s .point .gate + 1)) (s .point .gate + 1) → SettlesAll l₁ stop
+        unfolding siteOf party
+        inputs-settle =
+            settling-asked _ lengths d
+            (λ i h q. rw (lent-keyed t i)
+            (input-settles laws (party J i) (band (f .scratch) l i) (f .layout) (siteOf c s i) (w i h .ready) i (prepFrom f preps (s .tally .prep) i) e
+            (q ∙ rw (lent-keyed t i))))
+
+        pub inputs-received : e ≡ heardFirst ops (f .parties) (gate c (s .point .gate)) Own heard → {l₂ : List ℕ}
+            → l₂ ≡ rebanded f (settledLeft f c preps l₁ (s .point .gate + 1)) l₁
+            → l₂ ≡ rebanded f (bandsOf Own) l
+        unfolding siteOf party
+        inputs-received ee =
+            settling-made _ lengths d Own
+            (λ i h q.
+            R.input-made ops (party J i) (band (f .scratch) l i) (f .layout) (siteOf c s i) heard (w i h .ready) cl
+            (record-here i) ee
+            (q ∙ rw (lent-keyed t i))
+            (rw (lent-keyed t i)))
+
+    -- gates that open values
+    module _ (cl : shape (gate c (s .point .gate)) .class ≡ Opens) {x z k e d : ℕ} (n : Named (gate c (s .point .gate)) x z k)
+        (v : Summed ops (f .parties) (gate c (s .point .gate)) Own heard e d) where
+      abbrev opened : ℕ → List ℕ
+      opened = openingLeft f preps l (s .point .gate) x z (s .tally .prep) k (s .tally .unchecked) e d
+
+      each-asks : EachBand f l (λ i m. Opening size (keyIn f preps i) (layoutOf (f .layout)) m (s .point .gate) x z (prepFrom f preps (s .tally .prep) i) k (s .tally .unchecked) e d)
+      unfolding siteOf party
+      each-asks i h =
+          rw (lent-keyed t i)
+          (opening-asks (party J i) (band (f .scratch) l i) (f .layout) (siteOf c s i) (w i h .ready) cl (record-here i) n (v .first .below) (v .second .below))
+
+      pub openings-ask : Prepared f preps (s .tally .prep) (2 * k + 2)
+          × Banded f l
+          × EachBand f l (λ i m. Opening size (keyIn f preps i) (layoutOf (f .layout)) m (s .point .gate) x z (prepFrom f preps (s .tally .prep) i) k (s .tally .unchecked) e d)
+      openings-ask = (
+        lent-prepared t (s .tally .prep) (2 * k + 2) (omega (arith, record-there, n .openings, opens-facts (gate c (s .point .gate)) cl .prep)),
+        banded,
+        each-asks,
+      )
+
+      module _ {l₁ : List ℕ} (q : l₁ ≡ rebanded f opened l) where
+        opened-lengths : (i : ℕ) → i < f .parties → length (opened i) ≡ f .scratch
+        opened-lengths = opening-each banded preps (s .point .gate) x z (s .tally .prep) k (s .tally .unchecked) e d
+
+        pub openings-settle : {stop : ℕ} → stop ≡ reach c (f .layout .gates - (s .point .gate + 1)) (s .point .gate + 1) → SettlesAll l₁ stop
+        unfolding siteOf party
+        openings-settle =
+            settling-asked opened opened-lengths q
+            (λ i h y. rw (lent-keyed t i)
+            (opening-settles laws (party J i) (band (f .scratch) l i) (f .layout) (siteOf c s i) (w i h .ready) i x z (prepFrom f preps (s .tally .prep) i) k e d
+            (rw (lent-keyed t i) at (each-asks i h)) (y ∙ rw (lent-keyed t i))))
+
+        pub openings-received : {l₂ : List ℕ} → l₂ ≡ rebanded f (settledLeft f c preps l₁ (s .point .gate + 1)) l₁ → l₂ ≡ rebanded f (bandsOf Own) l
+        unfolding siteOf party
+        openings-received =
+            settling-made opened opened-lengths q Own
+            (λ i h y.
+            R.opening-received ops (party J i) (band (f .scratch) l i) (f .layout) (siteOf c s i) heard (w i h .ready) cl
+            (record-here i) n v
+            (y ∙ rw (lent-keyed t i))
+            (rw (lent-keyed t i)))
 
   -- opened outputs
-  module _ (w : asked OpenOutput) {x : ℕ} (ex : x ≡ first (gate c (s .point .gate))) where
-    pub outputs-ask : Banded f l × (0 < f .layout .capacity) × EachBand f l (λ i m. Held (layoutOf (f .layout)) m x)
+  module _ (w : asked Open) {x : ℕ} (ex : x ≡ gate c (s .point .gate) .first) where
+    pub outputs-ask : Banded f l × (0 < f .layout .capacity) × EachBand f l (λ i m. Held size (layoutOf (f .layout)) m x)
     unfolding siteOf party
     outputs-ask = (
       banded,
-      output-asks (party (lentAll f c preps inputs []) 0) (band (f .scratch) l 0) (f .layout) (siteOf c s 0) heard (w 0 some .ready) ex .1,
-      λ i h. output-asks (party (lentAll f c preps inputs []) i) (band (f .scratch) l i) (f .layout) (siteOf c s i) heard (w i h .ready) ex .2,
+      R.output-asks (party J 0) (band (f .scratch) l 0) (f .layout) (siteOf c s 0) (w 0 some .ready) ex .1,
+      λ i h. R.output-asks (party J i) (band (f .scratch) l i) (f .layout) (siteOf c s i) (w i h .ready) ex .2,
     )
 
-    pub outputs-received : {e : ℕ} → e ≡ heardFirst (f .parties) (gate c (s .point .gate)) OpenOutput heard → {l₁ : List ℕ} → l₁ ≡ rebanded f (outputLeft f l x e) l → l₁ ≡ rebanded f (bandsOf OpenOutput) l
-    unfolding siteOf stateOf pointOf party
+    pub outputs-received : {e : ℕ} → e ≡ heardFirst ops (f .parties) (gate c (s .point .gate)) Open heard → {l₁ : List ℕ} → l₁ ≡ rebanded f (outputLeft f l x e) l → l₁ ≡ rebanded f (bandsOf Open) l
+    unfolding siteOf party
     outputs-received {e} ee d =
         d
         ∙ ap (λ (z : List ℕ). z ++ drop (f .parties * f .scratch) l)
-        (joined-ext (f .parties) (outputLeft f l x e) (bandsOf OpenOutput)
-        (λ i h. output-received (party (lentAll f c preps inputs []) i) (band (f .scratch) l i) (f .layout) (siteOf c s i) heard (w i h .ready) ex ee refl))
+        (joined-ext (f .parties) (outputLeft f l x e) (bandsOf Open)
+        (λ i h. R.output-received ops (party J i) (band (f .scratch) l i) (f .layout) (siteOf c s i) heard (w i h .ready) ex ee refl))
 
   -- the reveal of the second check
-  module _ (w : asked RevealOutput) where
+  module _ (w : asked (Reveal Second)) where
     pub reveal-settles : {stop : ℕ} → stop ≡ reach c (f .layout .gates - (s .point .gate + 1)) (s .point .gate + 1) → SettlesAll l stop
     unfolding siteOf party
     reveal-settles z = (
       lent-key t,
       banded,
-      λ i h. rw (lent-keyed t i) (output-settles (party (lentAll f c preps inputs []) i) (band (f .scratch) l i) (f .layout) (siteOf c s i) (w i h .ready)),
+      some,
+      λ i h. rw (lent-keyed t i) (output-settles (party J i) (band (f .scratch) l i) (f .layout) (siteOf c s i) (w i h .ready)),
       z,
     )
 
-    pub reveal-received : passes prime (f .parties) RevealOutput heard ≡ true → {l₁ : List ℕ} → l₁ ≡ rebanded f (settledLeft f c preps l (s .point .gate + 1)) l → l₁ ≡ rebanded f (bandsOf RevealOutput) l
-    unfolding siteOf stateOf pointOf party
+    pub reveal-received : passes ops (f .parties) (Reveal Second) heard ≡ true → {l₁ : List ℕ} → l₁ ≡ rebanded f (settledLeft f c preps l (s .point .gate + 1)) l → l₁ ≡ rebanded f (bandsOf (Reveal Second)) l
+    unfolding siteOf party
     reveal-received k d =
         d
         ∙ ap (λ (z : List ℕ). z ++ drop (f .parties * f .scratch) l)
-        (joined-ext (f .parties) (settledLeft f c preps l (s .point .gate + 1)) (bandsOf RevealOutput)
-        (λ i h. revealed (party (lentAll f c preps inputs []) i) (band (f .scratch) l i) (f .layout) (siteOf c s i) heard (w i h .ready) k (rw (lent-keyed t i))))
+        (joined-ext (f .parties) (settledLeft f c preps l (s .point .gate + 1)) (bandsOf (Reveal Second))
+        (λ i h. R.reveal-received ops (party J i) (band (f .scratch) l i) (f .layout) (siteOf c s i) heard (w i h .ready) k (rw (lent-keyed t i))))

@@ -1,93 +1,42 @@
 -- The run: round after round, what is written so far and the run that remains make up the whole run.
 -- Assumes nothing.
-use Prim.Native.Nat.{ℕ, zero, suc, _+_, _-_, _*_, _<_, _≤_}
+use Prim.Native.Nat.{ℕ, suc, _+_, _-_, _*_, _<_, _≤_}
 use mathlib.Core.Path.{_≡_, refl, sym, ap, subst, _∙_}
-use mathlib.Core.Bool.{Bool, true, false, cond, _&&_}
-use mathlib.Core.List.{List, [], _∷_, _++_, append-assoc, append-nil}
+use mathlib.Core.Bool.{true, cond}
+use mathlib.Core.List.{List, [], _++_, append-assoc, append-nil}
 use native.Mathlib.Nat.{mul-le-mul-left, mul-add}
 use native.Mathlib.Omega.{arith}
-use lib.ListN.{length, drop}
-use Rattle.field.specs.Prime.{p, prime}
+use lib.ListN.{length, drop, replicate}
+use Rattle.field.specs.Words.{size, ops}
 use Rattle.circuit.specs.Gate.{gate, gates}
 use Rattle.circuit.specs.Count.{unchecked}
-use Rattle.circuit.specs.Round.{Round, Input, isCommit, words, openedIn, coefficientsIn, overRun, wordCount, coefficientCount}
-use Rattle.steps.specs.Scratch.{layout, scratchSize}
-use Rattle.steps.specs.Position.{Point, Stage, Send, Receive, Finished, Aborted, aborted, follow, start, whenSending}
-use Rattle.steps.specs.Receive.{passes, next}
-use Rattle.steps.specs.Code.{pointOf, stageOf, Ready}
-use Rattle.party.specs.Entry.{releases}
-use Rattle.steps.proofs.Following.{start-is}
-use Rattle.steps.proofs.Points.{FitsStage, spent, sending, spent-follow, Goes, goes-start, spent-le}
-use Rattle.steps.specs.Send.{overwrite}
-use Rattle.joint.specs.Joint.{Joint, joined, band, party}
-use Rattle.joint.specs.Run.{State, Run, said, step, released, takes, begun, still, ahead, run, mostRounds, whole}
-use Rattle.joint.specs.Entry as E
+use Rattle.circuit.specs.Round.{Round, Own, isCommit, words, openedIn, coefficientsIn, overRun, wordCount, coefficientCount}
+use Rattle.protocol.specs.Scratch.{layout, scratchSize}
+use Rattle.protocol.specs.Position.{Point, Stage, Send, Receive, Finished, Aborted, follow, start}
+use Rattle.protocol.specs.Code.{pointOf, stageOf}
+use Rattle.protocol.specs.Ready.{Ready}
+use Rattle.protocol.specs.Ask.{mostParties}
+use Rattle.protocol.specs.Entry.{releases}
+use Rattle.protocol.proofs.Following.{start-is}
+use Rattle.protocol.proofs.Points.{FitsStage, spent, sending, spent-follow, Goes, goes-start, spent-le}
+use Rattle.protocol.specs.Send.{overwrite}
+use Rattle.protocol.specs.Joint.{Joint, joined, band, party}
+use Rattle.protocol.specs.Run.{State, Run, said, step, released, takes, begun, still, ahead, run, mostRounds, whole}
+use Rattle.protocol.specs.JointEntry as E
 use Rattle.joint.specs.declared.JointAnswer.{JointAnswer}
 use Rattle.joint.specs.declared.Frame.{Frame}
 use Rattle.joint.specs.declared.Course.{Course}
 use Rattle.joint.specs.Code.{jointAnswerOf, Placed, siteOf, stateOf, writtenAt, Going, Turning, Alike, Turned, Started, Runnable, Ran}
-use Rattle.joint.proofs.Words.{length-band, joined-ext}
+use Rattle.protocol.proofs.Words.{length-band, joined-ext}
 use Rattle.joint.proofs.Written.{Written, written-more, written-le, written-length, written-done}
-use Rattle.joint.proofs.Bands.{joined-bands}
-use Rattle.joint.proofs.Said.{length-said}
+use Rattle.protocol.proofs.Bands.{joined-bands}
+use Rattle.protocol.proofs.Gathering.{zeros}
+use Rattle.protocol.proofs.Runs.{Over, over-of, run-goes, run-over, next-passed, next-goes, released-fits, released-one}
+use Rattle.protocol.proofs.Said.{length-said}
 use Rattle.joint.proofs.Parties.{party-prep, party-prep-low, party-inputs, party-inputs-low}
-use Rattle.joint.proofs.Spending.{rounds-le, outputs-all}
+use Rattle.protocol.proofs.Spending.{rounds-le, outputs-all}
 use Rattle.joint.proofs.States.{said-alike, released-alike, step-alike, alike-then}
 use Rattle.joint.proofs.Going.{heardIn, nextIn, within, occurs, point-is, next-fits, going-next}
-
--- A run goes on with a round at a sending half ..
-run-goes : (J : Joint) (k : ℕ) (s : State) (r : Round) → s .point .stage ≡ Send r → run prime J (suc k) s ≡ ahead prime J s r (run prime J k (step prime J s r))
-unfolding run whenSending
-run-goes J k s r e = rw e
-
--- .. and is over where nothing is sent.
-abbrev Over : Stage → Type 1
-Over x = (A : Type 0) (a : A) (g : Round → A) → whenSending x a g ≡ a
-
-over-of : (x : Stage) → ((r : Round) → x ≡ Send r → ⊥) → Over x
-unfolding whenSending
-over-of (Send r) h A a g = absurd (h r refl)
-over-of (Receive r) h A a g = refl
-over-of Finished h A a g = refl
-over-of Aborted h A a g = refl
-
-run-over : (J : Joint) (k : ℕ) (s : State) → Over (s .point .stage) → run prime J k s ≡ still prime J s
-unfolding run
-run-over J zero s h = refl
-run-over J (suc k) s h = h Run _ _
-
--- Only a round that stops no run leads to a sending half.
-module _ (n : ℕ) (c : List ℕ) (j : ℕ) (r : Round) (heard : List ℕ) (r′ : Round) (e : next prime n c j r heard .stage ≡ Send r′) where
-  next-passed : passes prime n r heard ≡ true
-  unfolding next aborted
-  next-passed = go (passes prime n r heard) e
-    where
-      go : (b : Bool) → cond b (follow c j r) (aborted j) .stage ≡ Send r′ → b ≡ true
-      go true h = refl
-      go false h = let z : _≡_ {A = ℕ} 0 1 = cc in absurd (omega arith)
-
-  next-follows : next prime n c j r heard ≡ follow c j r
-  unfolding next
-  next-follows = rw next-passed
-
--- A round that releases has room for one output, and another needs none.
-module _ (J : Joint) (s : State) (r : Round) where
-  released-fits : (k m : ℕ) → k ≤ m → (releases r ≡ true → k < m) → k + length (released prime J s r) ≤ m
-  unfolding released
-  released-fits k m h g = go (releases r) (passes prime (J .parties) r (said prime J s r)) _ g
-    where
-      go : (a b : Bool) (x : ℕ) → (a ≡ true → k < m) → k + length (cond (a && b) (x ∷ []) []) ≤ m
-      go true true x g = omega (arith, g refl)
-      go true false x g = omega arith
-      go false b x g = omega arith
-
-  released-one : passes prime (J .parties) r (said prime J s r) ≡ true → length (released prime J s r) ≡ cond (releases r) 1 0
-  unfolding released
-  released-one e = rw e (go (releases r) _)
-    where
-      go : (a : Bool) (x : ℕ) → length (cond (a && true) (x ∷ []) []) ≡ cond a 1 0
-      go true x = refl
-      go false x = refl
 
 -- what a round takes: one round, the words of a party, coefficients, and outputs where it is not stopped
 abbrev one : ℕ → Round → ℕ
@@ -104,25 +53,25 @@ outputOf j r = cond (releases r) 1 0
 
 module _ (J : Joint) (f : Frame) where
   -- round r is due: what it asks is there, and what lies behind it is used up. That many rounds may still be made
-  pub record DueRound (s : Course) (l : List ℕ) (left : ℕ) (r : Round) : Type 0 where
-    pub going : Going J f s r l
-    pub fuel : s .rounds + left ≡ mostRounds prime J * gates (J .circuit)
+  pub record DueRound (s : Course) (held l : List ℕ) (left : ℕ) (r : Round) : Type 0 where
+    pub going : Going J f s r held l
+    pub fuel : s .rounds + left ≡ mostRounds ops J * gates (J .circuit)
     pub rounds : s .rounds ≡ spent (J .circuit) one (sending (s .point .gate) r)
     pub written : s .written ≡ J .parties * spent (J .circuit) (wordsOf (J .circuit)) (sending (s .point .gate) r)
     pub used : s .used ≡ spent (J .circuit) (drawsOf (J .circuit)) (sending (s .point .gate) r)
     pub given : s .released ≡ spent (J .circuit) outputOf (sending (s .point .gate) r)
 
-  abbrev pub Due : Course → List ℕ → ℕ → Stage → Type 0
-  Due s l left (Send r) = DueRound s l left r
-  Due s l left (Receive r) = Unit {0}
-  Due s l left Finished = Unit {0}
-  Due s l left Aborted = Unit {0}
+  abbrev pub Due : Course → List ℕ → List ℕ → ℕ → Stage → Type 0
+  Due s held l left (Send r) = DueRound s held l left r
+  Due s held l left (Receive r) = Unit {0}
+  Due s held l left Finished = Unit {0}
+  Due s held l left Aborted = Unit {0}
 
   module _ (l₀ t₀ o₀ : List ℕ) where
     -- between two rounds: the state is st, ws and vs are the words and outputs so far, and the run from st on makes up the whole
-    pub record Running (s : Course) (l t o : List ℕ) : Type 0 where
+    pub record Running (s : Course) (held l t o : List ℕ) : Type 0 where
       pub st : State
-      pub alike : Alike (J .parties) (stateOf f s l) st
+      pub alike : Alike (J .parties) (stateOf f s held l) st
       pub left : ℕ
       pub ws : List ℕ
       pub vs : List ℕ
@@ -132,21 +81,21 @@ module _ (J : Joint) (f : Frame) where
       pub excess : drop (J .parties * f .scratch) l ≡ drop (J .parties * f .scratch) l₀
       pub words : Written t₀ t (s .written) ws
       pub outs : Written o₀ o (s .released) vs
-      pub transcript : whole prime J l₀ .transcript ≡ ws ++ run prime J left st .transcript
-      pub outputs : whole prime J l₀ .outputs ≡ vs ++ run prime J left st .outputs
-      pub rounds : whole prime J l₀ .rounds ≡ s .rounds + run prime J left st .rounds
-      pub last : whole prime J l₀ .last ≡ run prime J left st .last
-      pub due : Due s l left (stageOf (s .point .stage))
+      pub transcript : whole ops J l₀ .transcript ≡ ws ++ run ops J left st .transcript
+      pub outputs : whole ops J l₀ .outputs ≡ vs ++ run ops J left st .outputs
+      pub rounds : whole ops J l₀ .rounds ≡ s .rounds + run ops J left st .rounds
+      pub last : whole ops J l₀ .last ≡ run ops J left st .last
+      pub due : Due s held l left (stageOf (s .point .stage))
 
-    module _ (able : Runnable J f l₀ t₀ o₀) {s : Course} {l t o : List ℕ} (inv : Running s l t o) (r : Round) (e : stageOf (s .point .stage) ≡ Send r) where
-      due-is : DueRound s l (inv .left) r
-      due-is = subst (Due s l (inv .left)) e (inv .due)
+    module _ (able : Runnable J f l₀ t₀ o₀) {s : Course} {held l t o : List ℕ} (inv : Running s held l t o) (r : Round) (e : stageOf (s .point .stage) ≡ Send r) where
+      due-is : DueRound s held l (inv .left) r
+      due-is = subst (Due s held l (inv .left)) e (inv .due)
 
       fits : FitsStage (J .circuit) (s .point .gate) (Send r)
-      fits = (within J f s r l (due-is .going), occurs J f s r l (due-is .going))
+      fits = (within J f s r held l (due-is .going), occurs J f s r held l (due-is .going))
 
       -- there are rounds left
-      pub rounds-left : s .rounds < mostRounds prime J * gates (J .circuit)
+      pub rounds-left : s .rounds < mostRounds ops J * gates (J .circuit)
       rounds-left = omega (arith, due-is .rounds, spent-le (J .circuit) one (s .point .gate) r fits, rounds-le (J .circuit) (gates (J .circuit)))
 
       words-left : s .written + J .parties * words (gate (J .circuit) (s .point .gate)) r ≤ length t
@@ -167,10 +116,10 @@ module _ (J : Joint) (f : Frame) where
           omega (arith, due-is .given, spent-le (J .circuit) outputOf (s .point .gate) r fits, outputs-all (J .circuit), able .outputs-fit, inv .long-o)
 
       -- the round is asked what it may ask
-      pub running-turning : Turning J f s r l t o
+      pub running-turning : Turning J f s r held l t o
       running-turning = record { going = due-is .going; words-fit = words-left; outputs-upto = written-le (inv .outs) (inv .long-o); outputs-fit = outputs-left; rounds-few = rounds-left }
 
-      module _ {s′ : Course} {l′ t′ o′ : List ℕ} (d : Turned J f s r l t o s′ l′ t′ o′) where
+      module _ {s′ : Course} {held′ l′ t′ o′ : List ℕ} (d : Turned J f s r held l t o s′ held′ l′ t′ o′) where
         c : List ℕ
         c = J .circuit
 
@@ -178,27 +127,27 @@ module _ (J : Joint) (f : Frame) where
         j = s .point .gate
 
         -- what is said and released, in the state of the run
-        said-is : said prime J (stateOf f s l) r ≡ said prime J (inv .st) r
-        said-is = said-alike J (stateOf f s l) (inv .st) r (inv .alike)
+        said-is : said ops J (stateOf f s held l) r ≡ said ops J (inv .st) r
+        said-is = said-alike ops J (stateOf f s held l) (inv .st) r (inv .alike)
 
-        released-is : released prime J (stateOf f s l) r ≡ released prime J (inv .st) r
-        released-is = released-alike J (stateOf f s l) (inv .st) r (inv .alike) (omega (arith, able .lent .some))
+        released-is : released ops J (stateOf f s held l) r ≡ released ops J (inv .st) r
+        released-is = released-alike ops J (stateOf f s held l) (inv .st) r (inv .alike) (omega (arith, able .lent .some))
 
         -- how many words were said, and where the round led
-        said-many : length (said prime J (stateOf f s l) r) ≡ J .parties * words (gate (J .circuit) (s .point .gate)) r
+        said-many : length (said ops J (stateOf f s held l) r) ≡ J .parties * words (gate (J .circuit) (s .point .gate)) r
         unfolding stateOf pointOf
-        said-many = length-said prime J (stateOf f s l) r (fits .1)
+        said-many = length-said ops J (stateOf f s held l) r (fits .1)
 
         outputs-length : length o′ ≡ length o
         outputs-length =
             ap length (d .outputs)
-            ∙ written-length (s .released) (released prime J (stateOf f s l) r) o
-            (released-fits J (stateOf f s l) r (s .released) (length o) (written-le (inv .outs) (inv .long-o)) outputs-left)
+            ∙ written-length (s .released) (released ops J (stateOf f s held l) r) o
+            (released-fits ops J (stateOf f s held l) r (s .released) (length o) (written-le (inv .outs) (inv .long-o)) outputs-left)
 
         transcript-length : length t′ ≡ length t
         transcript-length =
             ap length (d .transcript)
-            ∙ written-length (s .written) (said prime J (stateOf f s l) r) t (omega (arith, words-left, said-many))
+            ∙ written-length (s .written) (said ops J (stateOf f s held l) r) t (omega (arith, words-left, said-many))
 
         -- the run from here on is the round and the run after it
         rest : ℕ
@@ -212,11 +161,11 @@ module _ (J : Joint) (f : Frame) where
         unfolding stateOf pointOf
         st-sends = ap (λ (x : Point). x .stage) (sym (inv .alike .point)) ∙ e
 
-        run-is : run prime J (inv .left) (inv .st) ≡ ahead prime J (inv .st) r (run prime J rest (step prime J (inv .st) r))
-        run-is = ap (λ (k : ℕ). run prime J k (inv .st)) rest-is ∙ run-goes J rest (inv .st) r st-sends
+        run-is : run ops J (inv .left) (inv .st) ≡ ahead ops J (inv .st) r (run ops J rest (step ops J (inv .st) r))
+        run-is = ap (λ (k : ℕ). run ops J k (inv .st)) rest-is ∙ run-goes ops J rest (inv .st) r st-sends
 
         -- what lies behind the next round
-        module _ (r′ : Round) (e′ : nextIn J f s r l (due-is .going) .stage ≡ Send r′) where
+        module _ (r′ : Round) (e′ : nextIn J f s r held l (due-is .going) .stage ≡ Send r′) where
           spent-next : (h : ℕ → Round → ℕ) → spent (J .circuit) h (sending (s′ .point .gate) r′) ≡ spent (J .circuit) h (sending (s .point .gate) r) + h (s .point .gate) r
           unfolding pointOf
           spent-next h =
@@ -225,23 +174,23 @@ module _ (J : Joint) (f : Frame) where
             where
               there : _≡_ {A = Point} (record { gate = s′ .point .gate; stage = Send r′ }) (follow (J .circuit) (s .point .gate) r)
               there =
-                  ap (λ (x : Point). record { gate = x .gate; stage = Send r′ }) (point-is J f s r l (due-is .going) d)
-                  ∙ ap (λ (z : Stage). record { gate = nextIn J f s r l (due-is .going) .gate; stage = z }) (sym e′)
-                  ∙ next-follows (J .parties) (J .circuit) (s .point .gate) r (heardIn J f s r l (due-is .going)) r′ e′
+                  ap (λ (x : Point). record { gate = x .gate; stage = Send r′ }) (point-is J f s r held l (due-is .going) d)
+                  ∙ ap (λ (z : Stage). record { gate = nextIn J f s r held l (due-is .going) .gate; stage = z }) (sym e′)
+                  ∙ next-goes ops (J .parties) (J .circuit) (s .point .gate) r (heardIn J f s r held l (due-is .going)) r′ e′
 
           fits-next : FitsStage (J .circuit) (s′ .point .gate) (Send r′)
-          fits-next = next-fits J f s r l (due-is .going) d r′ e′
+          fits-next = next-fits J f s r held l (due-is .going) d r′ e′
 
           used-next : s′ .used ≡ spent (J .circuit) (drawsOf (J .circuit)) (sending (s′ .point .gate) r′)
           unfolding stateOf step takes pointOf
           used-next = d .alike .used ∙ omega (arith, due-is .used, spent-next (drawsOf (J .circuit)))
 
-          due-next : DueRound s′ l′ rest r′
+          due-next : DueRound s′ held′ l′ rest r′
           unfolding coefficientCount
           due-next =
               record {
                 going =
-                    going-next J f s r l (due-is .going) d r′ e′
+                    going-next J f s r held l (due-is .going) d r′ e′
                     (omega (arith, used-next, spent-le (J .circuit) (drawsOf (J .circuit)) (s′ .point .gate) r′ fits-next, able .coefficient-count));
                 fuel = omega (arith, due-is .fuel, d .rounds, rest-is);
                 rounds = omega (arith, d .rounds, due-is .rounds, spent-next one);
@@ -261,80 +210,80 @@ module _ (J : Joint) (f : Frame) where
                       d .given,
                       due-is .given,
                       spent-next outputOf,
-                      released-one J (stateOf f s l) r (next-passed (J .parties) (J .circuit) (s .point .gate) r (heardIn J f s r l (due-is .going)) r′ e′),
+                      released-one ops J (stateOf f s held l) r (next-passed ops (J .parties) (J .circuit) (s .point .gate) r (heardIn J f s r held l (due-is .going)) r′ e′),
                     );
               }
 
-        due-then : Due s′ l′ rest (stageOf (s′ .point .stage))
+        due-then : Due s′ held′ l′ rest (stageOf (s′ .point .stage))
         unfolding pointOf
-        due-then = rw (ap (λ (x : Point). x .stage) (point-is J f s r l (due-is .going) d)) (go (nextIn J f s r l (due-is .going) .stage) refl)
+        due-then = rw (ap (λ (x : Point). x .stage) (point-is J f s r held l (due-is .going) d)) (go (nextIn J f s r held l (due-is .going) .stage) refl)
           where
-            go : (x : Stage) → nextIn J f s r l (due-is .going) .stage ≡ x → Due s′ l′ rest x
+            go : (x : Stage) → nextIn J f s r held l (due-is .going) .stage ≡ x → Due s′ held′ l′ rest x
             go (Send r′) e′ = due-next r′ e′
             go (Receive r′) e′ = tt
             go Finished e′ = tt
             go Aborted e′ = tt
 
         -- after the round
-        pub running-again : Running s′ l′ t′ o′
+        pub running-again : Running s′ held′ l′ t′ o′
         unfolding ahead
         running-again =
             record {
-              st = step prime J (inv .st) r;
-              alike = alike-then (J .parties) _ _ _ (d .alike) (step-alike J (stateOf f s l) (inv .st) r (inv .alike));
+              st = step ops J (inv .st) r;
+              alike = alike-then (J .parties) _ _ _ (d .alike) (step-alike ops J (stateOf f s held l) (inv .st) r (inv .alike));
               left = rest;
-              ws = inv .ws ++ said prime J (inv .st) r;
-              vs = inv .vs ++ released prime J (inv .st) r;
+              ws = inv .ws ++ said ops J (inv .st) r;
+              vs = inv .vs ++ released ops J (inv .st) r;
               long = d .long ∙ inv .long;
               long-t = transcript-length ∙ inv .long-t;
               long-o = outputs-length ∙ inv .long-o;
               excess = d .excess ∙ inv .excess;
-              words = written-more (inv .words) (said prime J (inv .st) r) (d .transcript ∙ ap (λ (w : List ℕ). writtenAt (s .written) w t) said-is) (d .written ∙ ap (λ (w : List ℕ). s .written + length w) said-is);
-              outs = written-more (inv .outs) (released prime J (inv .st) r) (d .outputs ∙ ap (λ (w : List ℕ). writtenAt (s .released) w o) released-is) (d .given ∙ ap (λ (w : List ℕ). s .released + length w) released-is);
-              transcript = inv .transcript ∙ ap (λ (x : Run). inv .ws ++ x .transcript) run-is ∙ sym (append-assoc (inv .ws) (said prime J (inv .st) r) _);
-              outputs = inv .outputs ∙ ap (λ (x : Run). inv .vs ++ x .outputs) run-is ∙ sym (append-assoc (inv .vs) (released prime J (inv .st) r) _);
+              words = written-more (inv .words) (said ops J (inv .st) r) (d .transcript ∙ ap (λ (w : List ℕ). writtenAt (s .written) w t) said-is) (d .written ∙ ap (λ (w : List ℕ). s .written + length w) said-is);
+              outs = written-more (inv .outs) (released ops J (inv .st) r) (d .outputs ∙ ap (λ (w : List ℕ). writtenAt (s .released) w o) released-is) (d .given ∙ ap (λ (w : List ℕ). s .released + length w) released-is);
+              transcript = inv .transcript ∙ ap (λ (x : Run). inv .ws ++ x .transcript) run-is ∙ sym (append-assoc (inv .ws) (said ops J (inv .st) r) _);
+              outputs = inv .outputs ∙ ap (λ (x : Run). inv .vs ++ x .outputs) run-is ∙ sym (append-assoc (inv .vs) (released ops J (inv .st) r) _);
               rounds = inv .rounds ∙ ap (λ (x : Run). s .rounds + x .rounds) run-is ∙ omega (arith, d .rounds);
               last = inv .last ∙ ap (λ (x : Run). x .last) run-is;
               due = due-then;
             }
 
     -- the run is over: the words and outputs so far are all
-    module _ (able : Runnable J f l₀ t₀ o₀) {s : Course} {l t o : List ℕ} (inv : Running s l t o)
+    module _ (able : Runnable J f l₀ t₀ o₀) {s : Course} {held l t o : List ℕ} (inv : Running s held l t o)
         (over : Over (stageOf (s .point .stage))) where
       st-over : Over (inv .st .point .stage)
       unfolding stateOf pointOf
       st-over = subst (λ (z : Point). Over (z .stage)) (inv .alike .point) over
 
-      rest-none : run prime J (inv .left) (inv .st) ≡ still prime J (inv .st)
-      rest-none = run-over J (inv .left) (inv .st) st-over
+      rest-none : run ops J (inv .left) (inv .st) ≡ still ops J (inv .st)
+      rest-none = run-over ops J (inv .left) (inv .st) st-over
 
-      last-is : whole prime J l₀ .last ≡ inv .st
+      last-is : whole ops J l₀ .last ≡ inv .st
       unfolding still
       last-is = inv .last ∙ ap (λ (x : Run). x .last) rest-none
 
-      rounds-is : whole prime J l₀ .rounds ≡ s .rounds
+      rounds-is : whole ops J l₀ .rounds ≡ s .rounds
       unfolding still
       rounds-is = inv .rounds ∙ ap (λ (x : Run). s .rounds + x .rounds) rest-none ∙ omega arith
 
-      words-are : whole prime J l₀ .transcript ≡ inv .ws
+      words-are : whole ops J l₀ .transcript ≡ inv .ws
       unfolding still
       words-are = inv .transcript ∙ ap (λ (x : Run). inv .ws ++ x .transcript) rest-none ∙ append-nil (inv .ws)
 
-      outputs-are : whole prime J l₀ .outputs ≡ inv .vs
+      outputs-are : whole ops J l₀ .outputs ≡ inv .vs
       unfolding still
       outputs-are = inv .outputs ∙ ap (λ (x : Run). inv .vs ++ x .outputs) rest-none ∙ append-nil (inv .vs)
 
-      point-last : whole prime J l₀ .last .point ≡ pointOf (s .point)
+      point-last : whole ops J l₀ .last .point ≡ pointOf (s .point)
       unfolding stateOf
       point-last = ap (λ (x : State). x .point) last-is ∙ sym (inv .alike .point)
 
-      scratch-last : l ≡ joined (J .parties) (whole prime J l₀ .last .scratch) ++ drop (J .parties * scratchSize (layout (J .circuit))) l₀
+      scratch-last : l ≡ joined (J .parties) (whole ops J l₀ .last .scratch) ++ drop (J .parties * scratchSize (layout (J .circuit))) l₀
       unfolding stateOf
       scratch-last =
           sym (joined-bands (J .parties) (f .scratch) l (omega (arith, inv .long, able .room)))
           ∙ ap (λ (x : List ℕ). joined (J .parties) (band (f .scratch) l) ++ x) (inv .excess)
-          ∙ ap (λ (x : List ℕ). x ++ drop (J .parties * f .scratch) l₀) (joined-ext (J .parties) (band (f .scratch) l) (whole prime J l₀ .last .scratch) (λ i h. inv .alike .scratch i h ∙ ap (λ (x : State). x .scratch i) (sym last-is)))
-          ∙ ap (λ (k : ℕ). joined (J .parties) (whole prime J l₀ .last .scratch) ++ drop (J .parties * k) l₀) (able .lent .framed .scratch)
+          ∙ ap (λ (x : List ℕ). x ++ drop (J .parties * f .scratch) l₀) (joined-ext (J .parties) (band (f .scratch) l) (whole ops J l₀ .last .scratch) (λ i h. inv .alike .scratch i h ∙ ap (λ (x : State). x .scratch i) (sym last-is)))
+          ∙ ap (λ (k : ℕ). joined (J .parties) (whole ops J l₀ .last .scratch) ++ drop (J .parties * k) l₀) (able .lent .framed .scratch)
 
       -- so the answer tells the end of the whole run, and the lists hold what it leaves
       running-over : (a : JointAnswer) → jointAnswerOf a ≡ E.ended (stageOf (s .point .stage)) (s .point .gate) (s .rounds) → Ran J l₀ t₀ o₀ a l t o
@@ -348,7 +297,7 @@ module _ (J : Joint) (f : Frame) where
           }
 
     -- it ends where nothing is sent
-    pub running-ended : Runnable J f l₀ t₀ o₀ → {s : Course} {l t o : List ℕ} → Running s l t o
+    pub running-ended : Runnable J f l₀ t₀ o₀ → {s : Course} {held l t o : List ℕ} → Running s held l t o
         → ((r : Round) → stageOf (s .point .stage) ≡ Send r → ⊥)
         → {a : JointAnswer} → jointAnswerOf a ≡ E.ended (stageOf (s .point .stage)) (s .point .gate) (s .rounds)
         → Ran J l₀ t₀ o₀ a l t o
@@ -363,25 +312,25 @@ module _ (J : Joint) (f : Frame) (l t o : List ℕ) (able : Runnable J f l t o) 
   pub placed-start : {places : List ℕ} → Placed (J .parties) (J .circuit) 0 places → Placed (J .parties) (J .circuit) (s .point .gate) places
   placed-start k = rw gate-zero k
 
-  stage-input : stageOf (s .point .stage) ≡ Send Input
+  stage-input : stageOf (s .point .stage) ≡ Send Own
   unfolding pointOf
   stage-input = ap (λ (x : Point). x .stage) (b .point)
 
   at-start : pointOf (s .point) ≡ start (J .circuit)
-  at-start = b .point ∙ sym (start-is (J .circuit) (J .parties) p (able .lent .valid))
+  at-start = b .point ∙ sym (start-is (J .circuit) (J .parties) size (able .lent .valid))
 
-  goes : Goes (J .circuit) 0 (record { gate = 0; stage = Send Input })
-  goes = subst (Goes (J .circuit) 0) (start-is (J .circuit) (J .parties) p (able .lent .valid)) (goes-start (J .circuit) (able .lent .valid))
+  goes : Goes (J .circuit) 0 (record { gate = 0; stage = Send Own })
+  goes = subst (Goes (J .circuit) 0) (start-is (J .circuit) (J .parties) size (able .lent .valid)) (goes-start (J .circuit) (able .lent .valid))
 
-  nothing-spent : (h : ℕ → Round → ℕ) → spent (J .circuit) h (sending (s .point .gate) Input) ≡ 0
+  nothing-spent : (h : ℕ → Round → ℕ) → spent (J .circuit) h (sending (s .point .gate) Own) ≡ 0
   unfolding overRun
   nothing-spent h = rw gate-zero (goes .spent-is h)
 
-  none-opened : openedIn (unchecked (J .circuit) 0) Input ≡ 0
+  none-opened : openedIn (unchecked (J .circuit) 0) Own ≡ 0
   unfolding openedIn unchecked
   none-opened = refl
 
-  ready-first : (i : ℕ) → i < J .parties → Ready (party J i) (band (f .scratch) l i) (f .layout) (siteOf (J .circuit) s i) Input
+  ready-first : (i : ℕ) → i < J .parties → Ready size (party J i) (band (f .scratch) l i) (f .layout) (siteOf (J .circuit) s i) Own
   unfolding siteOf party
   ready-first i h =
       let k = b .tallied (J .circuit) in
@@ -400,19 +349,19 @@ module _ (J : Joint) (f : Frame) (l t o : List ℕ) (able : Runnable J f l t o) 
         opened = λ x z. absurd (omega (arith, none-opened));
       })
 
-  pub running-start : Running J f l t o s l t o
+  pub running-start : Running J f l t o s (replicate mostParties 0) l t o
   unfolding whole begun stateOf
   running-start =
       record {
-        st = begun prime J l;
+        st = begun ops J l;
         alike =
             record {
               point = at-start;
-              held = λ i h. b .held i;
+              held = λ i h. zeros mostParties i;
               scratch = λ i h. ap (λ (k : ℕ). band k l i) (able .lent .framed .scratch);
               used = b .used;
             };
-        left = mostRounds prime J * gates (J .circuit);
+        left = mostRounds ops J * gates (J .circuit);
         ws = [];
         vs = [];
         long = refl;
@@ -433,7 +382,9 @@ module _ (J : Joint) (f : Frame) (l t o : List ℕ) (able : Runnable J f l t o) 
                     lent = able .lent;
                     room = able .room;
                     tallied = rw gate-zero (b .tallied (J .circuit));
-                    held-low = λ i h. rw (b .held i) (omega arith);
+                    eight = refl;
+                    held-low = λ i h. rw (zeros mostParties i) (omega arith);
+                    held-none = λ e i h. zeros mostParties i;
                     ready = ready-first;
                     coefficient-count = omega (arith, nothing-drawn, b .used);
                     coefficients-low = able .coefficients-low;
@@ -446,5 +397,5 @@ module _ (J : Joint) (f : Frame) (l t o : List ℕ) (able : Runnable J f l t o) 
             });
       }
     where
-      nothing-drawn : coefficientsIn (unchecked (J .circuit) (s .point .gate)) Input ≡ 0
+      nothing-drawn : coefficientsIn (unchecked (J .circuit) (s .point .gate)) Own ≡ 0
       nothing-drawn = unfold coefficientsIn isCommit in refl

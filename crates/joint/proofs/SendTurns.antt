@@ -1,81 +1,72 @@
 -- All parties send: the words of each sort of round, what they ask, and that they are what is defined.
 -- Assumes nothing.
-use Prim.Native.Nat.{ℕ, _+_, _-_, _*_, _<_, _≤_}
+use Prim.Native.Nat.{ℕ, _+_, _*_, _<_, _≤_}
 use mathlib.Core.Path.{_≡_, sym, ap, _∙_}
 use mathlib.Core.Bool.{true, false}
-use mathlib.Core.List.{List, [], _∷_, _++_, append-nil}
+use mathlib.Core.List.{List, [], _∷_}
 use native.Mathlib.Nat.{add-sub-cancel-left}
 use native.Mathlib.Decide.{ℕ-discrete}
 use native.Mathlib.Omega.{arith}
-use lib.ListN.{length, getD, take, drop, replicate, length-drop, drop-of-length-le}
+use lib.Dec.{eqb}
+use lib.ListN.{length, getD, drop, length-drop}
 use lib.Seq.{length-take-le, getD-take, getD-drop}
-use borrow.Author.Tests.{ne-eqb}
-use Rattle.field.specs.Prime.{prime, Is}
-use Rattle.circuit.specs.Gate.{In, gate, first, second}
-use Rattle.circuit.specs.Kind.{shape}
+use borrow.Author.Tests.{ne-eqb, eqb-true, eqb-false}
+use Rattle.algebra.specs.Ops.{Ops}
+use Rattle.algebra.specs.Element.{Is}
+use Rattle.field.specs.Words.{ops, size}
+use Rattle.circuit.specs.Gate.{gate}
+use Rattle.circuit.specs.Kind.{Class, Owned, Opens, shape, isClass}
 use Rattle.circuit.specs.Count.{inputAt, inputCount, unchecked}
-use Rattle.circuit.specs.Round.{Round, Input, Multiply, OpenOutput, isCommit, words, openedIn, coefficientsIn}
+use Rattle.circuit.specs.Round.{Round, Own, Open, isCommit, words, openedIn, coefficientsIn}
 use Rattle.circuit.proofs.Counts.{input-within}
-use Rattle.circuit.proofs.Rounds.{gate-at-round}
-use Rattle.steps.specs.Part as A
-use Rattle.steps.specs.Scratch.{wire}
-use Rattle.steps.specs.Party.{key, recordIn, recordOf, inputOf}
-use Rattle.steps.specs.Send.{inputWord, maskedFirst, maskedSecond, checkShare, sent, holds, overwrite}
+use Rattle.circuit.proofs.KindLaws.{class-is, owned-facts, opens-facts}
+use Rattle.circuit.proofs.RoundLaws.{class-at-round}
+use Rattle.circuit.proofs.Tests.{by-cases}
+use Rattle.protocol.specs.Part as A
+use Rattle.protocol.specs.Scratch.{Layout, wire}
+use Rattle.protocol.specs.Position.{keep}
+use Rattle.protocol.specs.Party.{key, recordIn, recordOf, inputOf}
+use Rattle.protocol.specs.Send.{inputWord, openingWords, checkShare, opening, ownWords, sent, holds}
 use Rattle.steps.specs.declared.Part.{Part}
-use Rattle.steps.specs.Code.{IsPart, layoutOf, pointOf, Below, Held, Opened}
-use Rattle.party.specs.Ask.{mostParties}
-use Rattle.steps.proofs.Readiness.{share-is, opened-there, multiply-held, output-held}
-use Rattle.joint.specs.Joint.{Joint, joined, band, inputsAt, party}
-use Rattle.joint.specs.Run.{takes, said, step}
+use Rattle.protocol.specs.Holding.{Below, Held, Opened}
+use Rattle.protocol.specs.Code.{layoutOf, pointOf}
+use Rattle.protocol.specs.Ready.{Named}
+use Rattle.steps.specs.Code.{IsPart}
+use Rattle.protocol.specs.Ask.{mostParties}
+use Rattle.steps.proofs.Numbers.{share-is}
+use Rattle.protocol.proofs.Readiness.{input-words, opening-words, output-words, opened-there, opening-held, output-held, own-owned, own-opens}
+use Rattle.protocol.specs.Joint.{Joint, joined, band, inputsAt, party}
+use Rattle.protocol.specs.Run.{takes, said, step}
 use Rattle.joint.specs.declared.Frame.{Frame}
 use Rattle.joint.specs.declared.Course.{Course}
-use Rattle.joint.specs.Code.{Placed, jointOf, siteOf, stateOf, part, prepFrom, keyIn, Prepared, Banded, EachBand, EachIs, Going, saidBy}
-use Rattle.joint.proofs.Words.{joined-ext}
+use Rattle.joint.specs.Code.{Placed, jointOf, siteOf, stateOf, part, prepFrom, keyIn, Prepared, Banded, EachBand, Going, saidBy}
+use Rattle.protocol.proofs.Words.{joined-ext}
 use Rattle.joint.proofs.Parties.{lent-prepared, lent-key, lent-banded, lent-keyed, lent-record, lent-record-is}
-use Rattle.joint.proofs.Arrays.{zeros}
-use Rattle.joint.proofs.States.{keep-holds}
 use Rattle.joint.proofs.Going.{within, occurs}
 
 -- the share of a part that is known
-pub share-of : {v : A.Part} {x : Part} → IsPart v x → Is (v .share) (x .share)
+pub share-of : {v : A.Part} {x : Part} → IsPart v x → Is size (v .share) (x .share)
 share-of e = record { is = share-is e; below = e .low .share }
 
 -- a part of a list is as long as its ends say
 pub part-enough : (u k : ℕ) (xs : List ℕ) → u + k ≤ length xs → k ≤ length (part u (u + k) xs)
 part-enough u k xs h = rw (add-sub-cancel-left u k) (omega (arith, length-take-le k (drop u xs) (simp length-drop (omega arith))))
 
--- the words of party i at a mul gate that names x and z
-abbrev pub maskedWords : Frame → List ℕ → List ℕ → ℕ → ℕ → ℕ → ℕ → List ℕ
-maskedWords f preps l a x z i =
-    maskedFirst prime (layoutOf (f .layout)) (band (f .scratch) l i) x (prepFrom f preps a i) .share
-    ∷ maskedSecond prime (layoutOf (f .layout)) (band (f .scratch) l i) z (prepFrom f preps a i) .share
-    ∷ []
+-- the words of party i at a gate that opens k values and names x and z
+abbrev pub openedWords : Frame → List ℕ → List ℕ → ℕ → ℕ → ℕ → ℕ → ℕ → List ℕ
+openedWords f preps l a x z k i = openingWords ops (layoutOf (f .layout)) (band (f .scratch) l i) x z (prepFrom f preps a i) k
 
--- two words fill two places
-module _ (n k : ℕ) (out : List ℕ) (e : length out ≡ n * k) where
-  pub words-room : n * k ≤ length out
-  words-room = omega (arith, e)
-
-  pub words-done : (F : ℕ → List ℕ) {out′ : List ℕ} → out′ ≡ joined n F ++ drop (n * k) out → out′ ≡ joined n F
-  words-done F d = d ∙ ap (λ (zs : List ℕ). joined n F ++ zs) (drop-of-length-le out {i = n * k} (omega (arith, e))) ∙ append-nil (joined n F)
-
-module _ (a : ℕ) (out : List ℕ) (h : a + 2 ≤ length out) where
-  two-long : length (take (a + 2 - a) (drop a out)) ≡ 2
-  two-long = rw (add-sub-cancel-left a 2) (length-take-le 2 (drop a out) (simp length-drop (omega arith)))
-
-  pub two-room : 1 < length (take (a + 2 - a) (drop a out))
-  two-room = omega (arith, two-long)
-
-  pub two-put : {v w : ℕ} {ys : List ℕ} → ys ≡ overwrite (v ∷ w ∷ []) (take (a + 2 - a) (drop a out)) → ys ≡ v ∷ w ∷ []
-  unfolding overwrite
-  two-put {v} {w} e = e ∙ ap (λ (zs : List ℕ). v ∷ w ∷ zs) (drop-of-length-le (take (a + 2 - a) (drop a out)) {i = 2} (omega (arith, two-long)))
+-- they are k
+pub opened-words : (O : Ops) (y : Layout) (l : List ℕ) (x z : ℕ) (m : List ℕ) (k : ℕ) → 1 ≤ k → k ≤ 2 → length (openingWords O y l x z m k) ≡ k
+opened-words O y l x z m k some few =
+    by-cases (eqb k 2) (λ e. rw e (omega (arith, eqb-true k 2 e))) (λ e. rw e (omega (arith, eqb-false k 2 e)))
 
 -- an input matters to its owner only
-input-same : (i owner : ℕ) (m : List ℕ) (u v : ℕ) → (i ≡ owner → u ≡ v) → inputWord prime i owner m u ≡ inputWord prime i owner m v
+input-same : (O : Ops) (i owner : ℕ) (m : List ℕ) (u v : ℕ) → (i ≡ owner → u ≡ v) → inputWord O i owner m u ≡ inputWord O i owner m v
 unfolding inputWord
-input-same i owner m u v h = go (ℕ-discrete i owner)
+input-same O i owner m u v h = go (ℕ-discrete i owner)
   where
-    go : Dec (i ≡ owner) → inputWord prime i owner m u ≡ inputWord prime i owner m v
+    go : Dec (i ≡ owner) → inputWord O i owner m u ≡ inputWord O i owner m v
     go (yes e) = rw (h e)
     go (no e) = rw (ne-eqb i owner e)
 
@@ -83,16 +74,16 @@ input-same i owner m u v h = go (ℕ-discrete i owner)
 abbrev pub lentAll : Frame → List ℕ → List ℕ → List ℕ → List ℕ → Joint
 lentAll f c preps inputs coefficients = jointOf (f .parties) c preps inputs coefficients
 
-module _ {f : Frame} {s : Course} {c preps inputs coefficients l : List ℕ} where
-  module _ {r : Round} (g : Going (lentAll f c preps inputs coefficients) f s r l) where
+module _ {f : Frame} {s : Course} {c preps inputs coefficients held l : List ℕ} where
+  module _ {r : Round} (g : Going (lentAll f c preps inputs coefficients) f s r held l) where
     record-end : s .tally .prep + shape (gate c (s .point .gate)) .prep ≤ f .prep
-    record-end = lent-record (g .lent) (g .tallied .prep) (within (lentAll f c preps inputs coefficients) f s r l g)
+    record-end = lent-record (g .lent) (g .tallied .prep) (within (lentAll f c preps inputs coefficients) f s r held l g)
 
     -- what is cut out is what the definitions read
     record-is : (i : ℕ) → prepFrom f preps (s .tally .prep) i ≡ recordOf (party (lentAll f c preps inputs coefficients) i) (s .point .gate)
     unfolding recordOf recordIn party
     record-is i =
-        lent-record-is (g .lent) (g .tallied .prep) (within (lentAll f c preps inputs coefficients) f s r l g) i
+        lent-record-is (g .lent) (g .tallied .prep) (within (lentAll f c preps inputs coefficients) f s r held l g) i
         ∙ ap (λ (a : ℕ). drop a (party (lentAll f c preps inputs coefficients) i .prep)) (g .tallied .prep)
 
     key-of : (i : ℕ) → keyIn f preps i ≡ key (party (lentAll f c preps inputs coefficients) i)
@@ -103,119 +94,135 @@ module _ {f : Frame} {s : Course} {c preps inputs coefficients l : List ℕ} whe
     pub put-asks : (out : List ℕ) → length out ≡ f .parties * words (gate c (s .point .gate)) r → words (gate c (s .point .gate)) r ≡ 1 → (f .parties ≤ mostParties) × (length out ≡ f .parties)
     put-asks out e w = (g .lent .few, e ∙ rw w (omega arith))
 
-    -- a round that is no commitment makes no check share
-    pub held-none : isCommit r ≡ false → (i : ℕ) → i < f .parties → Is (step prime (lentAll f c preps inputs coefficients) (stateOf f s l) r .held i) (getD (replicate mostParties 0) i 0)
-    unfolding step stateOf pointOf holds
-    held-none e i h =
-        record {
-          is = zeros mostParties i ∙ sym (keep-holds (party (lentAll f c preps inputs coefficients) i) (band (f .scratch) l i) (s .point .gate) r _ ∙ rw e);
-          below = rw (zeros mostParties i) (omega arith);
-        }
+    -- no check share is held after a round that is no commitment
+    pub held-zero : isCommit r ≡ false → (i : ℕ) {x : ℕ} → x ≡ 0 → Is size (step ops (lentAll f c preps inputs coefficients) (stateOf f s held l) r .held i) x
+    unfolding step keep
+    held-zero e i z = record { is = z ∙ rw e; below = rw z (omega arith) }
 
-    module _ (e : isCommit r ≡ true) {k : ℕ} (ek : k ≡ openedIn (unchecked c (s .point .gate)) r) where
-      taken : k ≡ takes prime (lentAll f c preps inputs coefficients) (stateOf f s l) r
+    module _ (e : isCommit r ≡ true) {k : ℕ} (ek : k ≡ openedIn (s .tally .unchecked) r) where
+      opened-is : k ≡ openedIn (unchecked c (s .point .gate)) r
+      opened-is = ek ∙ ap (λ (u : ℕ). openedIn u r) (g .tallied .unchecked)
+
+      taken : k ≡ takes ops (lentAll f c preps inputs coefficients) (stateOf f s held l) r
       unfolding takes stateOf pointOf coefficientsIn
-      taken = ek ∙ rw e
+      taken = opened-is ∙ rw e
 
-      pub check-asks : (f .parties ≤ mostParties)
+      pub check-asks : (length held ≡ mostParties)
+          × (f .parties ≤ mostParties)
           × Prepared f preps 0 1
           × Banded f l
           × (s .used + k ≤ length coefficients)
-          × Below coefficients
-          × EachBand f l (λ i m. (t : ℕ) → t < k → Opened (layoutOf (f .layout)) m t)
+          × Below size coefficients
+          × EachBand f l (λ i m. (t : ℕ) → t < k → Opened size (layoutOf (f .layout)) m t)
       unfolding coefficientsIn siteOf party
       check-asks = (
+        g .eight,
         g .lent .few,
         lent-key (g .lent),
         lent-banded (g .lent) (g .room),
-        rw ek (rw e at (g .coefficient-count)),
+        rw opened-is (rw e at (g .coefficient-count)),
         g .coefficients-low,
-        λ i h. rw ek (opened-there (party (lentAll f c preps inputs coefficients) i) (band (f .scratch) l i) (f .layout) (siteOf c s i) r (g .ready i h)),
+        λ i h. rw opened-is (opened-there (party (lentAll f c preps inputs coefficients) i) (band (f .scratch) l i) (f .layout) (siteOf c s i) r (g .ready i h)),
       )
 
-      checked : (i : ℕ) → checkShare prime (layoutOf (f .layout)) (band (f .scratch) l i) k (keyIn f preps i) (part (s .used) (s .used + k) coefficients)
-          ≡ holds prime (party (lentAll f c preps inputs coefficients) i) (band (f .scratch) l i) (s .point .gate) r (take (takes prime (lentAll f c preps inputs coefficients) (stateOf f s l) r) (drop (s .used) coefficients))
-      unfolding holds party
-      checked i = rw (e, ← ek, ← taken, g .lent .framed .lay, key-of i, add-sub-cancel-left (s .used) k)
+      checked : (i : ℕ) → checkShare ops (layoutOf (f .layout)) (band (f .scratch) l i) k (keyIn f preps i) (part (s .used) (s .used + k) coefficients)
+          ≡ step ops (lentAll f c preps inputs coefficients) (stateOf f s held l) r .held i
+      unfolding step stateOf pointOf keep holds party
+      checked i = rw (e, ← opened-is, ← taken, g .lent .framed .lay, key-of i, add-sub-cancel-left (s .used) k)
 
-      pub held-made : (hs : List ℕ)
-          → EachIs f (λ i. checkShare prime (layoutOf (f .layout)) (band (f .scratch) l i) k (keyIn f preps i) (part (s .used) (s .used + k) coefficients)) hs
-          → (i : ℕ) → i < f .parties → Is (step prime (lentAll f c preps inputs coefficients) (stateOf f s l) r .held i) (getD hs i 0)
-      unfolding step stateOf pointOf
-      held-made hs w i h =
-          record {
-            is = w i h .is ∙ checked i ∙ sym (keep-holds (party (lentAll f c preps inputs coefficients) i) (band (f .scratch) l i) (s .point .gate) r _);
-            below = w i h .below;
-          }
+      pub held-made : (i : ℕ) {x : ℕ}
+          → Is size (checkShare ops (layoutOf (f .layout)) (band (f .scratch) l i) k (keyIn f preps i) (part (s .used) (s .used + k) coefficients)) x
+          → Is size (step ops (lentAll f c preps inputs coefficients) (stateOf f s held l) r .held i) x
+      held-made i w = record { is = w .is ∙ checked i; below = w .below }
 
     -- the words are those of the definition, if each party's are
-    pub said-by : (F : ℕ → List ℕ) → ((i : ℕ) → i < f .parties → F i ≡ saidBy (lentAll f c preps inputs coefficients) (stateOf f s l) r i) → {out : List ℕ} → out ≡ joined (f .parties) F → out ≡ said prime (lentAll f c preps inputs coefficients) (stateOf f s l) r
+    pub said-by : (F : ℕ → List ℕ) → ((i : ℕ) → i < f .parties → F i ≡ saidBy ops (lentAll f c preps inputs coefficients) (stateOf f s held l) r i) → {out : List ℕ} → out ≡ joined (f .parties) F → out ≡ said ops (lentAll f c preps inputs coefficients) (stateOf f s held l) r
     unfolding said
-    said-by F e d = d ∙ joined-ext (f .parties) F (saidBy (lentAll f c preps inputs coefficients) (stateOf f s l) r) e
+    said-by F e d = d ∙ joined-ext (f .parties) F (saidBy ops (lentAll f c preps inputs coefficients) (stateOf f s held l) r) e
 
-  -- in gates
-  module _ (g : Going (lentAll f c preps inputs coefficients) f s Input l) {places : List ℕ} (placed : Placed (f .parties) c (s .point .gate) places) where
-    pub input-asks : (f .parties ≤ mostParties) × Prepared f preps (s .tally .prep) 3 × Below inputs × (f .parties ≤ length places)
-    unfolding shape
-    input-asks =
-        let n : shape (gate c (s .point .gate)) .prep ≡ 3 = rw (gate-at-round c (s .point .gate) Input (occurs (lentAll f c preps inputs coefficients) f s Input l g) .1) in
-        (g .lent .few, lent-prepared (g .lent) (s .tally .prep) 3 (omega (arith, record-end g, n)), g .lent .inputs-low, omega (arith, g .lent .few, placed .eight))
+  -- a gate's own round
+  module _ (g : Going (lentAll f c preps inputs coefficients) f s Own held l) where
+    some : 0 < f .parties
+    some = omega (arith, g .lent .some)
 
-    pub input-one : words (gate c (s .point .gate)) Input ≡ 1
-    unfolding words shape
-    input-one = rw (gate-at-round c (s .point .gate) Input (occurs (lentAll f c preps inputs coefficients) f s Input l g) .1)
+    -- the class, by the code's test of it
+    module _ {h : Class} (e : h ≡ shape (gate c (s .point .gate)) .class) where
+      pub sends-in : isClass Owned h ≡ true → shape (gate c (s .point .gate)) .class ≡ Owned
+      unfolding siteOf party
+      sends-in = own-owned (g .ready 0 some) e
 
-    own-input : (i : ℕ) → i < f .parties → i ≡ first (gate c (s .point .gate)) → getD inputs (getD places i 0) 0 ≡ inputOf (party (lentAll f c preps inputs coefficients) i) (s .point .gate)
-    unfolding inputOf party first
-    own-input i h e =
-        let k = gate-at-round c (s .point .gate) Input (occurs (lentAll f c preps inputs coefficients) f s Input l g) in
-        let o : gate c (s .point .gate) ≡ In i = k .1 ∙ ap In (sym (e ∙ ap first (k .1))) in
-        ap (λ (z : ℕ). getD inputs z 0) (placed .each i h)
-        ∙ sym (getD-take (inputCount c i) (drop (inputsAt c i) inputs) (inputAt c i (s .point .gate)) 0 (input-within c i (s .point .gate) o (within (lentAll f c preps inputs coefficients) f s Input l g)) ∙ getD-drop (inputsAt c i) inputs (inputAt c i (s .point .gate)) 0)
+      pub sends-opens : isClass Owned h ≡ false → shape (gate c (s .point .gate)) .class ≡ Opens
+      unfolding siteOf party
+      sends-opens = own-opens (g .ready 0 some) e
 
-    pub said-input : {x : ℕ} → x ≡ first (gate c (s .point .gate)) → {out : List ℕ}
-        → out ≡ joined (f .parties) (λ i. inputWord prime i x (prepFrom f preps (s .tally .prep) i) (getD inputs (getD places i 0) 0) ∷ [])
-        → out ≡ said prime (lentAll f c preps inputs coefficients) (stateOf f s l) Input
-    unfolding sent stateOf pointOf party
-    said-input {x} ex d =
-        said-by g _
-        (λ i h. ap (λ (z : ℕ). z ∷ [])
-        (rw (ex, record-is g i) (input-same i (first (gate c (s .point .gate))) (recordOf (party (lentAll f c preps inputs coefficients) i) (s .point .gate)) _ _ (own-input i h))))
-        d
+    -- in gates
+    module _ (cl : shape (gate c (s .point .gate)) .class ≡ Owned) {places : List ℕ} (placed : Placed (f .parties) c (s .point .gate) places) where
+      pub input-asks : (out : List ℕ) → length out ≡ f .parties * words (gate c (s .point .gate)) Own
+          → (f .parties ≤ mostParties) × Prepared f preps (s .tally .prep) 3 × Below size inputs × (f .parties ≤ length places) × (length out ≡ f .parties)
+      input-asks out e = (
+        g .lent .few,
+        lent-prepared (g .lent) (s .tally .prep) 3 (omega (arith, record-end g, owned-facts (gate c (s .point .gate)) cl .prep)),
+        g .lent .inputs-low,
+        omega (arith, g .lent .few, placed .eight),
+        put-asks g out e (input-words (gate c (s .point .gate)) cl) .1,
+      )
 
-  -- mul gates
-  module _ (g : Going (lentAll f c preps inputs coefficients) f s Multiply l) {x z : ℕ} (ex : x ≡ first (gate c (s .point .gate))) (ez : z ≡ second (gate c (s .point .gate))) where
-    pub multiply-asks : (out : List ℕ) → length out ≡ f .parties * words (gate c (s .point .gate)) Multiply
-        → Prepared f preps (s .tally .prep) 4
-        × Banded f l
-        × EachBand f l (λ i m. Held (layoutOf (f .layout)) m x × Held (layoutOf (f .layout)) m z)
-        × (length out ≡ f .parties * 2)
-    unfolding shape words siteOf party
-    multiply-asks out e =
-        let k = gate-at-round c (s .point .gate) Multiply (occurs (lentAll f c preps inputs coefficients) f s Multiply l g) in
-        let n : shape (gate c (s .point .gate)) .prep ≡ 6 = rw (k .2) in
-        let w : words (gate c (s .point .gate)) Multiply ≡ 2 = rw (k .2) in (
-          lent-prepared (g .lent) (s .tally .prep) 4 (omega (arith, record-end g, n)),
-          lent-banded (g .lent) (g .room),
-          λ i h. rw (ex, ez) (multiply-held (party (lentAll f c preps inputs coefficients) i) (band (f .scratch) l i) (f .layout) (siteOf c s i) (g .ready i h)),
-          e ∙ ap (λ (m : ℕ). f .parties * m) w,
-        )
+      own-input : (i : ℕ) → i < f .parties → i ≡ gate c (s .point .gate) .first → getD inputs (getD places i 0) 0 ≡ inputOf (party (lentAll f c preps inputs coefficients) i) (s .point .gate)
+      unfolding inputOf party
+      own-input i h e =
+          ap (λ (z : ℕ). getD inputs z 0) (placed .each i h)
+          ∙ sym (getD-take (inputCount c i) (drop (inputsAt c i) inputs) (inputAt c i (s .point .gate)) 0 (input-within c i (s .point .gate) (class-is cl) (sym e) (within (lentAll f c preps inputs coefficients) f s Own held l g)) ∙ getD-drop (inputsAt c i) inputs (inputAt c i (s .point .gate)) 0)
 
-    pub said-multiply : {out : List ℕ} → out ≡ joined (f .parties) (maskedWords f preps l (s .tally .prep) x z) → out ≡ said prime (lentAll f c preps inputs coefficients) (stateOf f s l) Multiply
-    unfolding sent stateOf pointOf party
-    said-multiply d = said-by g (maskedWords f preps l (s .tally .prep) x z) (λ i h. rw (ex, ez, record-is g i, g .lent .framed .lay)) d
+      pub said-input : {x : ℕ} → x ≡ gate c (s .point .gate) .first → {out : List ℕ}
+          → out ≡ joined (f .parties) (λ i. inputWord ops i x (prepFrom f preps (s .tally .prep) i) (getD inputs (getD places i 0) 0) ∷ [])
+          → out ≡ said ops (lentAll f c preps inputs coefficients) (stateOf f s held l) Own
+      unfolding sent ownWords stateOf pointOf party
+      said-input {x} ex d =
+          said-by g _
+          (λ i h.
+          rw (cl, ex, record-is g i)
+          (ap (λ (z : ℕ). z ∷ []) (input-same ops i (gate c (s .point .gate) .first) (recordOf (party (lentAll f c preps inputs coefficients) i) (s .point .gate)) _ _ (own-input i h))))
+          d
+
+    -- gates that open values
+    module _ (cl : shape (gate c (s .point .gate)) .class ≡ Opens) {x z k : ℕ} (n : Named (gate c (s .point .gate)) x z k) where
+      pub opening-asks : (out : List ℕ) → length out ≡ f .parties * words (gate c (s .point .gate)) Own
+          → (1 ≤ k)
+          × (k ≤ 2)
+          × Prepared f preps (s .tally .prep) (2 * k + 2)
+          × Banded f l
+          × EachBand f l (λ i m. Held size (layoutOf (f .layout)) m x × Held size (layoutOf (f .layout)) m z)
+          × (length out ≡ f .parties * k)
+      unfolding siteOf party
+      opening-asks out e =
+          let o = opens-facts (gate c (s .point .gate)) cl in (
+            omega (arith, n .openings, o .some),
+            omega (arith, n .openings, o .few),
+            lent-prepared (g .lent) (s .tally .prep) (2 * k + 2) (omega (arith, record-end g, n .openings, o .prep)),
+            lent-banded (g .lent) (g .room),
+            λ i h. rw (n .first, n .second) (opening-held (party (lentAll f c preps inputs coefficients) i) (band (f .scratch) l i) (f .layout) (siteOf c s i) (g .ready i h) cl),
+            e ∙ ap (λ (m : ℕ). f .parties * m) (opening-words (gate c (s .point .gate)) cl ∙ sym (n .openings)),
+          )
+
+      pub said-opening : {out : List ℕ} → out ≡ joined (f .parties) (openedWords f preps l (s .tally .prep) x z k) → out ≡ said ops (lentAll f c preps inputs coefficients) (stateOf f s held l) Own
+      unfolding sent ownWords opening stateOf pointOf party
+      said-opening d =
+          said-by g (openedWords f preps l (s .tally .prep) x z k)
+          (λ i h. rw (cl, n .first, n .second, n .openings, record-is g i, g .lent .framed .lay)) d
 
   -- opened outputs
-  module _ (g : Going (lentAll f c preps inputs coefficients) f s OpenOutput l) {x : ℕ} (ex : x ≡ first (gate c (s .point .gate))) where
-    pub output-asks : (f .parties ≤ mostParties) × Banded f l × EachBand f l (λ i m. Held (layoutOf (f .layout)) m x)
+  module _ (g : Going (lentAll f c preps inputs coefficients) f s Open held l) {x : ℕ} (ex : x ≡ gate c (s .point .gate) .first) where
+    pub output-asks : (out : List ℕ) → length out ≡ f .parties * words (gate c (s .point .gate)) Open
+        → (f .parties ≤ mostParties) × Banded f l × EachBand f l (λ i m. Held size (layoutOf (f .layout)) m x) × (length out ≡ f .parties)
     unfolding siteOf party
-    output-asks = (g .lent .few, lent-banded (g .lent) (g .room), λ i h. rw ex (output-held (party (lentAll f c preps inputs coefficients) i) (band (f .scratch) l i) (f .layout) (siteOf c s i) (g .ready i h)))
-
-    pub output-one : words (gate c (s .point .gate)) OpenOutput ≡ 1
-    unfolding words shape
-    output-one = rw (gate-at-round c (s .point .gate) OpenOutput (occurs (lentAll f c preps inputs coefficients) f s OpenOutput l g) .1)
+    output-asks out e = (
+      g .lent .few,
+      lent-banded (g .lent) (g .room),
+      λ i h. rw ex (output-held (party (lentAll f c preps inputs coefficients) i) (band (f .scratch) l i) (f .layout) (siteOf c s i) (g .ready i h)),
+      put-asks g out e (output-words (gate c (s .point .gate)) (class-at-round c (s .point .gate) Open (occurs (lentAll f c preps inputs coefficients) f s Open held l g))) .1,
+    )
 
     pub said-output : {out : List ℕ} → out ≡ joined (f .parties) (λ i. wire (layoutOf (f .layout)) (band (f .scratch) l i) x .share ∷ [])
-        → out ≡ said prime (lentAll f c preps inputs coefficients) (stateOf f s l) OpenOutput
+        → out ≡ said ops (lentAll f c preps inputs coefficients) (stateOf f s held l) Open
     unfolding sent stateOf pointOf party
     said-output d = said-by g _ (λ i h. rw (ex, g .lent .framed .lay)) d

@@ -6,7 +6,7 @@ use mathlib.Core.List.{List, _++_, append-assoc}
 use native.Mathlib.Omega.{arith}
 use lib.ListN.{length, drop, length-append, length-take, length-drop}
 use lib.Seq.{take-at, drop-drop, drop-append-add}
-use Rattle.steps.specs.Send.{overwrite}
+use Rattle.protocol.specs.Send.{overwrite}
 use Rattle.joint.specs.Code.{writtenAt}
 
 -- A list of which ws are the numbers so far, written over xs₀.

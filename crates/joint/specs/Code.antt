@@ -2,30 +2,34 @@
 -- Assumes nothing.
 use Prim.Native.Nat.{ℕ, _+_, _-_, _*_, _<_, _≤_}
 use mathlib.Core.Path.{_≡_}
-use mathlib.Core.Bool.{true, cond, _&&_}
+use mathlib.Core.Bool.{true, false, cond, _&&_}
 use mathlib.Core.Logic.{_⊎_}
 use mathlib.Core.List.{List, [], _∷_, _++_}
 use lib.ListN.{length, getD, take, drop}
 use lib.Dec.{leb, eqb}
-use Rattle.field.specs.Prime.{p, prime, Is}
+use Rattle.algebra.specs.Ops.{Ops}
+use Rattle.algebra.specs.Element.{Is}
+use Rattle.field.specs.Words.{size, ops}
 use Rattle.circuit.specs.Verdict.{Verdict, ask, _then_, elements}
 use Rattle.circuit.specs.Gate.{gate, gates}
 use Rattle.circuit.specs.Count.{prepSize, inputAt, inCount, outCount, unchecked}
-use Rattle.circuit.specs.Round.{Round, Input, words, coefficientsIn, wordCount, coefficientCount}
+use Rattle.circuit.specs.Round.{Round, Own, isReveal, words, coefficientsIn, wordCount, coefficientCount}
 use Rattle.circuit.specs.Accept.{mostGates}
 use Rattle.circuit.specs.Valid.{Valid}
 use Rattle.circuit.specs.Code.{roundOf, Tallied}
-use Rattle.steps.specs.Scratch.{layout, scratchSize, Value, read}
-use Rattle.steps.specs.Position.{Stage, Send, reach}
-use Rattle.steps.specs.Send.{sent, overwrite}
-use Rattle.steps.specs.Receive.{passes, received}
-use Rattle.steps.specs.Code.{layoutOf, pointOf, Below, Ready}
-use Rattle.steps.specs.declared.Site.{Site}
-use Rattle.party.specs.Entry.{releases}
-use Rattle.party.specs.Ask.{fewestParties, mostParties}
-use Rattle.joint.specs.Joint.{Joint, joined, band, inputsAt, party}
-use Rattle.joint.specs.Run.{State, said, step, released, mostRounds, whole}
-use Rattle.joint.specs.Entry as E
+use Rattle.protocol.specs.Scratch.{layout, scratchSize, Value, read}
+use Rattle.protocol.specs.Position.{Stage, Send, reach}
+use Rattle.protocol.specs.Send.{sent, overwrite}
+use Rattle.protocol.specs.Receive.{passes, received}
+use Rattle.protocol.specs.Holding.{Below}
+use Rattle.protocol.specs.Code.{layoutOf, pointOf}
+use Rattle.protocol.specs.Ready.{Ready}
+use Rattle.protocol.specs.declared.Site.{Site}
+use Rattle.protocol.specs.Entry.{releases}
+use Rattle.protocol.specs.Ask.{fewestParties, mostParties}
+use Rattle.protocol.specs.Joint.{Joint, joined, band, inputsAt, party}
+use Rattle.protocol.specs.Run.{State, said, step, released, mostRounds, whole}
+use Rattle.protocol.specs.JointEntry as E
 use Rattle.joint.specs.declared.JointAnswer.{JointAnswer}
 use Rattle.joint.specs.declared.JointAnswer.the-variants.{Refusal, Done, Aborted}
 use Rattle.joint.specs.declared.Due.{Due}
@@ -77,12 +81,12 @@ unfoldable pub siteOf : List ℕ → Course → ℕ → Site
 siteOf c s i =
     record { gate = s .point .gate; prep = s .tally .prep; unchecked = s .tally .unchecked; input = inputAt c i (s .point .gate) }
 
--- all parties between two rounds, where l is the scratch of all
-unfoldable pub stateOf : Frame → Course → List ℕ → State
-stateOf f s l =
+-- all parties between two rounds, where held has the check share of each, and l is the scratch of all
+unfoldable pub stateOf : Frame → Course → List ℕ → List ℕ → State
+stateOf f s held l =
     record {
       point = pointOf (s .point);
-      held = λ i. getD (s .held) i 0;
+      held = λ i. getD held i 0;
       scratch = band (f .scratch) l;
       used = s .used;
     }
@@ -99,26 +103,26 @@ pub record Lent (J : Joint) (f : Frame) : Type 0 where
   pub framed : Framed (J .parties) (J .circuit) f
   pub some : fewestParties ≤ J .parties
   pub few : J .parties ≤ mostParties
-  pub valid : Valid (J .parties) p (J .circuit)
+  pub valid : Valid (J .parties) size (J .circuit)
   pub preps-long : length (J .preps) ≡ J .parties * prepSize (J .circuit)
-  pub preps-low : Below (J .preps)
+  pub preps-low : Below size (J .preps)
   pub inputs-long : length (J .inputs) ≡ inCount (J .circuit)
-  pub inputs-low : Below (J .inputs)
+  pub inputs-low : Below size (J .inputs)
 
 -- questions 8 to 12 of the joint run, of the lengths wanted
 abbrev pub listsOf : List ℕ → ℕ → List ℕ → ℕ → ℕ → ℕ → Verdict
-listsOf preps prep inputs ins room size =
+listsOf preps prep inputs ins room scratch =
     ask 8 0 (eqb (length preps) prep)
-    then elements 9 p preps
+    then elements 9 size preps
     then ask 10 0 (eqb (length inputs) ins)
-    then elements 11 p inputs
-    then ask 12 0 (leb size room)
+    then elements 11 size inputs
+    then ask 12 0 (leb scratch room)
 
 -- and 16 to 18, of the lengths wanted
 abbrev pub roomsOf : List ℕ → ℕ → ℕ → ℕ → ℕ → ℕ → Verdict
 roomsOf coefficients coefficient-count words transcript outs outputs =
     ask 16 0 (eqb (length coefficients) coefficient-count)
-    then elements 17 p coefficients
+    then elements 17 size coefficients
     then ask 18 0 (leb words transcript && leb outs outputs)
 
 -- the part of a list from a up to b
@@ -135,7 +139,7 @@ keyIn f preps i = getD (band (f .prep) preps i) 0 0
 -- what reading k numbers from number a on of each party's preprocessing asks
 pub record Prepared (f : Frame) (preps : List ℕ) (a k : ℕ) : Type 0 where
   pub long : f .parties * f .prep ≤ length preps
-  pub low : Below preps
+  pub low : Below size preps
   pub fits : a + k ≤ f .prep
 
 -- and lending each party its band of the scratch
@@ -149,44 +153,47 @@ EachBand f l P = (i : ℕ) → i < f .parties → P i (band (f .scratch) l i)
 
 -- an array holds w i for each party i
 abbrev pub EachIs : Frame → (ℕ → ℕ) → List ℕ → Type 0
-EachIs f w xs = (i : ℕ) → i < f .parties → Is (w i) (getD xs i 0)
+EachIs f w xs = (i : ℕ) → i < f .parties → Is size (w i) (getD xs i 0)
 
 -- the bands of the scratch are F i, and the excess is that of l
 abbrev pub rebanded : Frame → (ℕ → List ℕ) → List ℕ → List ℕ
 rebanded f F l = joined (f .parties) F ++ drop (f .parties * f .scratch) l
 
--- what the words of party i in round r are, and what its scratch is once it has received the words of all
-abbrev pub saidBy : Joint → State → Round → ℕ → List ℕ
-saidBy J s r i = sent prime (party J i) (s .scratch i) (s .point .gate) (s .held i) r
+-- what the words of party i in round r are
+abbrev pub saidBy : Ops → Joint → State → Round → ℕ → List ℕ
+saidBy O J s r i = sent O (party J i) (s .scratch i) (s .point .gate) (s .held i) r
 
-abbrev pub receivedBy : Joint → State → Round → List ℕ → ℕ → List ℕ
-receivedBy J s r heard i = received prime (party J i) (s .scratch i) (s .point .gate) r heard
+-- what its scratch is once it has received the words of all in round r of gate j, where l is the scratch of all
+abbrev pub receivedIn : Frame → Joint → ℕ → List ℕ → Round → List ℕ → ℕ → List ℕ
+receivedIn f J j l r heard i = received ops (party J i) (band (f .scratch) l i) j r heard
 
 -- what round r releases, where l is the scratch of party 0
 abbrev pub freed : ℕ → List ℕ → Round → List ℕ → List ℕ → List ℕ
-freed n c r l heard = cond (releases r && passes prime n r heard) (read (layout c) l (Value 0) ∷ []) []
+freed n c r l heard = cond (releases r && passes ops n r heard) (read (layout c) l (Value 0) ∷ []) []
 
 -- ws written at k in xs
 abbrev pub writtenAt : ℕ → List ℕ → List ℕ → List ℕ
 writtenAt k ws xs = take k xs ++ (ws ++ drop (k + length ws) xs)
 
--- what round r asks of all parties. l is the scratch of all
-pub record Going (J : Joint) (f : Frame) (s : Course) (r : Round) (l : List ℕ) : Type 0 where
+-- what round r asks of all parties. held has the check share of each, which a reveal sends, and l is the scratch of all
+pub record Going (J : Joint) (f : Frame) (s : Course) (r : Round) (held l : List ℕ) : Type 0 where
   pub lent : Lent J f
   pub room : J .parties * f .scratch ≤ length l
   pub tallied : Tallied (J .circuit) 0 (s .point .gate) (s .tally)
-  pub held-low : (i : ℕ) → i < J .parties → getD (s .held) i 0 < p
-  pub ready : (i : ℕ) → i < J .parties → Ready (party J i) (band (f .scratch) l i) (f .layout) (siteOf (J .circuit) s i) r
+  pub eight : length held ≡ mostParties
+  pub held-low : (i : ℕ) → i < J .parties → getD held i 0 < size
+  pub held-none : isReveal r ≡ false → (i : ℕ) → i < J .parties → getD held i 0 ≡ 0
+  pub ready : (i : ℕ) → i < J .parties → Ready size (party J i) (band (f .scratch) l i) (f .layout) (siteOf (J .circuit) s i) r
   pub coefficient-count : s .used + coefficientsIn (unchecked (J .circuit) (s .point .gate)) r ≤ length (J .coefficients)
-  pub coefficients-low : Below (J .coefficients)
+  pub coefficients-low : Below size (J .coefficients)
 
 -- and of the lists that it writes to: t is the transcript, and o the outputs
-pub record Turning (J : Joint) (f : Frame) (s : Course) (r : Round) (l t o : List ℕ) : Type 0 where
-  pub going : Going J f s r l
+pub record Turning (J : Joint) (f : Frame) (s : Course) (r : Round) (held l t o : List ℕ) : Type 0 where
+  pub going : Going J f s r held l
   pub words-fit : s .written + J .parties * words (gate (J .circuit) (s .point .gate)) r ≤ length t
   pub outputs-upto : s .released ≤ length o
   pub outputs-fit : releases r ≡ true → s .released < length o
-  pub rounds-few : s .rounds < mostRounds prime J * gates (J .circuit)
+  pub rounds-few : s .rounds < mostRounds ops J * gates (J .circuit)
 
 -- two states are the same to n parties
 pub record Alike (n : ℕ) (s s′ : State) : Type 0 where
@@ -196,23 +203,23 @@ pub record Alike (n : ℕ) (s s′ : State) : Type 0 where
   pub used : s .used ≡ s′ .used
 
 -- what a round leaves
-pub record Turned (J : Joint) (f : Frame) (s : Course) (r : Round) (l t o : List ℕ) (s′ : Course) (l′ t′ o′ : List ℕ) : Type 0 where
-  pub alike : Alike (J .parties) (stateOf f s′ l′) (step prime J (stateOf f s l) r)
+pub record Turned (J : Joint) (f : Frame) (s : Course) (r : Round) (held l t o : List ℕ) (s′ : Course) (held′ l′ t′ o′ : List ℕ) : Type 0 where
+  pub alike : Alike (J .parties) (stateOf f s′ held′ l′) (step ops J (stateOf f s held l) r)
   pub tallied : Tallied (J .circuit) 0 (s′ .point .gate) (s′ .tally)
-  pub held-low : (i : ℕ) → i < J .parties → getD (s′ .held) i 0 < p
+  pub eight : length held′ ≡ mostParties
+  pub held-low : (i : ℕ) → i < J .parties → getD held′ i 0 < size
   pub long : length l′ ≡ length l
   pub excess : drop (J .parties * f .scratch) l′ ≡ drop (J .parties * f .scratch) l
-  pub transcript : t′ ≡ writtenAt (s .written) (said prime J (stateOf f s l) r) t
-  pub outputs : o′ ≡ writtenAt (s .released) (released prime J (stateOf f s l) r) o
-  pub written : s′ .written ≡ s .written + length (said prime J (stateOf f s l) r)
-  pub given : s′ .released ≡ s .released + length (released prime J (stateOf f s l) r)
+  pub transcript : t′ ≡ writtenAt (s .written) (said ops J (stateOf f s held l) r) t
+  pub outputs : o′ ≡ writtenAt (s .released) (released ops J (stateOf f s held l) r) o
+  pub written : s′ .written ≡ s .written + length (said ops J (stateOf f s held l) r)
+  pub given : s′ .released ≡ s .released + length (released ops J (stateOf f s held l) r)
   pub rounds : s′ .rounds ≡ s .rounds + 1
 
--- before the first round, which is an in gate's
+-- before the first round, which is an in gate's own
 pub record Started (s : Course) : Type 0 where
-  pub point : pointOf (s .point) ≡ record { gate = 0; stage = Send Input }
+  pub point : pointOf (s .point) ≡ record { gate = 0; stage = Send Own }
   pub tallied : (c : List ℕ) → Tallied c 0 0 (s .tally)
-  pub held : (i : ℕ) → getD (s .held) i 0 ≡ 0
   pub used : s .used ≡ 0
   pub written : s .written ≡ 0
   pub released : s .released ≡ 0
@@ -223,13 +230,13 @@ pub record Runnable (J : Joint) (f : Frame) (l t o : List ℕ) : Type 0 where
   pub lent : Lent J f
   pub room : J .parties * f .scratch ≤ length l
   pub coefficient-count : length (J .coefficients) ≡ coefficientCount (J .circuit)
-  pub coefficients-low : Below (J .coefficients)
+  pub coefficients-low : Below size (J .coefficients)
   pub words-fit : J .parties * wordCount (J .circuit) ≤ length t
   pub outputs-fit : outCount (J .circuit) ≤ length o
 
 -- what a run leaves
 pub record Ran (J : Joint) (l t o : List ℕ) (a : JointAnswer) (l′ t′ o′ : List ℕ) : Type 0 where
-  pub answer : jointAnswerOf a ≡ E.ended (whole prime J l .last .point .stage) (whole prime J l .last .point .gate) (whole prime J l .rounds)
-  pub scratch : l′ ≡ joined (J .parties) (whole prime J l .last .scratch) ++ drop (J .parties * scratchSize (layout (J .circuit))) l
-  pub transcript : t′ ≡ overwrite (whole prime J l .transcript) t
-  pub outputs : o′ ≡ overwrite (whole prime J l .outputs) o
+  pub answer : jointAnswerOf a ≡ E.ended (whole ops J l .last .point .stage) (whole ops J l .last .point .gate) (whole ops J l .rounds)
+  pub scratch : l′ ≡ joined (J .parties) (whole ops J l .last .scratch) ++ drop (J .parties * scratchSize (layout (J .circuit))) l
+  pub transcript : t′ ≡ overwrite (whole ops J l .transcript) t
+  pub outputs : o′ ≡ overwrite (whole ops J l .outputs) o

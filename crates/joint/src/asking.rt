@@ -2,21 +2,22 @@
 use crate::Frame;
 use circuit::Totals;
 use circuit::Verdict;
+use field::Word;
 ghost use mathlib.Core.Path.{_≡_};
 ghost use Prim.Native.Nat.{_*_, _≤_};
-ghost use Rattle.field.specs.Prime.{p};
+ghost use Rattle.field.specs.Words.{size};
 ghost use Rattle.circuit.specs.Verdict.{_then_};
 ghost use Rattle.circuit.specs.Code.{verdictOf, Totalled};
 ghost use Rattle.circuit.specs.Count.{prepSize, inCount, outCount};
 ghost use Rattle.circuit.specs.Round.{wordCount, coefficientCount};
 ghost use Rattle.circuit.specs.Valid.{Valid};
-ghost use Rattle.steps.specs.Scratch.{layout, scratchSize};
-ghost use Rattle.party.specs.Ask.{mostParties};
+ghost use Rattle.protocol.specs.Scratch.{layout, scratchSize};
+ghost use Rattle.protocol.specs.Ask.{mostParties};
 ghost use Rattle.joint.specs.Code.{Framed, listsOf, roomsOf};
 
 // Questions 16 to 18: so many coefficients, words and outputs are wanted.
 fn ask_rooms(
-    coefficients: &[u32],
+    coefficients: &[Word],
     due: usize,
     words: usize,
     transcript: usize,
@@ -56,15 +57,15 @@ fn ask_rooms(
 pub fn ask_lent(
     f: Frame,
     totals: Totals,
-    c: &[u32],
-    preps: &[u32],
-    inputs: &[u32],
+    c: &[Word],
+    preps: &[Word],
+    inputs: &[Word],
     room: usize,
-    coefficients: &[u32],
+    coefficients: &[Word],
     transcript: usize,
     outputs: usize,
 ) -> Verdict
-    requires { ⌜ Valid (f .parties) p (now c)
+    requires { ⌜ Valid (f .parties) size (now c)
         × (f .parties ≤ mostParties)
         × Framed (f .parties) (now c) f
         × Totalled (now c) (f .layout .gates) totals ⌝ }

@@ -8,11 +8,12 @@ mod sending;
 use circuit::Round;
 use circuit::Tally;
 use circuit::Verdict;
-use steps::Layout;
-use steps::Point;
+use field::Word;
+use protocol::Layout;
+use protocol::Point;
 ghost use mathlib.Core.Path.{_≡_};
-ghost use Rattle.field.specs.Prime.{prime};
-ghost use Rattle.joint.specs.Entry.{jointAnswer, jointScratch, jointTranscript, jointOutputs};
+ghost use Rattle.field.specs.Words.{ops};
+ghost use Rattle.protocol.specs.JointEntry.{jointAnswer, jointScratch, jointTranscript, jointOutputs};
 ghost use Rattle.joint.specs.Code.{jointAnswerOf, jointOf};
 
 // A refusal's number and index; the rounds made; the gate at which the run is aborted, and the rounds made.
@@ -32,12 +33,10 @@ pub struct Frame {
 }
 
 // What goes on from round to round: the point; what is counted of the gates before it, where the inputs alone differ by party, so that
-// the tally is party 0's; the check share that each party holds; and how many coefficients are used, words written, outputs released and
-// rounds made.
+// the tally is party 0's; and how many coefficients are used, words written, outputs released and rounds made.
 pub struct Course {
     pub point: Point,
     pub tally: Tally,
-    pub held: [u32; 8],
     pub used: usize,
     pub written: usize,
     pub released: usize,
@@ -52,25 +51,25 @@ pub enum Due {
 
 pub fn joint_run(
     parties: usize,
-    c: &[u32],
-    preps: &[u32],
-    inputs: &[u32],
-    scratch: &mut [u32],
-    coefficients: &[u32],
-    transcript: &mut [u32],
-    outputs: &mut [u32],
+    c: &[Word],
+    preps: &[Word],
+    inputs: &[Word],
+    scratch: &mut [Word],
+    coefficients: &[Word],
+    transcript: &mut [Word],
+    outputs: &mut [Word],
 ) -> JointAnswer
     ensures answer { λ r. ⌜ jointAnswerOf r
-        ≡ jointAnswer prime (jointOf parties (now (c .entry)) (now (preps .entry)) (now (inputs .entry)) (now (coefficients .entry)))
+        ≡ jointAnswer ops (jointOf parties (now (c .entry)) (now (preps .entry)) (now (inputs .entry)) (now (coefficients .entry)))
         (now (scratch .entry)) (now (transcript .entry)) (now (outputs .entry)) ⌝ }
     ensures scratch { λ r. ⌜ now (scratch .exit)
-        ≡ jointScratch prime (jointOf parties (now (c .entry)) (now (preps .entry)) (now (inputs .entry)) (now (coefficients .entry)))
+        ≡ jointScratch ops (jointOf parties (now (c .entry)) (now (preps .entry)) (now (inputs .entry)) (now (coefficients .entry)))
         (now (scratch .entry)) (now (transcript .entry)) (now (outputs .entry)) ⌝ }
     ensures transcript { λ r. ⌜ now (transcript .exit)
-        ≡ jointTranscript prime (jointOf parties (now (c .entry)) (now (preps .entry)) (now (inputs .entry)) (now (coefficients .entry)))
+        ≡ jointTranscript ops (jointOf parties (now (c .entry)) (now (preps .entry)) (now (inputs .entry)) (now (coefficients .entry)))
         (now (scratch .entry)) (now (transcript .entry)) (now (outputs .entry)) ⌝ }
     ensures outputs { λ r. ⌜ now (outputs .exit)
-        ≡ jointOutputs prime (jointOf parties (now (c .entry)) (now (preps .entry)) (now (inputs .entry)) (now (coefficients .entry)))
+        ≡ jointOutputs ops (jointOf parties (now (c .entry)) (now (preps .entry)) (now (inputs .entry)) (now (coefficients .entry)))
         (now (scratch .entry)) (now (transcript .entry)) (now (outputs .entry)) ⌝ }
 {
     match party::asking::ask_setting(parties, c) {
@@ -79,8 +78,8 @@ pub fn joint_run(
         }
         Verdict::Accepted => {}
     }
-    let count = c.len() / circuit::GATE_SIZE;
-    let totals = circuit::totals_before(c, count);
+    let count = c.len() / gates::reading::GATE_SIZE;
+    let totals = gates::counting::totals_before(c, count);
     let f = framing::frame_of(parties, c, count, totals);
     match asking::ask_lent(
         f,

@@ -9,64 +9,48 @@ use crate::receiving;
 use crate::sending;
 use circuit::Round;
 use circuit::Tally;
-use steps::Point;
-use steps::Slot;
-use steps::Stage;
+use field::Word;
+use protocol::Point;
+use protocol::Slot;
+use protocol::Stage;
 ghost use mathlib.Core.Path.{_≡_};
 ghost use mathlib.Core.Bool.{true};
 ghost use Prim.Native.Nat.{_+_, _<_, _≤_};
 ghost use lib.ListN.{length};
-ghost use Rattle.field.specs.Prime.{p};
+ghost use Rattle.field.specs.Words.{size};
 ghost use Rattle.circuit.specs.Gate.{gates};
 ghost use Rattle.circuit.specs.Valid.{Valid};
 ghost use Rattle.circuit.specs.Code.{roundOf, Tallied};
-ghost use Rattle.steps.specs.Code.{stageOf, Below};
-ghost use Rattle.party.specs.Ask.{mostParties};
-ghost use Rattle.party.specs.Entry.{releases};
-ghost use Rattle.joint.specs.Joint.{band};
-ghost use Rattle.joint.specs.Entry.{ended};
+ghost use Rattle.protocol.specs.Holding.{Below};
+ghost use Rattle.protocol.specs.Code.{stageOf};
+ghost use Rattle.protocol.specs.Ask.{mostParties};
+ghost use Rattle.protocol.specs.Entry.{releases};
+ghost use Rattle.protocol.specs.Joint.{band};
+ghost use Rattle.protocol.specs.JointEntry.{ended};
 ghost use Rattle.joint.specs.Code.{jointAnswerOf, IsDue, jointOf, Placed, Onward, Framed, freed, writtenAt, Turning, Turned, Started, Runnable, Ran};
-
-// Words of a reveal.
-const CHECK_WORDS: usize = 1;
-
-// The second check's reveal releases an output.
-fn is_release(r: Round) -> bool
-    ensures { λ b. ⌜ b ≡ releases (roundOf r) ⌝ }
-{
-    match r {
-        Round::Input => false,
-        Round::Multiply => false,
-        Round::CommitOpened => false,
-        Round::RevealOpened => false,
-        Round::OpenOutput => false,
-        Round::CommitOutput => false,
-        Round::RevealOutput => true,
-    }
-}
 
 // What the round releases goes to the outputs, where at are there. How many are there then.
 fn release(
     f: Frame,
     r: Round,
-    c: &[u32],
-    scratch: &[u32],
-    heard: &[u32],
-    outputs: &mut [u32],
+    c: &[Word],
+    scratch: &[Word],
+    heard: &[Word],
+    outputs: &mut [Word],
     at: usize,
 ) -> usize
     requires { ⌜ Framed (f .parties) (now c) f
         × (f .scratch ≤ length (now scratch))
-        × Below (now heard)
+        × Below size (now heard)
         × (at ≤ length (now outputs))
         × (releases (roundOf r) ≡ true → (f .parties ≤ length (now heard)) × (at < length (now outputs))) ⌝ }
     ensures { λ k. ⌜ (k ≡ at + length (freed (f .parties) (now (c .entry)) (roundOf r) (band (f .scratch) (now (scratch .entry)) 0) (now (heard .entry))))
         × (now (outputs .exit) ≡ writtenAt at (freed (f .parties) (now (c .entry)) (roundOf r) (band (f .scratch) (now (scratch .entry)) 0) (now (heard .entry))) (now (outputs .entry))) ⌝ }
 {
-    if !is_release(r) {
+    if !protocol::releases(r) {
         return at;
     }
-    if steps::receiving::heard_sum(f.parties, CHECK_WORDS, 0, heard) != 0 {
+    if steps::receiving::heard_sum(f.parties, circuit::rounds::REVEAL_WORDS, 0, heard) != 0 {
         return at;
     }
     let w = f.scratch;
@@ -78,13 +62,13 @@ fn release(
 // nothing.
 fn pass_gate(
     parties: usize,
-    c: &[u32],
+    c: &[Word],
     j: usize,
     next: usize,
     t: Tally,
     places: &mut [usize],
 ) -> Tally
-    requires { ⌜ Valid parties p (now c)
+    requires { ⌜ Valid parties size (now c)
         × (parties ≤ mostParties)
         × (j < gates (now c))
         × Tallied (now c) 0 j t
@@ -96,7 +80,7 @@ fn pass_gate(
         return t;
     }
     framing::count_input(parties, c, j, places);
-    circuit::tally_gate(c, 0, j, t)
+    gates::counting::tally_gate(c, 0, j, t)
 }
 
 // Round r; each party's next input is at its place. The words that are received are those that stand in the transcript.
@@ -104,36 +88,39 @@ fn one_round(
     f: Frame,
     s: Course,
     r: Round,
-    c: &[u32],
-    preps: &[u32],
-    inputs: &[u32],
+    c: &[Word],
+    preps: &[Word],
+    inputs: &[Word],
     places: &mut [usize],
-    scratch: &mut [u32],
-    coefficients: &[u32],
-    transcript: &mut [u32],
-    outputs: &mut [u32],
+    held: &mut [Word],
+    scratch: &mut [Word],
+    coefficients: &[Word],
+    transcript: &mut [Word],
+    outputs: &mut [Word],
 ) -> Course
-    requires { ⌜ Turning (jointOf (f .parties) (now c) (now preps) (now inputs) (now coefficients)) f s (roundOf r) (now scratch) (now transcript) (now outputs)
+    requires { ⌜ Turning (jointOf (f .parties) (now c) (now preps) (now inputs) (now coefficients)) f s (roundOf r) (now held) (now scratch) (now transcript) (now outputs)
         × Placed (f .parties) (now c) (s .point .gate) (now places) ⌝ }
-    ensures { λ x. ⌜ Turned (jointOf (f .parties) (now (c .entry)) (now (preps .entry)) (now (inputs .entry)) (now (coefficients .entry))) f s (roundOf r) (now (scratch .entry)) (now (transcript .entry)) (now (outputs .entry)) x (now (scratch .exit)) (now (transcript .exit)) (now (outputs .exit))
+    ensures { λ x. ⌜ Turned (jointOf (f .parties) (now (c .entry)) (now (preps .entry)) (now (inputs .entry)) (now (coefficients .entry))) f s (roundOf r) (now (held .entry)) (now (scratch .entry)) (now (transcript .entry)) (now (outputs .entry)) x (now (held .exit)) (now (scratch .exit)) (now (transcript .exit)) (now (outputs .exit))
         × Placed (f .parties) (now (c .entry)) (x .point .gate) (now (places .exit)) ⌝ }
 {
     let here = s.point;
     let t = s.tally;
     let start = s.written;
-    let g = circuit::gate_at(c, here.gate);
-    let k = circuit::words_in(g, r);
-    let end = start + f.parties * k;
-    let held = sending::send_all(
+    let g = gates::reading::shape_at(c, here.gate);
+    let w = circuit::rounds::words_in(g, r);
+    let end = start + f.parties * w;
+    sending::send_all(
         f,
         s,
         r,
+        g,
         c,
         preps,
         inputs,
         places,
         scratch,
         coefficients,
+        held,
         &mut transcript[start..end],
     );
     let released = release(
@@ -150,7 +137,7 @@ fn one_round(
         s,
         r,
         g,
-        k,
+        w,
         c,
         preps,
         inputs,
@@ -158,11 +145,10 @@ fn one_round(
         &transcript[start..end],
     );
     let tally = pass_gate(f.parties, c, here.gate, point.gate, t, places);
-    let used = s.used + circuit::coefficients_in(t.unchecked, r);
+    let used = s.used + circuit::rounds::coefficients_in(t.unchecked, r);
     Course {
         point,
         tally,
-        held,
         used,
         written: end,
         released,
@@ -177,10 +163,9 @@ fn origin() -> Course
     Course {
         point: Point {
             gate: 0,
-            stage: Stage::Send(Round::Input),
+            stage: Stage::Send(Round::Own),
         },
-        tally: circuit::no_tally(),
-        held: [0; 8],
+        tally: circuit::counting::no_tally(),
         used: 0,
         written: 0,
         released: 0,
@@ -218,18 +203,19 @@ fn ending(point: Point, rounds: usize) -> JointAnswer
 pub fn run(
     f: Frame,
     places: &mut [usize],
-    c: &[u32],
-    preps: &[u32],
-    inputs: &[u32],
-    scratch: &mut [u32],
-    coefficients: &[u32],
-    transcript: &mut [u32],
-    outputs: &mut [u32],
+    c: &[Word],
+    preps: &[Word],
+    inputs: &[Word],
+    scratch: &mut [Word],
+    coefficients: &[Word],
+    transcript: &mut [Word],
+    outputs: &mut [Word],
 ) -> JointAnswer
     requires { ⌜ Runnable (jointOf (f .parties) (now c) (now preps) (now inputs) (now coefficients)) f (now scratch) (now transcript) (now outputs)
         × Placed (f .parties) (now c) 0 (now places) ⌝ }
     ensures { λ a. ⌜ Ran (jointOf (f .parties) (now (c .entry)) (now (preps .entry)) (now (inputs .entry)) (now (coefficients .entry))) (now (scratch .entry)) (now (transcript .entry)) (now (outputs .entry)) a (now (scratch .exit)) (now (transcript .exit)) (now (outputs .exit)) ⌝ }
 {
+    let mut held: [Word; 8] = [0; 8];
     let mut s = origin();
     loop {
         let point = s.point;
@@ -244,6 +230,7 @@ pub fn run(
                     preps,
                     inputs,
                     places,
+                    &mut held,
                     scratch,
                     coefficients,
                     transcript,

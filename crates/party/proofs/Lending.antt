@@ -6,7 +6,7 @@ use mathlib.Core.List.{List}
 use native.Mathlib.Omega.{arith}
 use lib.ListN.{length}
 use lib.Dec.{ltb, leb, eqb}
-use Rattle.field.specs.Prime.{p}
+use Rattle.field.specs.Words.{size}
 use Rattle.circuit.specs.Verdict.{Verdict, Accepted, ask, _then_, elements}
 use Rattle.circuit.specs.Gate.{gateSize, gates}
 use Rattle.circuit.specs.Count.{prepSize, capacity, inputCount}
@@ -17,36 +17,36 @@ use Rattle.circuit.specs.declared.Tally.{Tally}
 use Rattle.circuit.proofs.Verdicts.{then-right}
 use Rattle.circuit.proofs.Valid.{valid}
 use Rattle.circuit.proofs.Tallies.{tally-low}
-use Rattle.steps.specs.Scratch as S
-use Rattle.steps.specs.Party.{Party}
-use Rattle.steps.specs.Code.{layoutOf, Sited}
-use Rattle.steps.specs.declared.Layout.{Layout}
-use Rattle.steps.specs.declared.Site.{Site}
-use Rattle.party.specs.Ask.{askParties, askLent}
-use Rattle.party.proofs.Loops.{then-assoc}
+use Rattle.protocol.specs.Scratch as S
+use Rattle.protocol.specs.Party.{Party}
+use Rattle.protocol.specs.Code.{layoutOf, Sited}
+use Rattle.protocol.specs.declared.Layout.{Layout}
+use Rattle.protocol.specs.declared.Site.{Site}
+use Rattle.protocol.specs.Ask.{askParties, askLent}
+use Rattle.circuit.proofs.Loops.{then-assoc}
 
 module _ (n i : ℕ) (c : List ℕ) where
   -- questions 1 to 7
   abbrev pub settingAsked : Verdict
-  settingAsked = askParties n then ask 2 0 (ltb i n) then askCircuit n p c
+  settingAsked = askParties n then ask 2 0 (ltb i n) then askCircuit n size c
 
   -- they accept a valid circuit
-  pub setting-valid : settingAsked ≡ Accepted → Valid n p c
-  setting-valid e = valid n p c (then-right _ _ (then-right _ _ e))
+  pub setting-valid : settingAsked ≡ Accepted → Valid n size c
+  setting-valid e = valid n size c (then-right _ _ (then-right _ _ e))
 
 -- questions 8 to 12, of the lengths a, b and s
 abbrev pub listsAsked : List ℕ → List ℕ → ℕ → ℕ → ℕ → ℕ → Verdict
 listsAsked prep inputs room a b s =
     ask 8 0 (eqb (length prep) a)
-    then elements 9 p prep
+    then elements 9 size prep
     then ask 10 0 (eqb (length inputs) b)
-    then elements 11 p inputs
+    then elements 11 size inputs
     then ask 12 0 (leb s room)
 
 module _ (P : Party) (l : List ℕ) where
   -- 1 to 7, and then 8 to 12
   pub lent-split :
-      askLent p P l
+      askLent size P l
       ≡ (settingAsked (P .parties) (P .me) (P .circuit)
       then listsAsked (P .prep) (P .inputs) (length l) (prepSize (P .circuit)) (inputCount (P .circuit) (P .me)) (S.scratchSize (S.layout (P .circuit))))
   unfolding askLent
@@ -67,7 +67,7 @@ unfolding layoutOf S.layout capacity
 layout-is c t y h e f =
     ap₂ {C = S.Layout} (λ (a b : ℕ). record { gates = a; capacity = b }) e (f ∙ ap (λ (k : ℕ). k + 1) (h .openings))
 
-pub capacity-low : (c : List ℕ) {i n : ℕ} (t : Tally) → Tallied c i (gates c) t → Valid n p c → t .openings ≤ 512
+pub capacity-low : (c : List ℕ) {i n : ℕ} (t : Tally) → Tallied c i (gates c) t → Valid n size c → t .openings ≤ 512
 capacity-low c t h v = omega (arith, tally-low h .1, v .few)
 
 -- the site of gate j, from what is counted before it

@@ -5,7 +5,7 @@ use mathlib.Core.Path.{_≡_}
 use mathlib.Core.Bool.{Bool, true, cond}
 use mathlib.Core.List.{List}
 use lib.ListN.{length}
-use Rattle.field.specs.Prime.{p}
+use Rattle.field.specs.Words.{size}
 use Rattle.circuit.specs.Verdict as Q
 use Rattle.circuit.specs.Verdict.{_then_}
 use Rattle.circuit.specs.Gate.{gateSize, gate, gates}
@@ -14,14 +14,15 @@ use Rattle.circuit.specs.Count.{capacity, unchecked}
 use Rattle.circuit.specs.Round.{Round, openedIn}
 use Rattle.circuit.specs.Accept.{mostGates}
 use Rattle.circuit.specs.Code.{roundOf}
-use Rattle.steps.specs.Scratch as S
-use Rattle.steps.specs.Position as At
-use Rattle.steps.specs.Party.{Party}
-use Rattle.steps.specs.Code.{layoutOf, stageOf, Sited, Sends, Receives}
-use Rattle.steps.specs.declared.Layout.{Layout}
-use Rattle.steps.specs.declared.Site.{Site}
-use Rattle.party.specs.Ask.{askLent}
-use Rattle.party.specs.Entry as E
+use Rattle.protocol.specs.Scratch as S
+use Rattle.protocol.specs.Position as At
+use Rattle.protocol.specs.Party.{Party}
+use Rattle.protocol.specs.Code.{layoutOf, stageOf, Sited}
+use Rattle.protocol.specs.Ready.{Sends, Receives}
+use Rattle.protocol.specs.declared.Layout.{Layout}
+use Rattle.protocol.specs.declared.Site.{Site}
+use Rattle.protocol.specs.Ask.{askLent}
+use Rattle.protocol.specs.Entry as E
 use Rattle.party.specs.declared.Sort.{Sort}
 use Rattle.party.specs.declared.Sort.the-variants.{Shares, Macs, Values, ValueMacs}
 use Rattle.party.specs.declared.Position.{Position}
@@ -81,11 +82,11 @@ LentOk c i j (LentAccepted y at) = (layoutOf y ≡ S.layout c) × (at .gate ≡ 
 
 -- questions 1 to 13
 unfoldable pub placeOf : Party → List ℕ → At.Position → Q.Verdict
-placeOf P l at = askLent p P l then Q.ask 13 0 (At.occurs p (P .circuit) at)
+placeOf P l at = askLent size P l then Q.ask 13 0 (At.occurs size (P .circuit) at)
 
 -- what a call has once 1 to 12 accept: the layout, and the site of the position's gate if there is such a gate
 pub record LentTo (P : Party) (l : List ℕ) (y : Layout) (site : Site) (gate : ℕ) : Type 0 where
-  pub accepted : askLent p P l ≡ Q.Accepted
+  pub accepted : askLent size P l ≡ Q.Accepted
   pub lay : layoutOf y ≡ S.layout (P .circuit)
   pub here : site .gate ≡ gate
   pub sited : gate < gates (P .circuit) → Sited (P .circuit) (P .me) site
@@ -93,7 +94,7 @@ pub record LentTo (P : Party) (l : List ℕ) (y : Layout) (site : Site) (gate : 
 -- and once the position can occur
 pub record RoundAt (P : Party) (l : List ℕ) (y : Layout) (site : Site) (at : Position) : Type 0 where
   pub lent : LentTo P l y site (at .gate)
-  pub can : At.occurs p (P .circuit) (positionOf at) ≡ true
+  pub can : At.occurs size (P .circuit) (positionOf at) ≡ true
 
 abbrev pub PlaceOk : Party → List ℕ → Position → Lent → Type 0
 PlaceOk P l at (LentRefused number index) = Unit {0}
@@ -108,7 +109,7 @@ askedOf (AskedAccepted y at r) = Q.Accepted
 pub record Sendable (P : Party) (l : List ℕ) (at : Position) (coefficients : List ℕ) (room : ℕ) (y : Layout) (site : Site) (r : Round) : Type 0 where
   pub here : site .gate ≡ at .gate
   pub half : stageOf (at .stage) ≡ At.Send r
-  pub sends : Sends P l y site r (at .held) coefficients room
+  pub sends : Sends size P l y site r (at .held) coefficients room
 
 abbrev pub SendOk : Party → List ℕ → Position → List ℕ → ℕ → Asked → Type 0
 SendOk P l at coefficients room (AskedRefused number index) = Unit {0}
@@ -117,18 +118,8 @@ SendOk P l at coefficients room (AskedAccepted y site r) = Sendable P l at coeff
 pub record Receivable (P : Party) (l : List ℕ) (at : Position) (heard : List ℕ) (y : Layout) (site : Site) (r : Round) : Type 0 where
   pub here : site .gate ≡ at .gate
   pub half : stageOf (at .stage) ≡ At.Receive r
-  pub receives : Receives P l y site r heard
+  pub receives : Receives size P l y site r heard
 
 abbrev pub ReceiveOk : Party → List ℕ → Position → List ℕ → Asked → Type 0
 ReceiveOk P l at heard (AskedRefused number index) = Unit {0}
 ReceiveOk P l at heard (AskedAccepted y site r) = Receivable P l at heard y site (roundOf r)
-
--- the answer by the point that follows round r: an abort, or else that point, with the output where r releases one
-unfoldable pub leadsBy : Round → ℕ → At.Position → At.Stage → E.Answer
-leadsBy r output at (At.Send s) = cond (E.releases r) (E.Output output at) (E.Next at)
-leadsBy r output at (At.Receive s) = cond (E.releases r) (E.Output output at) (E.Next at)
-leadsBy r output at At.Finished = cond (E.releases r) (E.Output output at) (E.Next at)
-leadsBy r output at At.Aborted = E.Abort at
-
-unfoldable pub leadsTo : Round → ℕ → ℕ → At.Point → E.Answer
-leadsTo r held output x = leadsBy r output (At.holding x (At.keep r held)) (x .stage)

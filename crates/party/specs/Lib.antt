@@ -1,4 +1,2 @@
--- One party of document 01: the questions at its three entries, their answers, and what the lent lists hold afterwards.
-pub mod Ask
-pub mod Entry
+-- What the code's types stand for, and what its questions ask.
 pub mod Code

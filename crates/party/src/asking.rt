@@ -3,12 +3,17 @@ use crate::Asked;
 use crate::Lent;
 use crate::Position;
 use crate::Sort;
+use circuit::Check;
 use circuit::Round;
 use circuit::Verdict;
-use steps::Layout;
-use steps::Site;
-use steps::Slot;
-use steps::Stage;
+use circuit::rounds;
+use circuit::shapes;
+use field::Word;
+use gates::reading;
+use protocol::Layout;
+use protocol::Site;
+use protocol::Slot;
+use protocol::Stage;
 use steps::scratch;
 use steps::sending;
 ghost use mathlib.Core.Path.{_≡_};
@@ -17,18 +22,19 @@ ghost use mathlib.Core.Bool.{true};
 ghost use Prim.Native.Nat.{ℕ, _+_, _*_, _<_, _≤_};
 ghost use lib.ListN.{length, getD};
 ghost use lib.Dec.{ltb, leb, eqb};
-ghost use Rattle.field.specs.Prime.{p};
+ghost use Rattle.field.specs.Words.{size};
 ghost use Rattle.circuit.specs.Verdict.{ask, _then_, each, elements};
 ghost use Rattle.circuit.specs.Gate.{gateSize, gates};
 ghost use Rattle.circuit.specs.Count.{unchecked};
 ghost use Rattle.circuit.specs.Accept.{askCircuit};
 ghost use Rattle.circuit.specs.Code.{verdictOf, roundOf};
-ghost use Rattle.steps.specs.Scratch.{layout};
-ghost use Rattle.steps.specs.Position.{mayHold, stageOccurs, occurs};
-ghost use Rattle.steps.specs.Party.{partyOf};
-ghost use Rattle.steps.specs.Send.{mark};
-ghost use Rattle.steps.specs.Code.{slotOf, stageOf, Within};
-ghost use Rattle.party.specs.Ask.{askParties, slotQuestion, askSlots, askWorked, askSendRound, askReceiveRound, askLent, askSend, askReceive};
+ghost use Rattle.protocol.specs.Scratch.{layout};
+ghost use Rattle.protocol.specs.Position.{mayHold, stageOccurs, occurs};
+ghost use Rattle.protocol.specs.Party.{partyOf};
+ghost use Rattle.protocol.specs.Send.{mark};
+ghost use Rattle.protocol.specs.Holding.{Within};
+ghost use Rattle.protocol.specs.Code.{slotOf, stageOf};
+ghost use Rattle.protocol.specs.Ask.{askParties, slotQuestion, askSlots, askWorked, askSendRound, askReceiveRound, askLent, askSend, askReceive};
 ghost use Rattle.party.specs.Code.{sortOf, wantedOf, positionOf, Laid, Posed, lentOf, LentOk, askedOf, SendOk, ReceiveOk, placeOf, PlaceOk};
 
 const FEWEST_PARTIES: usize = 2;
@@ -55,13 +61,13 @@ fn ask_parties(parties: usize) -> Verdict
 }
 
 // Are all numbers of a list elements? There is no exit on the way, so that several numbers are asked at a time.
-fn all_elements(xs: &[u32]) -> bool
-    ensures { λ r. ⌜ (r ≡ true) ↔ ((k : ℕ) → k < length (now (xs .entry)) → getD (now (xs .entry)) k 0 < p) ⌝ }
+fn all_elements(xs: &[Word]) -> bool
+    ensures { λ r. ⌜ (r ≡ true) ↔ ((k : ℕ) → k < length (now (xs .entry)) → getD (now (xs .entry)) k 0 < size) ⌝ }
 {
     let mut all = true;
     let mut k = 0;
     while k < xs.len() {
-        if field::P <= xs[k] {
+        if field::SIZE <= xs[k] {
             all = false;
         }
         k += 1;
@@ -70,15 +76,15 @@ fn all_elements(xs: &[u32]) -> bool
 }
 
 // Are the numbers of a list elements? The index of one that is not is looked for only if there is one.
-pub fn ask_elements(number: u32, xs: &[u32]) -> Verdict
-    ensures { λ r. ⌜ verdictOf r ≡ elements number p (now (xs .entry)) ⌝ }
+pub fn ask_elements(number: u32, xs: &[Word]) -> Verdict
+    ensures { λ r. ⌜ verdictOf r ≡ elements number size (now (xs .entry)) ⌝ }
 {
     if all_elements(xs) {
         return Verdict::Accepted;
     }
     let mut k = 0;
     while k < xs.len() {
-        if field::P <= xs[k] {
+        if field::SIZE <= xs[k] {
             return Verdict::Refused { number, index: k };
         }
         k += 1;
@@ -87,7 +93,7 @@ pub fn ask_elements(number: u32, xs: &[u32]) -> Verdict
 }
 
 // Question 21 of a commitment.
-fn ask_marks(heard: &[u32]) -> Verdict
+fn ask_marks(heard: &[Word]) -> Verdict
     ensures { λ r. ⌜ verdictOf r ≡ each (length (now (heard .entry))) (λ k. ask 21 k (eqb (getD (now (heard .entry)) k 0) mark)) ⌝ }
 {
     let mut k = 0;
@@ -105,18 +111,18 @@ fn ask_marks(heard: &[u32]) -> Verdict
 
 // Questions 8 to 12, of the lengths that the circuit asks for.
 pub fn ask_lists(
-    prep: &[u32],
+    prep: &[Word],
     prep_size: usize,
-    inputs: &[u32],
+    inputs: &[Word],
     input_count: usize,
     room: usize,
     scratch_size: usize,
 ) -> Verdict
     ensures { λ r. ⌜ verdictOf r
         ≡ (ask 8 0 (eqb (length (now (prep .entry))) «prep_size»)
-        then elements 9 p (now (prep .entry))
+        then elements 9 size (now (prep .entry))
         then ask 10 0 (eqb (length (now (inputs .entry))) «input_count»)
-        then elements 11 p (now (inputs .entry))
+        then elements 11 size (now (inputs .entry))
         then ask 12 0 (leb «scratch_size» room)) ⌝ }
 {
     if prep.len() != prep_size {
@@ -153,15 +159,15 @@ pub fn ask_lists(
 }
 
 // Questions 3 to 7, of the field of this crate.
-fn ask_circuit(parties: usize, c: &[u32]) -> Verdict
-    ensures { λ r. ⌜ verdictOf r ≡ askCircuit parties p (now (c .entry)) ⌝ }
+fn ask_circuit(parties: usize, c: &[Word]) -> Verdict
+    ensures { λ r. ⌜ verdictOf r ≡ askCircuit parties size (now (c .entry)) ⌝ }
 {
-    circuit::accept(parties, field::P, c)
+    gates::asking::accept(parties, field::index(field::SIZE), c)
 }
 
 // Questions 1 and 3 to 7: what is asked where no party calls.
-pub fn ask_setting(parties: usize, c: &[u32]) -> Verdict
-    ensures { λ r. ⌜ verdictOf r ≡ (askParties parties then askCircuit parties p (now (c .entry))) ⌝ }
+pub fn ask_setting(parties: usize, c: &[Word]) -> Verdict
+    ensures { λ r. ⌜ verdictOf r ≡ (askParties parties then askCircuit parties size (now (c .entry))) ⌝ }
 {
     match ask_parties(parties) {
         Verdict::Refused { number, index } => {
@@ -173,8 +179,8 @@ pub fn ask_setting(parties: usize, c: &[u32]) -> Verdict
 }
 
 // Questions 1 to 7.
-fn ask_party(parties: usize, me: usize, c: &[u32]) -> Verdict
-    ensures { λ r. ⌜ verdictOf r ≡ (askParties parties then ask 2 0 (ltb me parties) then askCircuit parties p (now (c .entry))) ⌝ }
+fn ask_party(parties: usize, me: usize, c: &[Word]) -> Verdict
+    ensures { λ r. ⌜ verdictOf r ≡ (askParties parties then ask 2 0 (ltb me parties) then askCircuit parties size (now (c .entry))) ⌝ }
 {
     match ask_parties(parties) {
         Verdict::Refused { number, index } => {
@@ -196,31 +202,31 @@ fn may_hold(stage: Stage) -> bool
     ensures { λ b. ⌜ b ≡ mayHold (stageOf stage) ⌝ }
 {
     match stage {
-        Stage::Send(r) => circuit::is_reveal(r),
-        Stage::Receive(r) => circuit::is_commit(r),
+        Stage::Send(r) => rounds::is_reveal(r),
+        Stage::Receive(r) => rounds::is_commit(r),
         Stage::Finished => false,
         Stage::Aborted => false,
     }
 }
 
 // Can the stage occur at gate j? The circuit has count gates, and before gate j that many entries are unchecked.
-fn stage_occurs(c: &[u32], count: usize, j: usize, waiting: usize, stage: Stage) -> bool
+fn stage_occurs(c: &[Word], count: usize, j: usize, waiting: usize, stage: Stage) -> bool
     requires { ⌜ (gateSize * count ≤ length (now c)) × (count ≡ gates (now c)) × (j < count) × (waiting ≡ unchecked (now c) j) ⌝ }
     ensures { λ b. ⌜ b ≡ stageOccurs (now (c .entry)) j (stageOf stage) ⌝ }
 {
-    let g = circuit::gate_at(c, j);
+    let class = reading::class_at(c, j);
     match stage {
-        Stage::Send(r) => circuit::has_round(g, waiting, r),
-        Stage::Receive(r) => circuit::has_round(g, waiting, r),
+        Stage::Send(r) => rounds::has_round(class, waiting, r),
+        Stage::Receive(r) => rounds::has_round(class, waiting, r),
         Stage::Finished => j + 1 == count,
-        Stage::Aborted => circuit::has_round(g, waiting, Round::RevealOutput),
+        Stage::Aborted => rounds::has_round(class, waiting, Round::Reveal(Check::Second)),
     }
 }
 
 // Question 13.
-fn can_occur(c: &[u32], count: usize, waiting: usize, at: Position) -> bool
+fn can_occur(c: &[Word], count: usize, waiting: usize, at: Position) -> bool
     requires { ⌜ (gateSize * count ≤ length (now c)) × (count ≡ gates (now c)) × (at .gate < count → waiting ≡ unchecked (now c) (at .gate)) ⌝ }
-    ensures { λ b. ⌜ b ≡ occurs p (now (c .entry)) (positionOf at) ⌝ }
+    ensures { λ b. ⌜ b ≡ occurs size (now (c .entry)) (positionOf at) ⌝ }
 {
     let j = at.gate;
     if count <= j {
@@ -231,7 +237,7 @@ fn can_occur(c: &[u32], count: usize, waiting: usize, at: Position) -> bool
         return false;
     }
     if may_hold(stage) {
-        return at.held < field::P;
+        return at.held < field::SIZE;
     }
     at.held == 0
 }
@@ -248,25 +254,25 @@ fn slot_at(sort: Sort, k: usize) -> Slot
     }
 }
 
-fn is_wanted(c: &[u32], sort: Sort, k: usize) -> bool
+fn is_wanted(c: &[Word], sort: Sort, k: usize) -> bool
     requires { ⌜ (length (now c) ≡ gateSize * gates (now c)) × Within (layout (now c)) (sortOf sort k) ⌝ }
     ensures { λ b. ⌜ b ≡ wantedOf (now (c .entry)) sort k ⌝ }
 {
     match sort {
-        Sort::Shares => circuit::has_value(circuit::gate_at(c, k)),
-        Sort::Macs => circuit::has_value(circuit::gate_at(c, k)),
+        Sort::Shares => !shapes::is_out(reading::class_at(c, k)),
+        Sort::Macs => !shapes::is_out(reading::class_at(c, k)),
         Sort::Values => true,
         Sort::ValueMacs => true,
     }
 }
 
 // Question 15 of one slot. Whether it is wanted is asked only if its number is no element.
-fn ask_slot(c: &[u32], l: &[u32], y: Layout, sort: Sort, t: usize) -> Verdict
+fn ask_slot(c: &[Word], l: &[Word], y: Layout, sort: Sort, t: usize) -> Verdict
     requires { ⌜ Laid (now c) (now l) y × Within (layout (now c)) (sortOf sort t) ⌝ }
-    ensures { λ r. ⌜ verdictOf r ≡ slotQuestion p (now (c .entry)) (now (l .entry)) (wantedOf (now (c .entry)) sort t) (sortOf sort t) ⌝ }
+    ensures { λ r. ⌜ verdictOf r ≡ slotQuestion size (now (c .entry)) (now (l .entry)) (wantedOf (now (c .entry)) sort t) (sortOf sort t) ⌝ }
 {
-    let at = scratch::offset_of(y, slot_at(sort, t));
-    if l[at] < field::P {
+    let at = protocol::offset_of(y, slot_at(sort, t));
+    if l[at] < field::SIZE {
         return Verdict::Accepted;
     }
     if is_wanted(c, sort, t) {
@@ -279,9 +285,9 @@ fn ask_slot(c: &[u32], l: &[u32], y: Layout, sort: Sort, t: usize) -> Verdict
 }
 
 // Question 15 of the slots of one sort below k.
-fn ask_slots(c: &[u32], l: &[u32], y: Layout, k: usize, sort: Sort) -> Verdict
+fn ask_slots(c: &[Word], l: &[Word], y: Layout, k: usize, sort: Sort) -> Verdict
     requires { ⌜ Laid (now c) (now l) y × ((t : ℕ) → t < k → Within (layout (now c)) (sortOf sort t)) ⌝ }
-    ensures { λ r. ⌜ verdictOf r ≡ askSlots p (now (c .entry)) (now (l .entry)) k (wantedOf (now (c .entry)) sort) (sortOf sort) ⌝ }
+    ensures { λ r. ⌜ verdictOf r ≡ askSlots size (now (c .entry)) (now (l .entry)) k (wantedOf (now (c .entry)) sort) (sortOf sort) ⌝ }
 {
     let mut t = 0;
     while t < k {
@@ -297,12 +303,12 @@ fn ask_slots(c: &[u32], l: &[u32], y: Layout, k: usize, sort: Sort) -> Verdict
 }
 
 // Question 15: the gates before j, and the opened entries that are not yet checked.
-fn ask_worked(c: &[u32], l: &[u32], y: Layout, at: Site, r: Round) -> Verdict
+fn ask_worked(c: &[Word], l: &[Word], y: Layout, at: Site, r: Round) -> Verdict
     requires { ⌜ Posed (now c) (now l) y at (roundOf r) ⌝ }
-    ensures { λ v. ⌜ verdictOf v ≡ askWorked p (now (c .entry)) (now (l .entry)) (at .gate) (roundOf r) ⌝ }
+    ensures { λ v. ⌜ verdictOf v ≡ askWorked size (now (c .entry)) (now (l .entry)) (at .gate) (roundOf r) ⌝ }
 {
     let j = at.gate;
-    let opened = circuit::opened_in(at.unchecked, r);
+    let opened = rounds::opened_in(at.unchecked, r);
     match ask_slots(c, l, y, j, Sort::Shares) {
         Verdict::Refused { number, index } => {
             return Verdict::Refused { number, index };
@@ -326,16 +332,16 @@ fn ask_worked(c: &[u32], l: &[u32], y: Layout, at: Site, r: Round) -> Verdict
 
 // Questions 15 to 18.
 fn ask_send_round(
-    c: &[u32],
-    l: &[u32],
+    c: &[Word],
+    l: &[Word],
     y: Layout,
     at: Site,
     r: Round,
-    coefficients: &[u32],
+    coefficients: &[Word],
     room: usize,
 ) -> Verdict
     requires { ⌜ Posed (now c) (now l) y at (roundOf r) ⌝ }
-    ensures { λ v. ⌜ verdictOf v ≡ askSendRound p (now (c .entry)) (now (l .entry)) (at .gate) (now (coefficients .entry)) room (roundOf r) ⌝ }
+    ensures { λ v. ⌜ verdictOf v ≡ askSendRound size (now (c .entry)) (now (l .entry)) (at .gate) (now (coefficients .entry)) room (roundOf r) ⌝ }
 {
     match ask_worked(c, l, y, at, r) {
         Verdict::Refused { number, index } => {
@@ -343,7 +349,7 @@ fn ask_send_round(
         }
         Verdict::Accepted => {}
     }
-    if coefficients.len() != circuit::coefficients_in(at.unchecked, r) {
+    if coefficients.len() != rounds::coefficients_in(at.unchecked, r) {
         return Verdict::Refused {
             number: 16,
             index: 0,
@@ -355,7 +361,7 @@ fn ask_send_round(
         }
         Verdict::Accepted => {}
     }
-    if room < circuit::words_in(circuit::gate_at(c, at.gate), r) {
+    if room < rounds::words_in(reading::shape_at(c, at.gate), r) {
         return Verdict::Refused {
             number: 18,
             index: 0,
@@ -367,15 +373,15 @@ fn ask_send_round(
 // Questions 15 and 19 to 21.
 fn ask_receive_round(
     parties: usize,
-    c: &[u32],
-    l: &[u32],
+    c: &[Word],
+    l: &[Word],
     y: Layout,
     at: Site,
     r: Round,
-    heard: &[u32],
+    heard: &[Word],
 ) -> Verdict
     requires { ⌜ Posed (now c) (now l) y at (roundOf r) × (parties ≤ 8) ⌝ }
-    ensures { λ v. ⌜ verdictOf v ≡ askReceiveRound p (now (c .entry)) parties (now (l .entry)) (at .gate) (now (heard .entry)) (roundOf r) ⌝ }
+    ensures { λ v. ⌜ verdictOf v ≡ askReceiveRound size (now (c .entry)) parties (now (l .entry)) (at .gate) (now (heard .entry)) (roundOf r) ⌝ }
 {
     match ask_worked(c, l, y, at, r) {
         Verdict::Refused { number, index } => {
@@ -383,7 +389,7 @@ fn ask_receive_round(
         }
         Verdict::Accepted => {}
     }
-    if heard.len() != parties * circuit::words_in(circuit::gate_at(c, at.gate), r) {
+    if heard.len() != parties * rounds::words_in(reading::shape_at(c, at.gate), r) {
         return Verdict::Refused {
             number: 19,
             index: 0,
@@ -395,7 +401,7 @@ fn ask_receive_round(
         }
         Verdict::Accepted => {}
     }
-    if circuit::is_commit(r) {
+    if rounds::is_commit(r) {
         return ask_marks(heard);
     }
     Verdict::Accepted
@@ -411,13 +417,13 @@ fn least(a: usize, b: usize) -> usize
 pub fn ask_lent(
     parties: usize,
     me: usize,
-    c: &[u32],
-    prep: &[u32],
-    inputs: &[u32],
-    l: &[u32],
+    c: &[Word],
+    prep: &[Word],
+    inputs: &[Word],
+    l: &[Word],
     gate: usize,
 ) -> Lent
-    ensures asked { λ r. ⌜ lentOf r ≡ askLent p (partyOf parties me (now (c .entry)) (now (prep .entry)) (now (inputs .entry))) (now (l .entry)) ⌝ }
+    ensures asked { λ r. ⌜ lentOf r ≡ askLent size (partyOf parties me (now (c .entry)) (now (prep .entry)) (now (inputs .entry))) (now (l .entry)) ⌝ }
     ensures accepted { λ r. ⌜ LentOk (now (c .entry)) me gate r ⌝ }
 {
     match ask_party(parties, me, c) {
@@ -426,15 +432,15 @@ pub fn ask_lent(
         }
         Verdict::Accepted => {}
     }
-    let count = c.len() / circuit::GATE_SIZE;
+    let count = c.len() / reading::GATE_SIZE;
     let stop = least(gate, count);
-    let here = circuit::tally_between(c, me, 0, stop, circuit::no_tally());
-    let all = circuit::tally_between(c, me, stop, count, here);
+    let here = gates::counting::tally_between(c, me, 0, stop, circuit::counting::no_tally());
+    let all = gates::counting::tally_between(c, me, stop, count, here);
     let y = Layout {
         gates: count,
         capacity: all.openings + 1,
     };
-    let size = scratch::size_of(y);
+    let size = protocol::size_of(y);
     match ask_lists(prep, all.prep, inputs, all.inputs, l.len(), size) {
         Verdict::Refused { number, index } => {
             return Lent::Refused { number, index };
@@ -456,10 +462,10 @@ pub fn ask_lent(
 fn ask_place(
     parties: usize,
     me: usize,
-    c: &[u32],
-    prep: &[u32],
-    inputs: &[u32],
-    l: &[u32],
+    c: &[Word],
+    prep: &[Word],
+    inputs: &[Word],
+    l: &[Word],
     at: Position,
 ) -> Lent
     ensures asked { λ x. ⌜ lentOf x
@@ -485,16 +491,16 @@ fn ask_place(
 pub fn ask_send(
     parties: usize,
     me: usize,
-    c: &[u32],
-    prep: &[u32],
-    inputs: &[u32],
-    l: &[u32],
+    c: &[Word],
+    prep: &[Word],
+    inputs: &[Word],
+    l: &[Word],
     at: Position,
-    coefficients: &[u32],
+    coefficients: &[Word],
     room: usize,
 ) -> Asked
     ensures asked { λ x. ⌜ askedOf x
-        ≡ askSend p (partyOf parties me (now (c .entry)) (now (prep .entry)) (now (inputs .entry)))
+        ≡ askSend size (partyOf parties me (now (c .entry)) (now (prep .entry)) (now (inputs .entry)))
         (now (l .entry)) (positionOf at) (now (coefficients .entry)) room ⌝ }
     ensures accepted { λ x. ⌜ SendOk (partyOf parties me (now (c .entry)) (now (prep .entry)) (now (inputs .entry)))
         (now (l .entry)) at (now (coefficients .entry)) room x ⌝ }
@@ -529,15 +535,15 @@ pub fn ask_send(
 pub fn ask_receive(
     parties: usize,
     me: usize,
-    c: &[u32],
-    prep: &[u32],
-    inputs: &[u32],
-    l: &[u32],
+    c: &[Word],
+    prep: &[Word],
+    inputs: &[Word],
+    l: &[Word],
     at: Position,
-    heard: &[u32],
+    heard: &[Word],
 ) -> Asked
     ensures asked { λ x. ⌜ askedOf x
-        ≡ askReceive p (partyOf parties me (now (c .entry)) (now (prep .entry)) (now (inputs .entry)))
+        ≡ askReceive size (partyOf parties me (now (c .entry)) (now (prep .entry)) (now (inputs .entry)))
         (now (l .entry)) (positionOf at) (now (heard .entry)) ⌝ }
     ensures accepted { λ x. ⌜ ReceiveOk (partyOf parties me (now (c .entry)) (now (prep .entry)) (now (inputs .entry)))
         (now (l .entry)) at (now (heard .entry)) x ⌝ }

@@ -2,24 +2,26 @@
 pub mod asking;
 
 use circuit::Round;
-use steps::Layout;
-use steps::Point;
-use steps::Site;
-use steps::Slot;
-use steps::Stage;
+use field::Word;
+use protocol::Layout;
+use protocol::Point;
+use protocol::Site;
+use protocol::Slot;
+use protocol::Stage;
 use steps::receiving;
 use steps::scratch;
 use steps::sending;
 ghost use mathlib.Core.Path.{_≡_};
 ghost use mathlib.Core.Bool.{cond};
 ghost use lib.ListN.{length};
-ghost use Rattle.field.specs.Prime.{prime};
+ghost use Rattle.field.specs.Words.{ops};
 ghost use Rattle.circuit.specs.Code.{roundOf};
-ghost use Rattle.steps.specs.Position.{keep};
-ghost use Rattle.steps.specs.Party.{partyOf};
-ghost use Rattle.steps.specs.Code.{pointOf};
-ghost use Rattle.party.specs.Entry.{Next, Output, releases, openAnswer, sendAnswer, sendOut, receiveAnswer, receiveScratch};
-ghost use Rattle.party.specs.Code.{positionOf, answerOf, leadsTo};
+ghost use Rattle.protocol.specs.Position.{keep};
+ghost use Rattle.protocol.specs.Party.{partyOf};
+ghost use Rattle.protocol.specs.Code.{pointOf};
+ghost use Rattle.protocol.specs.Entry.{Next, Output, releases, openAnswer, sendAnswer, sendOut, receiveAnswer, receiveScratch};
+ghost use Rattle.protocol.specs.Code.{leadsTo};
+ghost use Rattle.party.specs.Code.{positionOf, answerOf};
 
 // The slots of one sort.
 pub enum Sort {
@@ -33,14 +35,14 @@ pub enum Sort {
 pub struct Position {
     pub gate: usize,
     pub stage: Stage,
-    pub held: u32,
+    pub held: Word,
 }
 
 // What an entry answers.
 pub enum Answer {
     Refusal { number: u32, index: usize },
     Next(Position),
-    Output(u32, Position),
+    Output(Word, Position),
     Abort(Position),
 }
 
@@ -60,19 +62,19 @@ pub enum Asked {
 pub fn open_run(
     parties: usize,
     me: usize,
-    c: &[u32],
-    prep: &[u32],
-    inputs: &[u32],
-    l: &[u32],
+    c: &[Word],
+    prep: &[Word],
+    inputs: &[Word],
+    l: &[Word],
 ) -> Answer
     ensures { λ x. ⌜ answerOf x
-        ≡ openAnswer prime (partyOf parties me (now (c .entry)) (now (prep .entry)) (now (inputs .entry))) (now (l .entry)) ⌝ }
+        ≡ openAnswer ops (partyOf parties me (now (c .entry)) (now (prep .entry)) (now (inputs .entry))) (now (l .entry)) ⌝ }
 {
     match asking::ask_lent(parties, me, c, prep, inputs, l, 0) {
         Lent::Refused { number, index } => Answer::Refusal { number, index },
         Lent::Accepted(_, _) => Answer::Next(Position {
             gate: 0,
-            stage: Stage::Send(Round::Input),
+            stage: Stage::Send(Round::Own),
             held: 0,
         }),
     }
@@ -82,19 +84,19 @@ pub fn open_run(
 pub fn send(
     parties: usize,
     me: usize,
-    c: &[u32],
-    prep: &[u32],
-    inputs: &[u32],
-    l: &[u32],
+    c: &[Word],
+    prep: &[Word],
+    inputs: &[Word],
+    l: &[Word],
     at: Position,
-    coefficients: &[u32],
-    out: &mut [u32],
+    coefficients: &[Word],
+    out: &mut [Word],
 ) -> Answer
     ensures answer { λ x. ⌜ answerOf x
-        ≡ sendAnswer prime (partyOf parties me (now (c .entry)) (now (prep .entry)) (now (inputs .entry)))
+        ≡ sendAnswer ops (partyOf parties me (now (c .entry)) (now (prep .entry)) (now (inputs .entry)))
         (now (l .entry)) (positionOf at) (now (coefficients .entry)) (length (now (out .entry))) ⌝ }
     ensures out { λ x. ⌜ now (out .exit)
-        ≡ sendOut prime (partyOf parties me (now (c .entry)) (now (prep .entry)) (now (inputs .entry)))
+        ≡ sendOut ops (partyOf parties me (now (c .entry)) (now (prep .entry)) (now (inputs .entry)))
         (now (l .entry)) (positionOf at) (now (coefficients .entry)) (now (out .entry)) ⌝ }
 {
     match asking::ask_send(parties, me, c, prep, inputs, l, at, coefficients, out.len()) {
@@ -127,18 +129,18 @@ pub fn send(
 pub fn receive(
     parties: usize,
     me: usize,
-    c: &[u32],
-    prep: &[u32],
-    inputs: &[u32],
-    l: &mut [u32],
+    c: &[Word],
+    prep: &[Word],
+    inputs: &[Word],
+    l: &mut [Word],
     at: Position,
-    heard: &[u32],
+    heard: &[Word],
 ) -> Answer
     ensures answer { λ x. ⌜ answerOf x
-        ≡ receiveAnswer prime (partyOf parties me (now (c .entry)) (now (prep .entry)) (now (inputs .entry)))
+        ≡ receiveAnswer ops (partyOf parties me (now (c .entry)) (now (prep .entry)) (now (inputs .entry)))
         (now (l .entry)) (positionOf at) (now (heard .entry)) ⌝ }
     ensures scratch { λ x. ⌜ now (l .exit)
-        ≡ receiveScratch prime (partyOf parties me (now (c .entry)) (now (prep .entry)) (now (inputs .entry)))
+        ≡ receiveScratch ops (partyOf parties me (now (c .entry)) (now (prep .entry)) (now (inputs .entry)))
         (now (l .entry)) (positionOf at) (now (heard .entry)) ⌝ }
 {
     match asking::ask_receive(parties, me, c, prep, inputs, l, at, heard) {
@@ -152,7 +154,7 @@ pub fn receive(
 }
 
 // What a round that is received leads to.
-fn outcome_of(r: Round, held: u32, output: u32, next: Point) -> Answer
+fn outcome_of(r: Round, held: Word, output: Word, next: Point) -> Answer
     ensures { λ x. ⌜ answerOf x ≡ leadsTo (roundOf r) held output (pointOf next) ⌝ }
 {
     let stage = next.stage;
@@ -170,23 +172,22 @@ fn outcome_of(r: Round, held: u32, output: u32, next: Point) -> Answer
 }
 
 // The check share that stays held.
-fn keep_held(r: Round, held: u32) -> u32
+fn keep_held(r: Round, held: Word) -> Word
     ensures { λ h. ⌜ h ≡ keep (roundOf r) held ⌝ }
 {
-    if circuit::is_commit(r) { held } else { 0 }
+    if circuit::rounds::is_commit(r) {
+        held
+    } else {
+        0
+    }
 }
 
 // The position that follows, with the output where the round releases one.
-fn released(r: Round, output: u32, at: Position) -> Answer
+fn released(r: Round, output: Word, at: Position) -> Answer
     ensures { λ x. ⌜ answerOf x ≡ cond (releases (roundOf r)) (Output output (positionOf at)) (Next (positionOf at)) ⌝ }
 {
-    match r {
-        Round::RevealOutput => Answer::Output(output, at),
-        Round::Input => Answer::Next(at),
-        Round::Multiply => Answer::Next(at),
-        Round::CommitOpened => Answer::Next(at),
-        Round::RevealOpened => Answer::Next(at),
-        Round::OpenOutput => Answer::Next(at),
-        Round::CommitOutput => Answer::Next(at),
+    if protocol::releases(r) {
+        return Answer::Output(output, at);
     }
+    Answer::Next(at)
 }

@@ -7,27 +7,27 @@ use mathlib.Core.Path.{_≡_, refl, sym, ap, subst, _∙_}
 use mathlib.Core.Bool.{Bool, true, false, cond, _&&_}
 use mathlib.Core.List.{List, [], _++_, append-nil}
 use native.Mathlib.Omega.{arith}
-use Rattle.field.specs.Ops.{Ops}
-use Rattle.field.specs.Field.{Field}
-use Rattle.field.specs.Prime.{prime}
-use Rattle.field.proofs.PrimeField.{primeField}
+use Rattle.algebra.specs.Ops.{Ops}
+use Rattle.algebra.specs.Field.{Field}
+use Rattle.field.specs.Words.{ops}
+use Rattle.field.proofs.Laws.{laws}
 use Rattle.circuit.specs.Gate.{gates}
-use Rattle.circuit.specs.Round.{Round, Input, Multiply, CommitOpened, RevealOpened, OpenOutput, CommitOutput, RevealOutput, isReveal}
+use Rattle.circuit.specs.Round.{First, Second, Round, Own, Open, Commit, Reveal, isReveal}
 use Rattle.circuit.specs.Round.{overRun, roundCount}
 use Rattle.circuit.specs.Valid.{Valid}
 use Rattle.circuit.proofs.Valid.{valid}
-use Rattle.steps.specs.Position.{Point, Stage, Send, Receive, Finished, Aborted, finished, aborted, follow}
-use Rattle.steps.specs.Receive.{passes, next, received}
-use Rattle.party.specs.Entry.{releases}
-use Rattle.joint.specs.Joint.{Joint, party}
-use Rattle.joint.specs.Run.{State, Run, begun, said, step, released, still, run, whole, mostRounds}
-use Rattle.joint.specs.Formula.{roundFormula, mostRoundsOfAll}
+use Rattle.protocol.specs.Position.{Point, Stage, Send, Receive, Finished, Aborted, finished, aborted, follow}
+use Rattle.protocol.specs.Receive.{passes, next, revealed, received}
+use Rattle.protocol.specs.Entry.{releases}
+use Rattle.protocol.specs.Joint.{Joint, party}
+use Rattle.protocol.specs.Run.{State, Run, begun, said, step, released, still, run, whole, mostRounds}
+use Rattle.protocol.specs.Formula.{roundFormula, mostRoundsOfAll}
 use Rattle.theorems.specs.Premises.{Accepts, after}
 use Rattle.theorems.specs.Abort.{Fails, StopsAt, Stops}
-use Rattle.steps.proofs.InOrder.{differ}
-use Rattle.steps.proofs.Following.{passes-not, nonzero-stopped}
-use Rattle.steps.proofs.Points.{Fits, FitsStage, spentStage, spent, goes-start, fits-follow, spent-follow, spent-le}
-use Rattle.joint.proofs.Spending.{rounds-le}
+use Rattle.circuit.proofs.Tests.{false-no}
+use Rattle.protocol.proofs.Following.{passes-not, nonzero-stopped}
+use Rattle.protocol.proofs.Points.{Fits, FitsStage, spentStage, spent, goes-start, fits-follow, spent-follow, spent-le}
+use Rattle.protocol.proofs.Spending.{rounds-le}
 use Rattle.theorems.proofs.Rounds.{ones, formula-is, at-most-766}
 use Rattle.theorems.proofs.Runs.{Idle, longer, run-ended, first, last-first, first-longer, first-idle, after-step, after-idle}
 use Rattle.theorems.proofs.Runs.{rounds-first, rounds-next}
@@ -204,14 +204,12 @@ module _ (O : Ops) (J : Joint) (scratch : List ℕ) where
       -- A failing reveal writes nothing into a scratch ..
       unwritten : (i : ℕ) (l : List ℕ) (t : Round) → isReveal t ≡ true → (heard : List ℕ) → passes O (J .parties) t heard ≡ false
           → received O (party J i) l (state k .point .gate) t heard ≡ l
-      unfolding received party isReveal
-      unwritten i l Input e heard h = differ e refl
-      unwritten i l Multiply e heard h = differ e refl
-      unwritten i l CommitOpened e heard h = differ e refl
-      unwritten i l RevealOpened e heard h = refl
-      unwritten i l OpenOutput e heard h = differ e refl
-      unwritten i l CommitOutput e heard h = differ e refl
-      unwritten i l RevealOutput e heard h = rw h
+      unfolding received revealed party isReveal
+      unwritten i l Own e heard h = false-no e
+      unwritten i l Open e heard h = false-no e
+      unwritten i l (Commit c) e heard h = false-no e
+      unwritten i l (Reveal First) e heard h = refl
+      unwritten i l (Reveal Second) e heard h = rw h
 
       -- .. and releases no output.
       unreleased : released O J (state k) r ≡ []
@@ -267,9 +265,9 @@ aborts {O} F J scratch accepts =
     let ok : Valid (J .parties) (O .size) (J .circuit) = valid (J .parties) (O .size) (J .circuit) (accepts .circuit) in
     record { stops = stops-at O J scratch ok; finishes = finishing O J scratch ok }
 
--- The same at the operations of the prime.
-pub aborts-prime : (J : Joint) (scratch : List ℕ) → Accepts prime (J .parties) (J .circuit) → Stops prime J scratch
-aborts-prime = aborts primeField
+-- The same at the field that the code works with.
+pub aborts-here : (J : Joint) (scratch : List ℕ) → Accepts ops (J .parties) (J .circuit) → Stops ops J scratch
+aborts-here = aborts laws
 
 -- The rounds of a run of an accepted circuit, on any preprocessing, inputs, coefficients and scratch.
 module _ (O : Ops) (J : Joint) (scratch : List ℕ) (accepts : Accepts O (J .parties) (J .circuit)) where
@@ -311,13 +309,13 @@ module _ (O : Ops) (J : Joint) (scratch : List ℕ) (accepts : Accepts O (J .par
       let few : whole O J scratch .rounds ≤ roundFormula (J .circuit) = rw formula-is (rounds-most O J scratch ok) in
       (few, omega (arith, at-most-766 ok))
 
--- The same at the operations of the prime.
-module _ (J : Joint) (scratch : List ℕ) (accepts : Accepts prime (J .parties) (J .circuit)) where
-  pub finished-rounds-prime : whole prime J scratch .last .point ≡ finished (J .circuit) → whole prime J scratch .rounds ≡ roundFormula (J .circuit)
-  finished-rounds-prime = finished-rounds prime J scratch accepts
+-- The same at the field that the code works with.
+module _ (J : Joint) (scratch : List ℕ) (accepts : Accepts ops (J .parties) (J .circuit)) where
+  pub finished-rounds-here : whole ops J scratch .last .point ≡ finished (J .circuit) → whole ops J scratch .rounds ≡ roundFormula (J .circuit)
+  finished-rounds-here = finished-rounds ops J scratch accepts
 
-  pub passed-rounds-prime : ((k : ℕ) (r : Round) → Fails prime J scratch k r → ⊥) → whole prime J scratch .rounds ≡ roundFormula (J .circuit)
-  passed-rounds-prime = passed-rounds prime J scratch accepts
+  pub passed-rounds-here : ((k : ℕ) (r : Round) → Fails ops J scratch k r → ⊥) → whole ops J scratch .rounds ≡ roundFormula (J .circuit)
+  passed-rounds-here = passed-rounds ops J scratch accepts
 
-  pub most-rounds-prime : (whole prime J scratch .rounds ≤ roundFormula (J .circuit)) × (whole prime J scratch .rounds ≤ mostRoundsOfAll)
-  most-rounds-prime = most-rounds prime J scratch accepts
+  pub most-rounds-here : (whole ops J scratch .rounds ≤ roundFormula (J .circuit)) × (whole ops J scratch .rounds ≤ mostRoundsOfAll)
+  most-rounds-here = most-rounds ops J scratch accepts

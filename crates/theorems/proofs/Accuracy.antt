@@ -2,60 +2,58 @@
 -- Assumes nothing.
 use Prim.Native.Nat.{ℕ, zero, suc, _+_, _*_, _<_}
 use mathlib.Core.Path.{_≡_, refl, sym, ap, ap₂, subst, _∙_}
+use mathlib.Core.Logic.{inl, inr}
 use mathlib.Core.Bool.{true, false}
 use mathlib.Core.List.{List, [], _∷_, _++_, append-nil}
 use native.Mathlib.Omega.{arith}
 use lib.ListN.{length, getD, length-append}
-use Rattle.field.specs.Ops.{Ops}
-use Rattle.field.specs.Field.{Field}
-use Rattle.field.specs.Sum.{sum}
-use Rattle.field.specs.Prime.{prime}
-use Rattle.field.proofs.PrimeField.{primeField}
-use Rattle.field.proofs.Sums.{sum-ext}
-use Rattle.circuit.specs.Gate.{Gate, In, Add, Sub, Plus, Times, Mul, Out, gate, gates, first}
-use Rattle.circuit.specs.Kind.{hasValue, isLinear}
+use Rattle.algebra.specs.Ops.{Ops}
+use Rattle.algebra.specs.Field.{Field}
+use Rattle.algebra.specs.Sum.{sum}
+use Rattle.field.specs.Words.{ops}
+use Rattle.field.proofs.Laws.{laws}
+use Rattle.algebra.proofs.Sums.{sum-ext}
+use Rattle.circuit.specs.Gate.{gate, gates}
+use Rattle.circuit.specs.Kind.{Local, Output, shape, isOut, hasValue, isLinear}
 use Rattle.circuit.specs.Count.{unchecked}
-use Rattle.circuit.specs.Round.{Round, Input, Multiply, CommitOpened, RevealOpened, OpenOutput, CommitOutput, RevealOutput, rounds}
-use Rattle.circuit.specs.Round.{following, words, openedIn, overRun, wordCount}
-use Rattle.steps.specs.Part.{Part}
-use Rattle.steps.specs.Scratch.{layout, wire, read, Value, ValueMac}
-use Rattle.steps.specs.Position.{Point, Stage, Send, Receive, Finished, Aborted, finished, follow, whenSending}
-use Rattle.steps.specs.Party.{key}
-use Rattle.party.specs.Entry.{releases}
-use Rattle.joint.specs.Joint.{Joint, party}
-use Rattle.joint.specs.Run.{State, Run, begun, said, released, still, run, whole, mostRounds}
-use Rattle.joint.specs.Plain.{value, scoreOf, scores}
-use Rattle.joint.specs.Good.{wholeKey}
+use Rattle.circuit.specs.Round.{First, Second, Round, Own, Open, Commit, Reveal, rounds, following, words, openedIn, overRun, wordCount}
+use Rattle.circuit.proofs.KindLaws.{is-class, class-is, local-no-out, owned-no-out, opens-no-out}
+use Rattle.circuit.proofs.RoundLaws as Order
+use Rattle.protocol.specs.Part.{Part}
+use Rattle.protocol.specs.Scratch.{layout, wire, read, Value, ValueMac}
+use Rattle.protocol.specs.Position.{Point, Stage, Send, Receive, Finished, Aborted, finished, follow, whenSending}
+use Rattle.protocol.specs.Party.{key}
+use Rattle.protocol.specs.Entry.{releases}
+use Rattle.protocol.specs.Joint.{Joint, party}
+use Rattle.protocol.specs.Run.{State, Run, begun, said, released, still, run, whole, mostRounds}
+use Rattle.protocol.specs.Plain.{value, scoreOf, scores}
+use Rattle.protocol.specs.Good.{wholeKey}
 use Rattle.theorems.specs.Premises.{Honest, after}
 use Rattle.theorems.specs.Accuracy.{Accurate, theKey, openAfter}
 use Rattle.theorems.specs.Abort.{Fails}
-use Rattle.steps.proofs.InOrder.{differ}
-use Rattle.joint.proofs.Said.{length-said}
+use Rattle.protocol.proofs.Said.{length-said}
 use Rattle.theorems.proofs.Given.{Given, given-honest}
 use Rattle.theorems.proofs.Closed.{Opening, Shown, every-at, keys, sumOf, wires, opened, openedValue, accurate, CarriesOpened}
 use Rattle.theorems.proofs.Closed.{carries-shown}
 use Rattle.theorems.proofs.Holds.{Holds}
-use Rattle.steps.proofs.Points.{FitsStage, sending, spentStage, spent, doneStage, done, goes-start, goes-resume, follow-stays}
-use Rattle.steps.proofs.Points.{follow-leaves, spent-follow}
-use Rattle.theorems.proofs.Sent.{gate-at, revealed-sum}
-use Rattle.theorems.proofs.Honest.{pending, length-pending, Inv, HoldsAt, fits-at, holds-at, checks-at, afterOut, following-input}
-use Rattle.theorems.proofs.Honest.{following-multiply, following-out, carries-pending, passing, point-step, inv-step, inv-begun}
+use Rattle.protocol.proofs.Points.{FitsStage, sending, spentStage, spent, doneStage, done, goes-start, goes-resume, follow-stays}
+use Rattle.protocol.proofs.Points.{follow-leaves, spent-follow}
+use Rattle.theorems.proofs.Sent.{revealed-sum}
+use Rattle.theorems.proofs.Honest.{underCheck, pending, length-pending, Inv, HoldsAt, fits-at, holds-at, checks-at}
+use Rattle.theorems.proofs.Honest.{carries-pending, passing, point-step, inv-step, inv-begun}
 use Rattle.theorems.proofs.Runs.{Idle, longer, first as firstly, last-first, first-longer, first-idle, after-step, after-idle}
 use Rattle.theorems.proofs.Abort.{aborts, finished-rounds, most-rounds}
 
--- A linear gate has no score.
-scores-linear : (O : Ops) (J : Joint) (x : ℕ) → isLinear (gate (J .circuit) x) ≡ true → scores O J (suc x) ≡ scores O J x
-unfolding scores
-scores-linear O J x e = ap (λ (l : List ℕ). scores O J x ++ l) (none (gate (J .circuit) x) e) ∙ append-nil (scores O J x)
-  where
-    none : (g : Gate) → isLinear g ≡ true → scoreOf O J g ≡ []
-    none (In s) e = unfold isLinear in differ e refl
-    none (Add x y) e = unfold scoreOf in refl
-    none (Sub x y) e = unfold scoreOf in refl
-    none (Plus x k) e = unfold scoreOf in refl
-    none (Times x k) e = unfold scoreOf in refl
-    none (Mul x y) e = unfold isLinear in differ e refl
-    none (Out x) e = unfold isLinear in differ e refl
+module _ (O : Ops) (J : Joint) (x : ℕ) where
+  -- A gate that is no output has no score ..
+  no-score : isOut (gate (J .circuit) x) ≡ false → scoreOf O J (gate (J .circuit) x) ≡ []
+  unfolding scoreOf
+  no-score e = rw e
+
+  -- .. and a linear gate is none.
+  scores-linear : isLinear (gate (J .circuit) x) ≡ true → scores O J (suc x) ≡ scores O J x
+  unfolding scores
+  scores-linear e = ap (λ (l : List ℕ). scores O J x ++ l) (no-score (local-no-out (is-class Local e))) ∙ append-nil (scores O J x)
 
 module _ {O : Ops} (F : Field O) (J : Joint) (scratch : List ℕ) (honest : Honest O J scratch) where
   -- The run has all that an honest run is given.
@@ -175,22 +173,20 @@ module _ {O : Ops} (F : Field O) (J : Joint) (scratch : List ℕ) (honest : Hone
     at = s .point .gate
 
     -- What the last check of an output releases is the output's value on plain inputs.
-    releases-value : s .point .stage ≡ Send RevealOutput → (x : ℕ) → gate (J .circuit) at ≡ Out x → released O J s RevealOutput ≡ value O J x ∷ []
+    releases-value : s .point .stage ≡ Send (Reveal Second) → shape (gate (J .circuit) at) .class ≡ Output
+        → released O J s (Reveal Second) ≡ value O J (gate (J .circuit) at .first) ∷ []
     unfolding released releases
-    releases-value e x eg =
-        rw (passing F J has s RevealOutput e inv) (ap (λ (v : ℕ). v ∷ []) (stored ∙ shown))
+    releases-value e k =
+        rw (passing F J has s (Reveal Second) e inv) (ap (λ (v : ℕ). v ∷ []) (stored ∙ shown))
       where
-        named : first (gate (J .circuit) at) ≡ x
-        named = unfold first in rw eg
+        held : Holds O J 0 at (Shown (gate (J .circuit) at .first) ∷ []) (s .scratch 0)
+        held = unfold pending underCheck in holds-at O J s (Reveal Second) e inv 0 (has .some)
 
-        held : Holds O J 0 at (Shown (first (gate (J .circuit) at)) ∷ []) (s .scratch 0)
-        held = unfold pending in holds-at O J s RevealOutput e inv 0 (has .some)
-
-        stored : read (layout (J .circuit)) (s .scratch 0) (Value 0) ≡ sumOf O J (opened O J (Shown (first (gate (J .circuit) at))))
+        stored : read (layout (J .circuit)) (s .scratch 0) (Value 0) ≡ sumOf O J (opened O J (Shown (gate (J .circuit) at .first)))
         stored = held .values 0 (omega arith)
 
-        shown : sumOf O J (opened O J (Shown (first (gate (J .circuit) at)))) ≡ value O J x
-        shown = unfold sumOf openedValue in rw named (carries-shown F J has at x (fits-at O J s RevealOutput e inv .0) eg .shares)
+        shown : sumOf O J (opened O J (Shown (gate (J .circuit) at .first))) ≡ value O J (gate (J .circuit) at .first)
+        shown = unfold sumOf openedValue in carries-shown F J has at (fits-at O J s (Reveal Second) e inv .0) k .shares
 
     -- Other rounds release nothing.
     releases-none : (r : Round) → releases r ≡ false → released O J s r ≡ []
@@ -198,51 +194,40 @@ module _ {O : Ops} (F : Field O) (J : Joint) (scratch : List ℕ) (honest : Hone
     releases-none r e = rw e
 
     -- A round within an out gate adds no score.
-    score-stays : (r r′ : Round) (rest : List Round) → s .point .stage ≡ Send r → (x : ℕ) × (gate (J .circuit) at ≡ Out x)
-        → afterOut r ≡ r′ ∷ rest
+    score-stays : (r r′ : Round) (rest : List Round) → following r (rounds (J .circuit) at) ≡ r′ ∷ rest
         → releases r ≡ false
         → scores O J (done (J .circuit) (follow (J .circuit) at r)) ≡ scores O J at ++ released O J s r
     unfolding doneStage
-    score-stays r r′ rest e g q none =
-        rw (
-          releases-none r none,
-          follow-stays (J .circuit) at r r′ rest (following-out (J .circuit) at (g .0) r (g .1) (fits-at O J s r e inv .1) ∙ q),
-        )
-        (sym (append-nil (scores O J at)))
+    score-stays r r′ rest f none = rw (releases-none r none, follow-stays (J .circuit) at r r′ rest f) (sym (append-nil (scores O J at)))
 
     -- The last round of a gate adds the gate's score.
-    score-leaves : (r : Round) (g : Gate) → s .point .stage ≡ Send r → gate (J .circuit) at ≡ g → following r (rounds (J .circuit) at) ≡ []
-        → released O J s r ≡ scoreOf O J g
+    score-leaves : (r : Round) → s .point .stage ≡ Send r → following r (rounds (J .circuit) at) ≡ []
+        → released O J s r ≡ scoreOf O J (gate (J .circuit) at)
         → scores O J (done (J .circuit) (follow (J .circuit) at r)) ≡ scores O J at ++ released O J s r
     unfolding scores
-    score-leaves r g e eg q score =
-        ap (λ (p : Point). scores O J (done (J .circuit) p)) (follow-leaves (J .circuit) at r q)
+    score-leaves r e f score =
+        ap (λ (p : Point). scores O J (done (J .circuit) p)) (follow-leaves (J .circuit) at r f)
         ∙ goes-resume (J .circuit) (suc at) (fits-at O J s r e inv .0) .done-is (scores O J) (scores-linear O J)
-        ∙ ap (λ (l : List ℕ). scores O J at ++ l) (ap (scoreOf O J) eg ∙ sym score)
+        ∙ ap (λ (l : List ℕ). scores O J at ++ l) (sym score)
 
     -- A round releases the scores that it completes.
     score-step : (r : Round) → s .point .stage ≡ Send r
         → scores O J (done (J .circuit) (follow (J .circuit) at r)) ≡ scores O J at ++ released O J s r
-    unfolding afterOut releases scoreOf
-    score-step Input e =
-        let g = gate-at (J .circuit) at Input (fits-at O J s Input e inv .1) in
-        score-leaves Input (In (g .0)) e (g .1) (following-input (J .circuit) at (g .0) (g .1)) (releases-none Input refl)
-    score-step Multiply e =
-        let g = gate-at (J .circuit) at Multiply (fits-at O J s Multiply e inv .1) in
-        score-leaves Multiply (Mul (g .0) (g .1)) e (g .2) (following-multiply (J .circuit) at (g .0) (g .1) (g .2)) (releases-none Multiply refl)
-    score-step CommitOpened e =
-        score-stays CommitOpened RevealOpened _ e (gate-at (J .circuit) at CommitOpened (fits-at O J s CommitOpened e inv .1)) refl refl
-    score-step RevealOpened e =
-        score-stays RevealOpened OpenOutput _ e (gate-at (J .circuit) at RevealOpened (fits-at O J s RevealOpened e inv .1)) refl refl
-    score-step OpenOutput e =
-        score-stays OpenOutput CommitOutput _ e (gate-at (J .circuit) at OpenOutput (fits-at O J s OpenOutput e inv .1)) refl refl
-    score-step CommitOutput e =
-        score-stays CommitOutput RevealOutput _ e (gate-at (J .circuit) at CommitOutput (fits-at O J s CommitOutput e inv .1)) refl refl
-    score-step RevealOutput e =
-        let f = fits-at O J s RevealOutput e inv in
-        let g = gate-at (J .circuit) at RevealOutput (f .1) in
-        score-leaves RevealOutput (Out (g .0)) e (g .1) (following-out (J .circuit) at (g .0) RevealOutput (g .1) (f .1))
-        (releases-value e (g .0) (g .1))
+    unfolding releases scoreOf
+    score-step r e = go r e (Order.class-at-round (J .circuit) at r (fits-at O J s r e inv .1)) (Order.after-round (J .circuit) at r (fits-at O J s r e inv .1))
+      where
+        score : shape (gate (J .circuit) at) .class ≡ Output → scoreOf O J (gate (J .circuit) at) ≡ value O J (gate (J .circuit) at .first) ∷ []
+        score k = let o : isOut (gate (J .circuit) at) ≡ true = class-is k in rw o
+
+        go : (r : Round) → s .point .stage ≡ Send r → Order.RoundClass r (shape (gate (J .circuit) at) .class)
+            → following r (rounds (J .circuit) at) ≡ Order.after r
+            → scores O J (done (J .circuit) (follow (J .circuit) at r)) ≡ scores O J at ++ released O J s r
+        go Own e (inl k) f = score-leaves Own e f (releases-none Own refl ∙ sym (no-score O J at (owned-no-out k)))
+        go Own e (inr k) f = score-leaves Own e f (releases-none Own refl ∙ sym (no-score O J at (opens-no-out k)))
+        go Open e k f = score-stays Open (Commit Second) _ f refl
+        go (Commit h) e k f = score-stays (Commit h) (Reveal h) _ f refl
+        go (Reveal First) e k f = score-stays (Reveal First) Open _ f refl
+        go (Reveal Second) e k f = score-leaves (Reveal Second) e f (releases-value e k ∙ sym (score k))
 
   -- the words of a round
   abbrev wordsOf : ℕ → Round → ℕ
@@ -368,6 +353,6 @@ module _ {O : Ops} (F : Field O) (J : Joint) (scratch : List ℕ) (honest : Hone
 pub accuracy : {O : Ops} (F : Field O) (J : Joint) (scratch : List ℕ) → Honest O J scratch → Accurate O J scratch
 accuracy F J scratch honest = accurate-run F J scratch honest
 
--- The same at the operations of the prime.
-pub accuracy-prime : (J : Joint) (scratch : List ℕ) → Honest prime J scratch → Accurate prime J scratch
-accuracy-prime = accuracy primeField
+-- The same at the field that the code works with.
+pub accuracy-here : (J : Joint) (scratch : List ℕ) → Honest ops J scratch → Accurate ops J scratch
+accuracy-here = accuracy laws

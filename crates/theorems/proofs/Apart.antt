@@ -10,42 +10,42 @@ use lib.ListN.{length, getD, take, drop, length-append, length-drop, take-append
 use lib.Seq.{length-take-le}
 use lib.Dec.{eqb}
 use borrow.Author.Tests.{eqb-true}
-use Rattle.field.specs.Ops.{Ops}
-use Rattle.field.specs.Field.{Field}
-use Rattle.field.specs.Prime.{prime}
-use Rattle.field.proofs.PrimeField.{primeField}
+use Rattle.algebra.specs.Ops.{Ops}
+use Rattle.algebra.specs.Field.{Field}
+use Rattle.field.specs.Words.{ops}
+use Rattle.field.proofs.Laws.{laws}
 use Rattle.circuit.specs.Verdict.{Accepted, ask, elements}
 use Rattle.circuit.specs.Gate.{gate}
 use Rattle.circuit.specs.Count.{unchecked}
-use Rattle.circuit.specs.Round.{Round, Input, Multiply, CommitOpened, RevealOpened, OpenOutput, CommitOutput, RevealOutput, isCommit, words}
+use Rattle.circuit.specs.Round.{First, Second, Round, Own, Open, Commit, Reveal, isCommit, words}
 use Rattle.circuit.specs.Round.{openedIn, coefficientsIn, coefficientCount}
 use Rattle.circuit.specs.Valid.{Valid}
 use Rattle.circuit.proofs.Verdicts.{ask-true, then-left, then-right, elements-below}
 use Rattle.circuit.proofs.Counts.{unchecked-fits}
-use Rattle.steps.specs.Scratch.{layout, scratchSize, Value, read}
-use Rattle.steps.specs.Position.{Position, Stage, Send, Receive, Finished, Aborted, holding, aborted, start, follow, keep, mayHold, whenReceiving}
-use Rattle.steps.specs.Party.{Party}
-use Rattle.steps.specs.Send.{mark, sent, holds}
-use Rattle.steps.specs.Receive.{passes, next, received}
-use Rattle.steps.specs.Code.{AllBelow, WorkedBelow}
-use Rattle.party.specs.Ask.{askLent, askSend, askReceive}
-use Rattle.party.specs.Entry.{Answer, Next, answer, releases, openAnswer, nextPosition, outcome}
-use Rattle.joint.specs.Joint.{Joint, joined, band, party}
-use Rattle.joint.specs.Run.{State, Run, begun, takes, said, step, released, still, run}
-use Rattle.steps.proofs.InOrder.{differ}
-use Rattle.steps.proofs.Points.{FitsStage, spentStage, fits-follow, spent-le}
-use Rattle.steps.proofs.Writing.{OpenedTo}
-use Rattle.steps.proofs.Keeping.{Stood}
-use Rattle.steps.proofs.Front.{worked-front, opened-to-front, value-front, sent-front, holds-front, received-front}
-use Rattle.party.proofs.Passing.{lent-alike, send-passes, receive-passes}
-use Rattle.joint.proofs.Words.{joined-ext, length-joined, getD-joined}
-use Rattle.joint.proofs.Said.{length-sent, length-said, below-part, below-joined, sent-low}
+use Rattle.protocol.specs.Scratch.{layout, scratchSize, Value, read}
+use Rattle.protocol.specs.Position.{Position, Stage, Send, Receive, Finished, Aborted, holding, aborted, start, follow, keep, mayHold, whenReceiving}
+use Rattle.protocol.specs.Party.{Party}
+use Rattle.protocol.specs.Send.{mark, sent, holds}
+use Rattle.protocol.specs.Receive.{passes, next, received}
+use Rattle.protocol.specs.Holding.{Below, Worked}
+use Rattle.protocol.specs.Ask.{askLent, askSend, askReceive}
+use Rattle.protocol.specs.Entry.{Answer, Next, answer, releases, openAnswer, nextPosition, outcome}
+use Rattle.protocol.specs.Joint.{Joint, joined, party}
+use Rattle.protocol.specs.Run.{State, Run, begun, takes, said, step, released, still, run}
+use Rattle.circuit.proofs.Tests.{false-no}
+use Rattle.protocol.proofs.Points.{FitsStage, spentStage, fits-follow, spent-le}
+use Rattle.protocol.proofs.Writing.{OpenedTo}
+use Rattle.protocol.proofs.Keeping.{Stood}
+use Rattle.protocol.proofs.Front.{worked-front, opened-to-front, value-front, sent-front, holds-front, received-front}
+use Rattle.protocol.proofs.Passing.{lent-alike, send-passes, receive-passes}
+use Rattle.protocol.proofs.Words.{joined-ext, length-joined, getD-joined}
+use Rattle.protocol.proofs.Said.{length-sent, length-said, below-part, below-joined, sent-low}
 use Rattle.theorems.specs.Premises.{after}
 use Rattle.theorems.specs.Apart.{Apart, partyIn, Local, moved, outputsIn, Unrefused, opens, sends, writes, receives, written, heardIn, round, apart, spoken}
 use Rattle.theorems.specs.Apart.{jointly, bands, told, Meets, Together}
 use Rattle.theorems.proofs.Calls.{sendingAt, receivingAt, localAt, sends-is, writes-is, receives-is, outcome-told, outcome-outputs, outcome-unrefused}
 use Rattle.theorems.proofs.Calls.{outputs-append, unrefused-append}
-use Rattle.theorems.proofs.Standing.{checksOutput, ShownAlike, Over, Sound, Course, going, over, stood, holds-low, holds-none, taking, sound-step, course-step}
+use Rattle.theorems.proofs.Standing.{isSecond, checksOutput, ShownAlike, Over, Sound, Course, going, over, stood, holds-low, holds-none, taking, sound-step, course-step}
 use Rattle.theorems.proofs.Standing.{sound-begun, course-begun}
 use Rattle.theorems.proofs.Joined.{circuit-valid, scratch-long, party-is, band-is, bands-room}
 use Rattle.theorems.proofs.Runs.{Idle, when-idle, longer, first, last-first, first-longer, first-idle, after-step, after-idle}
@@ -87,25 +87,20 @@ joined-nothing (suc n) f e = ap₂ {C = List ℕ} (λ (x y : List ℕ). x ++ y) 
 
 -- The round that releases an output checks it.
 releases-checks : (r : Round) → releases r ≡ true → checksOutput r ≡ true
-unfolding releases checksOutput
-releases-checks Input h = differ h refl
-releases-checks Multiply h = differ h refl
-releases-checks CommitOpened h = differ h refl
-releases-checks RevealOpened h = differ h refl
-releases-checks OpenOutput h = differ h refl
-releases-checks CommitOutput h = differ h refl
-releases-checks RevealOutput h = refl
+unfolding releases checksOutput isSecond
+releases-checks Own h = false-no h
+releases-checks Open h = false-no h
+releases-checks (Commit k) h = false-no h
+releases-checks (Reveal First) h = false-no h
+releases-checks (Reveal Second) h = refl
 
 -- The word of a commitment is the mark.
 commits-mark : (O : Ops) (P : Party) (l : List ℕ) (j held : ℕ) (r : Round) → isCommit r ≡ true → sent O P l j held r ≡ mark ∷ []
 unfolding sent isCommit
-commits-mark O P l j held Input h = differ h refl
-commits-mark O P l j held Multiply h = differ h refl
-commits-mark O P l j held CommitOpened h = refl
-commits-mark O P l j held RevealOpened h = differ h refl
-commits-mark O P l j held OpenOutput h = differ h refl
-commits-mark O P l j held CommitOutput h = refl
-commits-mark O P l j held RevealOutput h = differ h refl
+commits-mark O P l j held Own h = false-no h
+commits-mark O P l j held Open h = false-no h
+commits-mark O P l j held (Commit k) h = refl
+commits-mark O P l j held (Reveal k) h = false-no h
 
 module _ {O : Ops} (F : Field O) (D : Apart) (cs : List ℕ) (ok : Meets O D cs) where
   open Ops O using (size)
@@ -145,7 +140,7 @@ module _ {O : Ops} (F : Field O) (D : Apart) (cs : List ℕ) (ok : Meets O D cs)
   cs-long : length cs ≡ coefficientCount (D .circuit)
   cs-long = eqb-true _ _ (ask-true 16 0 _ (then-left (ask 16 0 (eqb (length cs) (coefficientCount (D .circuit)))) _ (ok .enough)))
 
-  cs-low : AllBelow size cs
+  cs-low : Below size cs
   cs-low =
       elements-below 17 size cs (omega (arith, F .one-lt))
       (then-right (ask 16 0 (eqb (length cs) (coefficientCount (D .circuit)))) (elements 17 size cs) (ok .enough))
@@ -170,7 +165,7 @@ module _ {O : Ops} (F : Field O) (D : Apart) (cs : List ℕ) (ok : Meets O D cs)
         length-take-le _ (drop (state k .used) cs)
         (omega (arith, length-drop (state k .used) cs, cs-long, used, spent-le (D .circuit) (taking F J v) j r fits))
 
-    taken-low : AllBelow size taken
+    taken-low : Below size taken
     taken-low = below-part cs (takes O J (state k) r) (state k .used) cs-low
 
     module _ (i : ℕ) (h : i < D .parties) where
@@ -198,7 +193,7 @@ module _ {O : Ops} (F : Field O) (D : Apart) (cs : List ℕ) (ok : Meets O D cs)
       lent : askLent size P l ≡ Accepted
       lent = lent-alike size P (D .scratch i) l long ∙ ok .lent i h
 
-      worked : WorkedBelow size (D .circuit) (layout (D .circuit)) l j
+      worked : Worked size (D .circuit) (layout (D .circuit)) l j
       worked = worked-front (layout (D .circuit)) (excess i) (D .circuit) band-of j (asks .room) (asks .worked)
 
       opened : OpenedTo size (layout (D .circuit)) l (openedIn (unchecked (D .circuit) j) r)
@@ -255,7 +250,7 @@ module _ {O : Ops} (F : Field O) (D : Apart) (cs : List ℕ) (ok : Meets O D cs)
         joined-ext (D .parties) _ _
         (λ i h. words-are i h ∙ ap (λ (Q : Party). sent O Q (state k .scratch i) j (state k .held i) r) (sym (same i h)))
 
-    heard-low : AllBelow size heard
+    heard-low : Below size heard
     unfolding said
     heard-low =
         below-joined (omega (arith, F .one-lt)) (D .parties) _
@@ -533,6 +528,6 @@ together {O} F D cs ok =
     rests k i h none (going r e fits used) = absurd (none r e)
     rests k i h none (over end) = resting F D cs ok k (inv-after F D cs ok k) end i h
 
--- The same at the operations of the prime, which the contracts of the three entries cite.
-pub together-prime : (D : Apart) (coefficients : List ℕ) → Meets prime D coefficients → Together prime D coefficients
-together-prime = together primeField
+-- The same at the operations of the ops, which the contracts of the three entries cite.
+pub together-here : (D : Apart) (coefficients : List ℕ) → Meets ops D coefficients → Together ops D coefficients
+together-here = together laws

@@ -8,27 +8,26 @@ use native.Mathlib.Omega.{arith}
 use lib.ListN.{length, take, drop, drop-of-length-le}
 use lib.Seq.{drop-append-seam}
 use borrow.Author.Tests.{eq-eqb}
-use Rattle.field.specs.Ops.{Ops}
-use Rattle.field.specs.Field.{Field}
-use Rattle.field.specs.Prime.{prime}
-use Rattle.field.proofs.PrimeField.{primeField}
+use Rattle.algebra.specs.Ops.{Ops}
+use Rattle.algebra.specs.Field.{Field}
+use Rattle.field.specs.Words.{ops}
+use Rattle.field.proofs.Laws.{laws}
 use Rattle.circuit.specs.Verdict.{Accepted}
 use Rattle.circuit.specs.Count.{prepSize, inputCount}
 use Rattle.circuit.proofs.Verdicts.{ask-yes, then-right, then-both, elements-below, elements-all}
-use Rattle.steps.specs.Position.{Point, finished, holding, mayHold}
-use Rattle.steps.specs.Party.{Party}
-use Rattle.steps.specs.Code.{AllBelow}
-use Rattle.party.specs.Ask.{askLent}
-use Rattle.party.proofs.Passing.{lent-passes}
-use Rattle.joint.specs.Joint.{Joint, joined, band, inputsAt, party}
-use Rattle.joint.specs.Run.{State, Run, takes}
-use Rattle.joint.specs.Plain.{scores}
-use Rattle.joint.specs.Good.{Good}
-use Rattle.joint.specs.Formula.{roundFormula}
-use Rattle.joint.proofs.Inputs.{inputs-all}
-use Rattle.joint.proofs.Words.{length-band}
-use Rattle.joint.proofs.Bands.{band-joined, joined-bands}
-use Rattle.joint.proofs.Said.{below-of, below-part, below-joined}
+use Rattle.protocol.specs.Position.{Point, finished, holding, mayHold}
+use Rattle.protocol.specs.Party.{Party}
+use Rattle.protocol.specs.Holding.{Below}
+use Rattle.protocol.specs.Ask.{askLent}
+use Rattle.protocol.proofs.Passing.{lent-passes}
+use Rattle.protocol.specs.Joint.{Joint, joined, band, inputsAt, party}
+use Rattle.protocol.specs.Run.{State, Run, takes}
+use Rattle.protocol.specs.Good.{Good}
+use Rattle.protocol.specs.Formula.{roundFormula}
+use Rattle.protocol.proofs.Inputs.{inputs-all}
+use Rattle.protocol.proofs.Words.{length-band}
+use Rattle.protocol.proofs.Bands.{band-joined, joined-bands}
+use Rattle.protocol.proofs.Said.{below-of, below-part, below-joined}
 use Rattle.theorems.specs.Premises.{Accepts, InputsPass, Honest, after}
 use Rattle.theorems.specs.Accuracy.{Accurate}
 use Rattle.theorems.specs.Matching.{plainly, rule}
@@ -123,10 +122,10 @@ module _ {O : Ops} (F : Field O) (D : Apart) (cs : List ℕ) (ok : Meets O D cs)
       good′ = secret .there-good m good
 
       -- Each party's parts of the matched preprocessing and of the second inputs pass.
-      low′ : AllBelow size m′
+      low′ : Below size m′
       low′ = below-of m′ (omega (arith, F .one-lt)) (good′ .elements)
 
-      inputs-low′ : AllBelow size x′
+      inputs-low′ : Below size x′
       inputs-low′ = elements-below 11 size x′ (omega (arith, F .one-lt)) (then-right _ _ (is .compared .second))
 
       own′ : (i : ℕ) → i < n → take (inputCount c i) (drop (inputsAt c i) x′) ≡ inputs′ i
@@ -139,7 +138,7 @@ module _ {O : Ops} (F : Field O) (D : Apart) (cs : List ℕ) (ok : Meets O D cs)
           (length-band (prepSize c) n m′ (omega (arith, good′ .long)) i h)
           (below-part m′ (prepSize c) (i * prepSize c) low′)
           (is .counts i h)
-          (subst (AllBelow size) (own′ i h) (below-part x′ (inputCount c i) (inputsAt c i) inputs-low′))
+          (subst (Below size) (own′ i h) (below-part x′ (inputCount c i) (inputsAt c i) inputs-low′))
           (scratch-long F D cs (ok .some) (ok .lent) i h)
 
       -- The joint run of the second parties is the one that secrecy speaks of.
@@ -233,9 +232,9 @@ scores-apart F D cs ok good = scored F D cs ok good
 pub secrecy-apart : {O : Ops} → Field O → SecrecyApart O
 secrecy-apart F D cs A inputs′ ok good is = alike-apart F D cs ok good A inputs′ is
 
--- Both at the operations of the prime.
-pub scores-apart-prime : Scores prime
-scores-apart-prime = scores-apart primeField
+-- Both at the operations of the ops.
+pub scores-apart-here : Scores ops
+scores-apart-here = scores-apart laws
 
-pub secrecy-apart-prime : SecrecyApart prime
-secrecy-apart-prime = secrecy-apart primeField
+pub secrecy-apart-here : SecrecyApart ops
+secrecy-apart-here = secrecy-apart laws

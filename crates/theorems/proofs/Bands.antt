@@ -3,14 +3,14 @@
 use Prim.Native.Nat.{ℕ, zero, suc, _+_, _*_, _<_}
 use mathlib.Core.Path.{_≡_, refl, sym, ap, ap₂, _∙_}
 use mathlib.Core.List.{List, [], _∷_, _++_}
-use native.Mathlib.Decide.{decLt}
 use native.Mathlib.Omega.{arith}
-use lib.ListN.{length, getD, take, drop, length-take, List·getD-eq-default}
-use lib.Seq.{getD-take, getD-drop}
-use Rattle.field.specs.Ops.{Ops}
-use Rattle.field.specs.Field.{Field}
-use Rattle.field.proofs.Ring.{norm-zero, add-lt}
-use Rattle.joint.specs.Joint.{joined, band}
+use lib.ListN.{length, getD, take, drop}
+use Rattle.algebra.specs.Ops.{Ops}
+use Rattle.algebra.specs.Field.{Field}
+use Rattle.algebra.proofs.Ring.{norm-zero, add-lt}
+use Rattle.protocol.specs.Joint.{joined, band}
+use Rattle.protocol.specs.Holding.{Below}
+use Rattle.protocol.proofs.Said.{below-of, below-part}
 use Rattle.theorems.specs.Matching.{addLists}
 
 module _ {O : Ops} (F : Field O) where
@@ -63,23 +63,16 @@ module _ {O : Ops} (F : Field O) where
 
   -- All numbers of a list are elements. Past its end stand zeros, which are elements too.
   abbrev pub Elements : List ℕ → Type 0
-  Elements xs = (k : ℕ) → getD xs k 0 < size
+  Elements xs = Below size xs
 
   -- It is enough to look at the numbers in the list.
   pub elements-of : (xs : List ℕ) → ((k : ℕ) → k < length xs → getD xs k 0 < size) → Elements xs
-  elements-of xs e k = go (decLt k (length xs))
-    where
-      go : Dec (k < length xs) → getD xs k 0 < size
-      go (yes l) = e k l
-      go (no l) = rw (List·getD-eq-default xs 0 {n = k} (omega arith)) (omega (arith, one-lt))
+  elements-of xs e = below-of xs (omega (arith, one-lt)) e
 
   -- A party's numbers are elements where all are.
   pub elements-band : (k : ℕ) (xs : List ℕ) (i : ℕ) → Elements xs → Elements (band k xs i)
   unfolding band
-  elements-band k xs i e =
-      elements-of (take k (drop (i * k) xs))
-      (λ t l. rw (getD-take k (drop (i * k) xs) t 0 (omega (arith, length-take k (drop (i * k) xs))), getD-drop (i * k) xs t 0)
-      (e (i * k + t)))
+  elements-band k xs i e = below-part xs k (i * k) e
 
   -- With numbers added one by one to a list as long, every number is an element.
   pub elements-addLists : (xs ys : List ℕ) → length xs ≡ length ys → Elements (addLists O xs ys)

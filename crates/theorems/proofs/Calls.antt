@@ -6,17 +6,17 @@ use mathlib.Core.Bool.{Bool, true, false, cond, _&&_}
 use mathlib.Core.List.{List, [], _∷_, _++_}
 use lib.ListN.{length, take}
 use lib.Seq.{take-at}
-use Rattle.field.specs.Ops.{Ops}
+use Rattle.algebra.specs.Ops.{Ops}
 use Rattle.circuit.specs.Verdict.{Accepted}
 use Rattle.circuit.specs.Gate.{gate}
 use Rattle.circuit.specs.Round.{Round, words}
-use Rattle.steps.specs.Scratch.{layout, Value, read}
-use Rattle.steps.specs.Position.{Position, Stage, Send, Receive, Finished, Aborted, whenSending, whenReceiving}
-use Rattle.steps.specs.Party.{Party}
-use Rattle.steps.specs.Send.{overwrite, sent, holds}
-use Rattle.steps.specs.Receive.{passes, received}
-use Rattle.party.specs.Ask.{askSend, askReceive}
-use Rattle.party.specs.Entry.{Answer, Refusal, Next, Output, Abort, answer, leave, releases, sendAnswer, sendOut, nextPosition, outcome, receiveAnswer, receiveScratch}
+use Rattle.protocol.specs.Scratch.{layout, Value, read}
+use Rattle.protocol.specs.Position.{Position, Stage, Send, Receive, Finished, Aborted, whenSending, whenReceiving}
+use Rattle.protocol.specs.Party.{Party}
+use Rattle.protocol.specs.Send.{overwrite, sent, holds}
+use Rattle.protocol.specs.Receive.{passes, received}
+use Rattle.protocol.specs.Ask.{askSend, askReceive}
+use Rattle.protocol.specs.Entry.{Answer, Refusal, Next, Output, Abort, answer, leave, releases, sendAnswer, sendOut, nextPosition, outcome, receiveAnswer, receiveScratch}
 use Rattle.theorems.specs.Apart.{Local, moved, unlessRefused, sends, writes, receives, toldOutput, toldAt, told, outputsIn, Unrefused}
 
 -- a party about to send round r of gate j, and about to receive it

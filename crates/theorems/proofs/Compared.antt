@@ -11,20 +11,23 @@ use lib.Dec.{leb, eqb}
 use lib.ListN.{length, getD, take, drop, length-append}
 use lib.Seq.{take-at, drop-at}
 use borrow.Author.Tests.{leb-true, eq-eqb}
-use Rattle.field.specs.Ops.{Ops}
-use Rattle.field.specs.Field.{Field}
-use Rattle.field.proofs.Ring.{sub-self}
+use Rattle.algebra.specs.Ops.{Ops}
+use Rattle.algebra.specs.Field.{Field}
+use Rattle.algebra.proofs.Ring.{sub-self}
 use Rattle.circuit.specs.Verdict.{Verdict, Accepted, ask, _then_, elements}
-use Rattle.circuit.specs.Gate.{Gate, In, Add, Sub, Plus, Times, Mul, Out, gate, first}
+use Rattle.circuit.specs.Gate.{Gate, gate}
+use Rattle.circuit.specs.Kind.{Output, shape, isOut}
+use Rattle.circuit.proofs.Tests.{by-cases}
+use Rattle.circuit.proofs.KindLaws.{class-is}
 use Rattle.circuit.specs.Count.{inputAt, inCount, outCount}
 use Rattle.circuit.specs.Round.{wordCount, coefficientCount}
 use Rattle.circuit.proofs.Verdicts.{ask-true, ask-yes, then-left, then-right, then-passed, elements-all}
-use Rattle.steps.specs.Party.{inputOf}
-use Rattle.steps.specs.Scratch.{layout, scratchSize}
-use Rattle.joint.specs.Joint.{party}
-use Rattle.joint.specs.Plain.{plainInput, value, scoreOf, scores}
-use Rattle.joint.specs.Ask.{askJoint}
-use Rattle.joint.specs.Good.{Good}
+use Rattle.protocol.specs.Party.{inputOf}
+use Rattle.protocol.specs.Scratch.{layout, scratchSize}
+use Rattle.protocol.specs.Joint.{party}
+use Rattle.protocol.specs.Plain.{plainInput, value, scoreOf, scores}
+use Rattle.protocol.specs.JointAsk.{askJoint}
+use Rattle.protocol.specs.Good.{Good}
 use Rattle.theorems.specs.Premises.{Accepts, InputsPass}
 use Rattle.theorems.specs.Matching.{leftOut, plainly, inputMove}
 use Rattle.theorems.specs.Secrecy.{runOf}
@@ -55,13 +58,7 @@ module _ (O : Ops) (n : ℕ) (c x x′ : List ℕ) where
   -- The inputs do not matter to how many scores a gate has ..
   length-scoreOf : (g : Gate) → length (scoreOf O (plainly n c x′) g) ≡ length (scoreOf O (plainly n c x) g)
   unfolding scoreOf
-  length-scoreOf (In s) = refl
-  length-scoreOf (Add y z) = refl
-  length-scoreOf (Sub y z) = refl
-  length-scoreOf (Plus y k) = refl
-  length-scoreOf (Times y k) = refl
-  length-scoreOf (Mul y z) = refl
-  length-scoreOf (Out y) = refl
+  length-scoreOf g = by-cases (isOut g) (λ e. rw e) (λ e. rw e)
 
   -- .. nor to how many there are before a gate.
   length-scores : (r : ℕ) → length (scores O (plainly n c x′) r) ≡ length (scores O (plainly n c x) r)
@@ -74,35 +71,37 @@ module _ (O : Ops) (n : ℕ) (c x x′ : List ℕ) where
 
   -- Where the scores are equal, every output names equal values.
   pub equal-outputs : (r : ℕ) → scores O (plainly n c x′) r ≡ scores O (plainly n c x) r
-      → (j y : ℕ)
+      → (j : ℕ)
       → j < r
-      → gate c j ≡ Out y
-      → value O (plainly n c x′) y ≡ value O (plainly n c x) y
+      → shape (gate c j) .class ≡ Output
+      → value O (plainly n c x′) (gate c j .first) ≡ value O (plainly n c x) (gate c j .first)
   unfolding scores plainly
-  equal-outputs zero e j y l g = absurd (omega arith)
-  equal-outputs (suc r) e j y l g = go (ℕ-discrete j r) (λ k. equal-outputs r (parts .0) j y k g)
+  equal-outputs zero e j l k = absurd (omega arith)
+  equal-outputs (suc r) e j l k = go (ℕ-discrete j r) (λ h. equal-outputs r (parts .0) j h k)
     where
       parts : (scores O (plainly n c x′) r ≡ scores O (plainly n c x) r) × (scoreOf O (plainly n c x′) (gate c r) ≡ scoreOf O (plainly n c x) (gate c r))
       parts = split (scores O (plainly n c x) r) (scores O (plainly n c x′) r) _ _ (length-scores r) e
 
-      here : scoreOf O (plainly n c x′) (Out y) ≡ scoreOf O (plainly n c x) (Out y) → value O (plainly n c x′) y ≡ value O (plainly n c x) y
-      here q = unfold scoreOf in ap (λ (l : List ℕ). getD l 0 0) q
+      here : (g : Gate) → isOut g ≡ true → scoreOf O (plainly n c x′) g ≡ scoreOf O (plainly n c x) g
+          → value O (plainly n c x′) (g .first) ≡ value O (plainly n c x) (g .first)
+      here g o q = unfold scoreOf in (rw o at (ap (λ (l : List ℕ). getD l 0 0) q))
 
-      go : Dec (j ≡ r) → (j < r → value O (plainly n c x′) y ≡ value O (plainly n c x) y) → value O (plainly n c x′) y ≡ value O (plainly n c x) y
-      go (yes q) earlier = let s : gate c r ≡ Out y = ap (gate c) (sym q) ∙ g in here (rw s at (parts .1))
+      go : Dec (j ≡ r) → (j < r → value O (plainly n c x′) (gate c j .first) ≡ value O (plainly n c x) (gate c j .first))
+          → value O (plainly n c x′) (gate c j .first) ≡ value O (plainly n c x) (gate c j .first)
+      go (yes q) earlier = here (gate c j) (class-is k) (rw q (parts .1))
       go (no q) earlier = earlier (omega arith)
 
   -- Where a party's inputs agree, the input for each of its gates does not differ.
   pub no-move : Field O → (h i : ℕ) → party (plainly n c x′) i .inputs ≡ party (plainly n c x) i .inputs
       → (j : ℕ)
-      → gate c j ≡ In i
+      → gate c j .first ≡ i
       → inputMove O n c h x x′ j ≡ 0
   unfolding inputMove
   no-move F h i e j g =
       ap₂ (O .sub) (own x′ ∙ ap (λ (l : List ℕ). getD l (inputAt c i j) 0) e) (own x) ∙ sub-self F _
     where
       own : (x : List ℕ) → plainInput O (plainly n c x) j ≡ getD (party (plainly n c x) i .inputs) (inputAt c i j) 0
-      own x = unfold plainInput plainly inputOf party first in rw g
+      own x = unfold plainInput plainly inputOf party in rw g
 
 -- the questions that are left once the lists of one run have passed theirs: about the scratch, the coefficients and the room
 unfoldable pub left : ℕ → ℕ → List ℕ → List ℕ → List ℕ → ℕ → ℕ → Verdict

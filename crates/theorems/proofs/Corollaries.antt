@@ -3,19 +3,19 @@
 use Prim.Native.Nat.{ℕ}
 use mathlib.Core.Path.{_≡_, ap}
 use mathlib.Core.List.{List}
-use Rattle.field.specs.Ops.{Ops}
-use Rattle.field.specs.Field.{Field}
-use Rattle.field.specs.Prime.{prime}
-use Rattle.field.proofs.PrimeField.{primeField}
+use Rattle.algebra.specs.Ops.{Ops}
+use Rattle.algebra.specs.Field.{Field}
+use Rattle.field.specs.Words.{ops}
+use Rattle.field.proofs.Laws.{laws}
 use Rattle.circuit.specs.Verdict.{Accepted}
 use Rattle.circuit.specs.Gate.{gates}
-use Rattle.steps.specs.Position.{Point, finished}
-use Rattle.steps.specs.Send.{overwrite}
-use Rattle.party.specs.Entry.{leave}
-use Rattle.joint.specs.Joint.{Joint}
-use Rattle.joint.specs.Entry.{Done, ended, jointly, verdict, jointAnswer, jointOutputs}
-use Rattle.joint.specs.Plain.{scores}
-use Rattle.joint.specs.Formula.{roundFormula}
+use Rattle.protocol.specs.Position.{Point, finished}
+use Rattle.protocol.specs.Send.{overwrite}
+use Rattle.protocol.specs.Entry.{leave}
+use Rattle.protocol.specs.Joint.{Joint}
+use Rattle.protocol.specs.JointEntry.{Done, ended, jointly, verdict, jointAnswer, jointOutputs}
+use Rattle.protocol.specs.Plain.{scores}
+use Rattle.protocol.specs.Formula.{roundFormula}
 use Rattle.theorems.specs.Premises.{Honest}
 use Rattle.theorems.specs.Accuracy.{Accurate}
 use Rattle.theorems.proofs.Accuracy.{accuracy}
@@ -35,11 +35,11 @@ module _ {O : Ops} (F : Field O) (J : Joint) (scratch t o : List ℕ) (honest : 
   unfolding jointOutputs leave
   call-writes-scores = rw e (ap (λ (ws : List ℕ). overwrite ws o) (accurate .outputs))
 
--- Both at the operations of the prime, which the contract of `joint_run` cites.
-pub call-finishes-prime : (J : Joint) (scratch t o : List ℕ) → Honest prime J scratch → verdict prime J scratch t o ≡ Accepted
-    → jointAnswer prime J scratch t o ≡ Done (roundFormula (J .circuit))
-call-finishes-prime = call-finishes primeField
+-- Both at the operations that the contract of `joint_run` cites.
+pub call-finishes-here : (J : Joint) (scratch t o : List ℕ) → Honest ops J scratch → verdict ops J scratch t o ≡ Accepted
+    → jointAnswer ops J scratch t o ≡ Done (roundFormula (J .circuit))
+call-finishes-here = call-finishes laws
 
-pub call-writes-scores-prime : (J : Joint) (scratch t o : List ℕ) → Honest prime J scratch → verdict prime J scratch t o ≡ Accepted
-    → jointOutputs prime J scratch t o ≡ overwrite (scores prime J (gates (J .circuit))) o
-call-writes-scores-prime = call-writes-scores primeField
+pub call-writes-scores-here : (J : Joint) (scratch t o : List ℕ) → Honest ops J scratch → verdict ops J scratch t o ≡ Accepted
+    → jointOutputs ops J scratch t o ≡ overwrite (scores ops J (gates (J .circuit))) o
+call-writes-scores-here = call-writes-scores laws

@@ -6,21 +6,22 @@ use mathlib.Core.Path.{_≡_, refl, sym, ap, subst, _∙_}
 use mathlib.Core.List.{List, [], _∷_, _++_}
 use native.Mathlib.Omega.{arith}
 use lib.ListN.{take, drop, replicate}
-use Rattle.field.specs.Ops.{Ops}
-use Rattle.field.specs.Prime.{prime, modular}
+use Rattle.algebra.specs.Ops.{Ops}
+use Rattle.field.specs.Words.{ops}
+use Rattle.field.specs.Prime.{modular}
 use Rattle.field.specs.Prime.Laws.{prime-is-modular}
 use Rattle.circuit.specs.Verdict.{Accepted}
 use Rattle.circuit.specs.Gate.{gate}
-use Rattle.circuit.specs.Round.{Round, Input, Multiply, CommitOpened, RevealOpened, OpenOutput, CommitOutput, RevealOutput, words}
-use Rattle.steps.specs.Position.{Stage, Send, Finished}
-use Rattle.party.specs.Ask.{askLent}
-use Rattle.joint.specs.Run.{State, Run, begun, takes, run}
-use Rattle.joint.specs.Docket.{circuit, prep₀, prep₁, docket}
-use Rattle.joint.proofs.Computing.{computing}
+use Rattle.circuit.specs.Round.{First, Second, Round, Own, Open, Commit, Reveal, words}
+use Rattle.protocol.specs.Position.{Stage, Send, Finished}
+use Rattle.protocol.specs.Ask.{askLent}
+use Rattle.protocol.specs.Run.{State, Run, begun, takes, run}
+use Rattle.protocol.specs.Docket.{circuit, prep₀, prep₁, docket}
+use Rattle.protocol.proofs.Computing.{computing}
 use Rattle.theorems.specs.Premises.{after}
 use Rattle.theorems.specs.Apart.{Apart, partyIn, outputsIn, apart, spoken, jointly, bands, Meets}
 use Rattle.theorems.proofs.Runs.{Idle, after-idle}
-use Rattle.theorems.proofs.Apart.{together-prime}
+use Rattle.theorems.proofs.Apart.{together-here}
 
 -- one thing for party 0 and another for party 1
 abbrev either : List ℕ → List ℕ → ℕ → List ℕ
@@ -67,7 +68,7 @@ at-stage A r e a t q = let z : Send r ≡ Send t = sym e ∙ q in let w : r ≡ 
 
 -- After the eighth round nothing is sent.
 rests : (m : ℕ) → state modular (suc (suc (suc (suc (suc (suc (suc (suc m)))))))) .point .stage ≡ Finished
-unfolding computing after bands
+unfolding computing modular after bands
 rests zero = refl
 rests (suc m) =
     ap (λ (s : State). s .point .stage)
@@ -76,25 +77,25 @@ rests (suc m) =
     ∙ rests m
 
 handed : (k : ℕ) (r : Round) → state modular k .point .stage ≡ Send r → Handed modular k r
-unfolding computing after bands
-handed zero = at-stage (Handed modular 0) Input refl (refl, omega arith)
-handed (suc zero) = at-stage (Handed modular 1) Input refl (refl, omega arith)
-handed (suc (suc zero)) = at-stage (Handed modular 2) Multiply refl (refl, omega arith)
-handed (suc (suc (suc zero))) = at-stage (Handed modular 3) CommitOpened refl (refl, omega arith)
-handed (suc (suc (suc (suc zero)))) = at-stage (Handed modular 4) RevealOpened refl (refl, omega arith)
-handed (suc (suc (suc (suc (suc zero))))) = at-stage (Handed modular 5) OpenOutput refl (refl, omega arith)
-handed (suc (suc (suc (suc (suc (suc zero)))))) = at-stage (Handed modular 6) CommitOutput refl (refl, omega arith)
-handed (suc (suc (suc (suc (suc (suc (suc zero))))))) = at-stage (Handed modular 7) RevealOutput refl (refl, omega arith)
+unfolding computing modular after bands
+handed zero = at-stage (Handed modular 0) Own refl (refl, omega arith)
+handed (suc zero) = at-stage (Handed modular 1) Own refl (refl, omega arith)
+handed (suc (suc zero)) = at-stage (Handed modular 2) Own refl (refl, omega arith)
+handed (suc (suc (suc zero))) = at-stage (Handed modular 3) (Commit First) refl (refl, omega arith)
+handed (suc (suc (suc (suc zero)))) = at-stage (Handed modular 4) (Reveal First) refl (refl, omega arith)
+handed (suc (suc (suc (suc (suc zero))))) = at-stage (Handed modular 5) Open refl (refl, omega arith)
+handed (suc (suc (suc (suc (suc (suc zero)))))) = at-stage (Handed modular 6) (Commit Second) refl (refl, omega arith)
+handed (suc (suc (suc (suc (suc (suc (suc zero))))))) = at-stage (Handed modular 7) (Reveal Second) refl (refl, omega arith)
 handed (suc (suc (suc (suc (suc (suc (suc (suc m)))))))) = λ r e. absurd (subst Idle (sym (rests m) ∙ e) tt)
 
 lent : (i : ℕ) → i < 2 → askLent 2147483647 (partyIn docketApart i) (docketApart .scratch i) ≡ Accepted
-unfolding computing
+unfolding computing modular
 lent zero h = refl
 lent (suc zero) h = refl
 lent (suc (suc i)) h = absurd (omega arith)
 
 computed : Meets modular docketApart (docket .coefficients)
-unfolding computing
+unfolding computing modular
 computed =
     record {
       some = omega arith;
@@ -105,7 +106,7 @@ computed =
     }
 
 -- The docket's lists meet what is asked of parties apart.
-pub docket-meets : Meets prime docketApart (docket .coefficients)
+pub docket-meets : Meets ops docketApart (docket .coefficients)
 docket-meets = subst (λ (O : Ops). Meets O docketApart (docket .coefficients)) (sym prime-is-modular) computed
 
 -- the joint run of eight rounds
@@ -125,16 +126,16 @@ docketWords =
     ++ (20 ∷ 2147483627 ∷ [])
 
 eight-computed : (eight modular .transcript ≡ docketWords) × (eight modular .outputs ≡ 30 ∷ [])
-unfolding computing bands
+unfolding computing modular bands
 eight-computed = (refl, refl)
 
-eight-is : (eight prime .transcript ≡ docketWords) × (eight prime .outputs ≡ 30 ∷ [])
+eight-is : (eight ops .transcript ≡ docketWords) × (eight ops .outputs ≡ 30 ∷ [])
 eight-is = subst (λ (O : Ops). (eight O .transcript ≡ docketWords) × (eight O .outputs ≡ 30 ∷ [])) (sym prime-is-modular) eight-computed
 
 -- So the two parties write the docket's words ..
-pub docket-words : spoken prime docketApart 8 ≡ docketWords
-docket-words = together-prime docketApart (docket .coefficients) docket-meets .transcript 8 ∙ eight-is .0
+pub docket-words : spoken ops docketApart 8 ≡ docketWords
+docket-words = together-here docketApart (docket .coefficients) docket-meets .transcript 8 ∙ eight-is .0
 
 -- .. and each is told its score.
-pub docket-scores : (i : ℕ) → i < 2 → outputsIn (apart prime docketApart 8 i .answers) ≡ 30 ∷ []
-docket-scores i h = together-prime docketApart (docket .coefficients) docket-meets .outputs 8 i h ∙ eight-is .1
+pub docket-scores : (i : ℕ) → i < 2 → outputsIn (apart ops docketApart 8 i .answers) ≡ 30 ∷ []
+docket-scores i h = together-here docketApart (docket .coefficients) docket-meets .outputs 8 i h ∙ eight-is .1

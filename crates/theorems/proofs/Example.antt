@@ -9,19 +9,20 @@ use native.Mathlib.Omega.{arith}
 use lib.Dec.{eqb}
 use lib.ListN.{getD}
 use borrow.Author.Tests.{eqb-false}
-use Rattle.field.specs.Ops.{Ops}
-use Rattle.field.specs.Prime.{prime, modular}
+use Rattle.algebra.specs.Ops.{Ops}
+use Rattle.field.specs.Words.{ops}
+use Rattle.field.specs.Prime.{modular}
 use Rattle.field.specs.Prime.Laws.{prime-is-modular}
 use Rattle.circuit.proofs.Tests.{false-no}
-use Rattle.joint.specs.Joint.{party}
-use Rattle.joint.specs.Good.{Good}
-use Rattle.joint.specs.Docket.{circuit, docket, rooms}
-use Rattle.joint.proofs.Computing.{computing}
-use Rattle.joint.proofs.Docket.{docket-table}
-use Rattle.theorems.specs.Matching.{leftOut, addLists, only, plainly, inputMove, valueMove, moved, productMove, recordMove, prepMove, match, rule}
+use Rattle.protocol.specs.Joint.{party}
+use Rattle.protocol.specs.Good.{Good}
+use Rattle.protocol.specs.Docket.{circuit, docket, rooms}
+use Rattle.protocol.proofs.Computing.{computing}
+use Rattle.theorems.proofs.Docket.{docket-table}
+use Rattle.theorems.specs.Matching.{leftOut, addLists, only, plainly, inputMove, valueMove, moved, productMove, maskMove, recordMove, prepMove, match, rule}
 use Rattle.theorems.specs.Secrecy.{Compared, Alike}
 use Rattle.theorems.specs.Example.{A, inputs₁, inputs₂, preps, matched, blank, unwritten, exampleRun, wordsOn, Example}
-use Rattle.theorems.proofs.Secrecy.{secrecy-prime}
+use Rattle.theorems.proofs.Secrecy.{secrecy-here}
 
 -- Lists with different numbers at one place are different.
 differ-at : (k : ℕ) (l m : List ℕ) → eqb (getD l k 0) (getD m k 0) ≡ false → l ≢ m
@@ -29,13 +30,13 @@ differ-at k l m h e = eqb-false _ _ h (ap (λ (l : List ℕ). getD l k 0) e)
 
 -- The two sets of inputs agree at A's party.
 agree : (i : ℕ) → i < 2 → A i ≡ true → party (plainly 2 circuit inputs₂) i .inputs ≡ party (plainly 2 circuit inputs₁) i .inputs
-unfolding computing plainly
+unfolding computing modular plainly
 agree zero l a = false-no a
 agree (suc zero) l a = refl
 agree (suc (suc i)) l a = absurd (omega arith)
 
 compares : Compared modular 2 circuit A inputs₁ inputs₂
-unfolding computing plainly
+unfolding computing modular plainly
 compares =
     record {
       accepts = record { parties = refl; circuit = refl };
@@ -52,11 +53,11 @@ is-good = subst (λ (O : Ops). Good O 2 circuit preps) prime-is-modular (docket-
 
 -- On the first inputs party 0's first word is 3, and on the second, with the same preprocessing, 7.
 differs : wordsOn modular preps inputs₂ ≢ wordsOn modular preps inputs₁
-unfolding computing
+unfolding computing modular
 differs = differ-at 0 (wordsOn modular preps inputs₂) (wordsOn modular preps inputs₁) refl
 
 computed : Example modular
-unfolding computing leftOut addLists only plainly inputMove valueMove moved productMove recordMove prepMove match rule
+unfolding computing modular leftOut addLists only plainly inputMove valueMove moved productMove maskMove recordMove prepMove match rule
 computed =
     record {
       compared = compares;
@@ -79,18 +80,18 @@ computed =
     }
 
 -- The example, at the operations that the contracts cite.
-pub example : Example prime
+pub example : Example ops
 example = subst Example (sym prime-is-modular) computed
 
 -- That the runs send the same words is an instance of demand 3.
-pub same-words : wordsOn prime matched inputs₂ ≡ wordsOn prime preps inputs₁
+pub same-words : wordsOn ops matched inputs₂ ≡ wordsOn ops preps inputs₁
 same-words =
-    ap (λ (m : List ℕ). wordsOn prime m inputs₂) (sym (example .match-is))
+    ap (λ (m : List ℕ). wordsOn ops m inputs₂) (sym (example .match-is))
     ∙ both .words (example .first-accepted) (both .refusals refl refl ∙ example .first-accepted)
   where
-    both : Alike prime 2 circuit A
-        (exampleRun prime preps inputs₁) (exampleRun prime (rule prime 2 circuit A inputs₁ inputs₂ preps) inputs₂)
+    both : Alike ops 2 circuit A
+        (exampleRun ops preps inputs₁) (exampleRun ops (rule ops 2 circuit A inputs₁ inputs₂ preps) inputs₂)
         rooms blank unwritten blank unwritten
     both =
-        secrecy-prime 2 circuit A inputs₁ inputs₂ (example .compared) .alike preps (example .good) (docket .coefficients) rooms
+        secrecy-here 2 circuit A inputs₁ inputs₂ (example .compared) .alike preps (example .good) (docket .coefficients) rooms
         blank unwritten blank unwritten

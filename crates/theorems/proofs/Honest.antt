@@ -3,62 +3,69 @@
 -- Assumes nothing.
 use Prim.Native.Nat.{ℕ, suc, _+_, _-_, _*_, _<_, _≤_}
 use mathlib.Core.Path.{_≡_, refl, sym, ap, ap₂, subst, _∙_}
+use mathlib.Core.Logic.{inl, inr}
 use mathlib.Core.Bool.{Bool, true, false, cond}
 use mathlib.Core.List.{List, [], _∷_}
 use native.Mathlib.Omega.{arith}
 use lib.ListN.{length, getD, take, drop}
 use lib.Dec.{eqb}
 use borrow.Author.Tests.{eq-eqb}
-use Rattle.field.specs.Ops.{Ops}
-use Rattle.field.specs.Field.{Field}
-use Rattle.field.specs.Sum.{sum}
-use Rattle.field.proofs.Sums.{sum-ext}
-use Rattle.circuit.specs.Gate.{In, Mul, Out, gate, gates, first, second}
-use Rattle.circuit.specs.Kind.{hasValue, shape}
+use Rattle.algebra.specs.Ops.{Ops}
+use Rattle.algebra.specs.Field.{Field}
+use Rattle.algebra.specs.Sum.{sum}
+use Rattle.algebra.proofs.Sums.{sum-ext}
+use Rattle.circuit.specs.Gate.{Gate, gate, gates}
+use Rattle.circuit.specs.Kind.{Class, Owned, Opens, Output, shape, isOut, factor}
 use Rattle.circuit.specs.Count.{unchecked}
-use Rattle.circuit.specs.Round.{Round, Input, Multiply, CommitOpened, RevealOpened, OpenOutput, CommitOutput, RevealOutput, roundNumber}
-use Rattle.circuit.specs.Round.{isCommit, isReveal, outRounds, roundsOf, rounds, among, following, words, checkWords, openedIn}
-use Rattle.circuit.specs.Valid.{Ref}
-use Rattle.steps.specs.Part.{Part}
-use Rattle.steps.specs.Scratch.{layout, scratchSize}
-use Rattle.steps.specs.Position.{Point, Stage, Send, Receive, Finished, Aborted, finished, reach, resume, start, follow, keep}
-use Rattle.steps.specs.Party.{aAt, bAt}
-use Rattle.steps.specs.Send.{inputWord, checkShare, sent, holds}
-use Rattle.steps.specs.Receive.{heardSum, onward, received, passes, next}
-use Rattle.joint.specs.Joint.{Joint, party}
-use Rattle.joint.specs.Run.{State, begun, takes, said, step}
-use Rattle.steps.proofs.InOrder.{differ}
+use Rattle.circuit.specs.Round.{Check, First, Second, Round, Own, Open, Commit, Reveal, isCommit, isReveal, rounds, following, shapeWords, words, revealWords, checked, openedIn}
+use Rattle.circuit.proofs.Tests.{false-no}
+use Rattle.circuit.proofs.KindLaws.{class-is, owned-facts, opens-facts, output-facts}
+use Rattle.circuit.proofs.Gates.{owner-named, output-named, opens-named, factor-named}
+use Rattle.circuit.proofs.RoundLaws as Order
+use Rattle.protocol.specs.Part.{Part}
+use Rattle.protocol.specs.Scratch.{layout, scratchSize}
+use Rattle.protocol.specs.Position.{Point, Stage, Send, Receive, Finished, Aborted, finished, reach, resume, start, follow, keep}
+use Rattle.protocol.specs.Party.{aAt, bAt}
+use Rattle.protocol.specs.Send.{inputWord, checkShare, opening, ownWords, sent, holds}
+use Rattle.protocol.specs.Receive.{heardSum, onward, ownReceived, revealed, received, passes, next}
+use Rattle.protocol.specs.Joint.{Joint, party}
+use Rattle.protocol.specs.Run.{State, begun, takes, said, step}
 use Rattle.theorems.proofs.Given.{Given}
-use Rattle.theorems.proofs.Closed.{Opening, Masked, Shown, openingsAfter, openings, length-openings, Every, every-at, keys}
-use Rattle.theorems.proofs.Closed.{ownerWord, sumOf, opened, names, CarriesOpened, carries-shown, carries-openings, check-zero}
-use Rattle.joint.proofs.Words.{length-band, getD-joined, heard-sum}
-use Rattle.theorems.proofs.Holds.{Holds, holds-pass, holds-checked, own-first, own-second, own-shown, holds-input, holds-multiply}
+use Rattle.theorems.proofs.Closed.{Opening, Masked, Shown, openings, length-openings, openings-output, Every, every-at, keys}
+use Rattle.theorems.proofs.Closed.{ownerWord, sumOf, opened, CarriesOpened, carries-shown, carries-openings, check-zero}
+use Rattle.protocol.proofs.Words.{length-band, getD-joined, heard-sum}
+use Rattle.protocol.proofs.Said.{length-sent}
+use Rattle.theorems.proofs.Holds.{Holds, holds-pass, holds-checked, own-masked, own-shown, holds-input, holds-product}
 use Rattle.theorems.proofs.Holds.{holds-shown, holds-settle}
-use Rattle.steps.proofs.InOrder.{outs, begins}
-use Rattle.steps.proofs.Points.{Reached, reached, Entered, ended, begun as beginning, entered, Fits, FitsStage, goes-entered}
-use Rattle.steps.proofs.Points.{sending, follow-stays, follow-leaves, fits-follow, entered-start}
-use Rattle.theorems.proofs.Sent.{gate-at, saidBy, revealed-sum}
+use Rattle.protocol.proofs.InOrder.{begins}
+use Rattle.protocol.proofs.Points.{Reached, reached, Entered, ended, begun as beginning, entered, Fits, FitsStage, goes-entered}
+use Rattle.protocol.proofs.Points.{sending, follow-stays, follow-leaves, fits-follow, entered-start}
+use Rattle.theorems.proofs.Sent.{saidBy, sent-class, opening-first, opening-last, revealed-sum}
+
+-- what a check of gate j is of: what is opened and unchecked when it is reached, or the shown value
+unfoldable pub underCheck : List ℕ → ℕ → Check → List Opening
+underCheck c j First = openings c j
+underCheck c j Second = Shown (gate c j .first) ∷ []
 
 -- what is opened and unchecked in round r of gate j
 unfoldable pub pending : List ℕ → ℕ → Round → List Opening
-pending c j Input = openings c j
-pending c j Multiply = openings c j
-pending c j CommitOpened = openings c j
-pending c j RevealOpened = openings c j
-pending c j OpenOutput = []
-pending c j CommitOutput = Shown (first (gate c j)) ∷ []
-pending c j RevealOutput = Shown (first (gate c j)) ∷ []
+pending c j Own = openings c j
+pending c j Open = []
+pending c j (Commit k) = underCheck c j k
+pending c j (Reveal k) = underCheck c j k
 
 -- As many values are opened and unchecked in a round as the circuit says.
+length-check : (c : List ℕ) (j : ℕ) (k : Check) → length (underCheck c j k) ≡ checked (unchecked c j) k
+unfolding underCheck checked
+length-check c j First = length-openings c j
+length-check c j Second = refl
+
 pub length-pending : (c : List ℕ) (j : ℕ) (r : Round) → length (pending c j r) ≡ openedIn (unchecked c j) r
 unfolding pending openedIn
-length-pending c j Input = length-openings c j
-length-pending c j Multiply = length-openings c j
-length-pending c j CommitOpened = length-openings c j
-length-pending c j RevealOpened = length-openings c j
-length-pending c j OpenOutput = refl
-length-pending c j CommitOutput = refl
-length-pending c j RevealOutput = refl
+length-pending c j Own = length-openings c j
+length-pending c j Open = refl
+length-pending c j (Commit k) = length-check c j k
+length-pending c j (Reveal k) = length-check c j k
 
 module _ (O : Ops) (J : Joint) where
   -- what party i's scratch holds at a stage of gate j
@@ -101,25 +108,20 @@ module _ (O : Ops) (J : Joint) where
 
   -- A gate begins with what was opened before it.
   begin-holds : {i k : ℕ} {l : List ℕ} (r : Round) → begins r ≡ true → Holds O J i k (openings (J .circuit) k) l → Holds O J i k (pending (J .circuit) k r) l
-  unfolding begins pending
-  begin-holds Input b h = h
-  begin-holds Multiply b h = h
-  begin-holds CommitOpened b h = h
-  begin-holds RevealOpened b h = differ b refl
-  begin-holds OpenOutput b h = holds-checked O J h
-  begin-holds CommitOutput b h = differ b refl
-  begin-holds RevealOutput b h = differ b refl
+  unfolding begins pending underCheck
+  begin-holds Own b h = h
+  begin-holds Open b h = holds-checked O J h
+  begin-holds (Commit First) b h = h
+  begin-holds (Commit Second) b h = false-no b
+  begin-holds (Reveal k) b h = false-no b
 
   -- No reveal begins a gate.
   begin-no-reveal : {A : Type 0} (r : Round) → begins r ≡ true → isReveal r ≡ true → A
   unfolding begins isReveal
-  begin-no-reveal Input b h = differ h refl
-  begin-no-reveal Multiply b h = differ h refl
-  begin-no-reveal CommitOpened b h = differ h refl
-  begin-no-reveal RevealOpened b h = differ b refl
-  begin-no-reveal OpenOutput b h = differ h refl
-  begin-no-reveal CommitOutput b h = differ b refl
-  begin-no-reveal RevealOutput b h = differ b refl
+  begin-no-reveal Own b h = false-no h
+  begin-no-reveal Open b h = false-no h
+  begin-no-reveal (Commit k) b h = false-no h
+  begin-no-reveal (Reveal k) b h = false-no b
 
   -- A run that enters gate k is sound where the scratch holds what is worked out before it.
   sound-entered : (k : ℕ) (p : Point) (held : ℕ → ℕ) (scratch : ℕ → List ℕ) → Entered (J .circuit) k p
@@ -155,51 +157,6 @@ module _ (O : Ops) (J : Joint) where
       let k : Reached (J .circuit) j (reach (J .circuit) (gates (J .circuit) - j) j) = reached (J .circuit) (gates (J .circuit) - j) j (omega arith) in
       sound-entered _ _ held scratch (entered (J .circuit) _ (k .within) (k .stands)) h
 
--- after a round of an out gate come these
-unfoldable pub afterOut : Round → List Round
-afterOut Input = []
-afterOut Multiply = []
-afterOut CommitOpened = RevealOpened ∷ OpenOutput ∷ CommitOutput ∷ RevealOutput ∷ []
-afterOut RevealOpened = OpenOutput ∷ CommitOutput ∷ RevealOutput ∷ []
-afterOut OpenOutput = CommitOutput ∷ RevealOutput ∷ []
-afterOut CommitOutput = RevealOutput ∷ []
-afterOut RevealOutput = []
-
--- So they do in either case.
-following-outs : (b : Bool) (r : Round) → among r (outs b) ≡ true → following r (outs b) ≡ afterOut r
-unfolding among following roundNumber afterOut
-following-outs true Input h = differ h refl
-following-outs true Multiply h = differ h refl
-following-outs true CommitOpened h = differ h refl
-following-outs true RevealOpened h = differ h refl
-following-outs true OpenOutput h = refl
-following-outs true CommitOutput h = refl
-following-outs true RevealOutput h = refl
-following-outs false Input h = differ h refl
-following-outs false Multiply h = differ h refl
-following-outs false CommitOpened h = refl
-following-outs false RevealOpened h = refl
-following-outs false OpenOutput h = refl
-following-outs false CommitOutput h = refl
-following-outs false RevealOutput h = refl
-
-module _ (c : List ℕ) (j : ℕ) where
-  -- The only round of an in gate is its last.
-  pub following-input : (s : ℕ) → gate c j ≡ In s → following Input (rounds c j) ≡ []
-  unfolding rounds roundsOf following roundNumber
-  following-input s e = rw e
-
-  -- Likewise of a mul gate.
-  pub following-multiply : (x y : ℕ) → gate c j ≡ Mul x y → following Multiply (rounds c j) ≡ []
-  unfolding rounds roundsOf following roundNumber
-  following-multiply x y e = rw e
-
-  -- What follows a round of an out gate.
-  pub following-out : (x : ℕ) (r : Round) → gate c j ≡ Out x → among r (rounds c j) ≡ true → following r (rounds c j) ≡ afterOut r
-  following-out x r e h =
-      let rs : rounds c j ≡ outs (eqb (unchecked c j) 0) = (unfold rounds roundsOf outRounds in rw e) in
-      rw rs (following-outs (eqb (unchecked c j) 0) r (rw rs at h))
-
 module _ {O : Ops} (F : Field O) (J : Joint) (has : Given O J) where
   -- The check shares of what is opened sum to zero, whatever the coefficients.
   check-sum : (j k : ℕ) (os : List Opening) (scratch : ℕ → List ℕ) (taken : List ℕ) → k ≡ length os
@@ -230,28 +187,25 @@ module _ {O : Ops} (F : Field O) (J : Joint) (has : Given O J) where
           (sum-ext F k _ _ (λ t lt. ap (O .mul (getD taken t 0)) (h i l .macs t (omega arith))))
           (ap (O .mul (keys O J i)) (sum-ext F k _ _ (λ t lt. ap (O .mul (getD taken t 0)) (h i l .values t (omega arith)))))
 
-  -- What an out gate shows carries its value on plain inputs.
-  shown : (j : ℕ) → (x : ℕ) × (gate (J .circuit) j ≡ Out x) → j < gates (J .circuit) → CarriesOpened F J has (Shown (first (gate (J .circuit) j)))
-  unfolding first
-  shown j g l = rw (g .1) (carries-shown F J has j (g .0) l (g .1))
-
   -- What is opened and unchecked in a round carries its value on plain inputs.
+  carries-check : (j : ℕ) (k : Check) → j < gates (J .circuit) → shape (gate (J .circuit) j) .class ≡ Output → Every (CarriesOpened F J has) (underCheck (J .circuit) j k)
+  unfolding underCheck
+  carries-check j First l e = carries-openings F J has j (omega arith)
+  carries-check j Second l e = (carries-shown F J has j l e, tt)
+
   pub carries-pending : (j : ℕ) (r : Round) → FitsStage (J .circuit) j (Send r) → Every (CarriesOpened F J has) (pending (J .circuit) j r)
   unfolding pending
-  carries-pending j Input f = carries-openings F J has j (omega (arith, f .0))
-  carries-pending j Multiply f = carries-openings F J has j (omega (arith, f .0))
-  carries-pending j CommitOpened f = carries-openings F J has j (omega (arith, f .0))
-  carries-pending j RevealOpened f = carries-openings F J has j (omega (arith, f .0))
-  carries-pending j OpenOutput f = tt
-  carries-pending j CommitOutput f = (shown j (gate-at (J .circuit) j CommitOutput (f .1)) (f .0), tt)
-  carries-pending j RevealOutput f = (shown j (gate-at (J .circuit) j RevealOutput (f .1)) (f .0), tt)
+  carries-pending j Own f = carries-openings F J has j (omega (arith, f .0))
+  carries-pending j Open f = tt
+  carries-pending j (Commit k) f = carries-check j k (f .0) (Order.class-at-round (J .circuit) j (Commit k) (f .1))
+  carries-pending j (Reveal k) f = carries-check j k (f .0) (Order.class-at-round (J .circuit) j (Reveal k) (f .1))
 
   -- A reveal's words sum to zero, so every round passes.
   pub passing : (s : State) (r : Round) → s .point .stage ≡ Send r → Inv O J s → passes O (J .parties) r (said O J s r) ≡ true
   unfolding passes
   passing s r e inv = go (isReveal r) refl
     where
-      go : (b : Bool) → isReveal r ≡ b → cond b (eqb (heardSum O (J .parties) checkWords 0 (said O J s r)) 0) true ≡ true
+      go : (b : Bool) → isReveal r ≡ b → cond b (eqb (heardSum O (J .parties) revealWords 0 (said O J s r)) 0) true ≡ true
       go true q = eq-eqb _ 0 (revealed-sum F J s r q ∙ checks-at O J s r e inv q)
       go false q = refl
 
@@ -264,7 +218,7 @@ module _ {O : Ops} (F : Field O) (J : Joint) (has : Given O J) where
   holds-onward : (i j : ℕ) (l : List ℕ) → j < gates (J .circuit) → Holds O J i (suc j) (openings (J .circuit) (suc j)) l
       → Resumed O J i (suc j) (onward O (party J i) j l)
   unfolding onward party keys
-  holds-onward i j l lt h = holds-settle O J (has .valid) i (gates (J .circuit) - suc j) (suc j) l (omega arith) h
+  holds-onward i j l lt h = holds-settle O J F (has .valid) i (gates (J .circuit) - suc j) (suc j) l (omega arith) h
 
   module _ (s : State) (inv : Inv O J s) where
     -- the gate of the round
@@ -279,109 +233,130 @@ module _ {O : Ops} (F : Field O) (J : Joint) (has : Given O J) where
     abbrev later : Round → ℕ → List ℕ
     later r i = received O (party J i) (s .scratch i) at r (heard r)
 
-    -- What is heard of an input is the owner's word.
-    heard-input : (x : ℕ) → x < J .parties → gate (J .circuit) at ≡ In x
-        → getD (heard Input) (first (gate (J .circuit) at) * words (gate (J .circuit) at) Input) 0 ≡ ownerWord O J at x
-    heard-input x lx eg =
-        ap (λ (k : ℕ). getD (heard Input) k 0) place ∙ sent-by ∙ word
-      where
-        sent-by : getD (heard Input) (x * 1 + 0) 0 ≡ getD (saidBy O J s Input x) 0 0
-        sent-by = unfold said sent in getD-joined (J .parties) 1 (saidBy O J s Input) (λ i l. refl) x 0 lx (omega arith)
-
-        place : first (gate (J .circuit) at) * words (gate (J .circuit) at) Input ≡ x * 1 + 0
-        place = unfold first words shape in rw eg (omega arith)
-
-        word : getD (saidBy O J s Input x) 0 0 ≡ ownerWord O J at x
-        word = unfold sent party inputWord first ownerWord in rw (eg, eq-eqb x x refl)
-
-    -- After the round of an input every scratch holds the owner's input.
-    after-input : s .point .stage ≡ Send Input → (x : ℕ) → gate (J .circuit) at ≡ In x
-        → (i : ℕ)
-        → i < J .parties
-        → Resumed O J i (suc at) (later Input i)
-    unfolding received party keys
-    after-input e x eg i l =
-        holds-onward i at _ lt
-        (rw same
-        (holds-input O J (has .valid) x _ (unfold pending in holds-at O J s Input e inv i l) lt eg
-        (heard-input x (names F J has at lt (In x) eg) eg)))
-      where
-        lt : at < gates (J .circuit)
-        lt = fits-at O J s Input e inv .0
-
-        same : openings (J .circuit) (suc at) ≡ openings (J .circuit) at
-        same = unfold openings openingsAfter in rw eg
+    -- What party i receives in a gate's own round, by the gate's class.
+    later-class : (i : ℕ) {k : Class} → shape (gate (J .circuit) at) .class ≡ k → later Own i ≡ ownReceived O (party J i) (s .scratch i) at (heard Own) k
+    unfolding received party
+    later-class i e = ap (ownReceived O (party J i) (s .scratch i) at (heard Own)) e
 
     -- What is heard of the words t is what is opened, where each party sends its share of that.
-    heard-opened : (r : Round) (k t : ℕ) (o : Opening) → ((i : ℕ) → i < J .parties → length (saidBy O J s r i) ≡ k) → t < k
+    heard-opened : (r : Round) → s .point .stage ≡ Send r → (t : ℕ) (o : Opening) → t < words (gate (J .circuit) at) r
         → ((i : ℕ) → i < J .parties → getD (saidBy O J s r i) t 0 ≡ opened O J o i .share)
-        → heardSum O (J .parties) k t (heard r) ≡ sumOf O J (opened O J o)
+        → heardSum O (J .parties) (words (gate (J .circuit) at) r) t (heard r) ≡ sumOf O J (opened O J o)
     unfolding said sumOf
-    heard-opened r k t o len lt e = heard-sum F (J .parties) k t (saidBy O J s r) len lt ∙ sum-ext F (J .parties) _ _ e
+    heard-opened r e t o lt h =
+        heard-sum F (J .parties) (words (gate (J .circuit) at) r) t (saidBy O J s r)
+        (λ i l. unfold party in length-sent O (party J i) (s .scratch i) at (s .held i) r (fits-at O J s r e inv .1)) lt
+        ∙ sum-ext F (J .parties) _ _ h
 
-    -- After the round of a product every scratch holds the party's part of it, and the two differences.
-    after-multiply : s .point .stage ≡ Send Multiply → (x y : ℕ) → gate (J .circuit) at ≡ Mul x y
-        → (i : ℕ)
-        → i < J .parties
-        → Resumed O J i (suc at) (later Multiply i)
-    unfolding received party keys first second words shape
-    after-multiply e x y eg i l =
-        holds-onward i at _ lt (rw eg (holds-multiply O J (has .valid) x y _ _ (own i l) lt eg heard-first heard-second))
+    -- What is heard of an input is the owner's word.
+    heard-input : s .point .stage ≡ Send Own → shape (gate (J .circuit) at) .class ≡ Owned
+        → getD (heard Own) (gate (J .circuit) at .first * words (gate (J .circuit) at) Own) 0 ≡ ownerWord O J at (gate (J .circuit) at .first)
+    heard-input e k = ap (λ (t : ℕ). getD (heard Own) t 0) place ∙ sent-by ∙ word
+      where
+        x : ℕ
+        x = gate (J .circuit) at .first
+
+        one : 0 < words (gate (J .circuit) at) Own
+        one = unfold shapeWords in omega (arith, owned-facts (gate (J .circuit) at) k .words)
+
+        place : x * words (gate (J .circuit) at) Own ≡ x * words (gate (J .circuit) at) Own + 0
+        place = omega arith
+
+        sent-by : getD (heard Own) (x * words (gate (J .circuit) at) Own + 0) 0 ≡ getD (saidBy O J s Own x) 0 0
+        sent-by =
+            unfold said in
+            getD-joined (J .parties) (words (gate (J .circuit) at) Own) (saidBy O J s Own)
+            (λ i l. unfold party in length-sent O (party J i) (s .scratch i) at (s .held i) Own (fits-at O J s Own e inv .1)) x 0
+            (owner-named (has .valid) at (fits-at O J s Own e inv .0) k) one
+
+        word : getD (saidBy O J s Own x) 0 0 ≡ ownerWord O J at x
+        word = ap (λ (ws : List ℕ). getD ws 0 0) (sent-class O J x _ at _ k) ∙ (unfold ownWords inputWord ownerWord party in rw (eq-eqb x x refl))
+
+    -- After the round of an input every scratch holds the owner's input.
+    after-input : s .point .stage ≡ Send Own → shape (gate (J .circuit) at) .class ≡ Owned → (i : ℕ) → i < J .parties → Resumed O J i (suc at) (later Own i)
+    after-input e k i l =
+        rw (later-class i k)
+        (unfold ownReceived party keys in
+        holds-onward i at _ lt (holds-input O J F (has .valid) lt _ (unfold pending in holds-at O J s Own e inv i l) k (heard-input e k)))
       where
         lt : at < gates (J .circuit)
-        lt = fits-at O J s Multiply e inv .0
+        lt = fits-at O J s Own e inv .0
+
+    -- After the round of a product every scratch holds the party's part of it, and what is opened.
+    after-product : s .point .stage ≡ Send Own → shape (gate (J .circuit) at) .class ≡ Opens → (i : ℕ) → i < J .parties → Resumed O J i (suc at) (later Own i)
+    unfolding party
+    after-product e k i l =
+        rw (later-class i k)
+        (unfold ownReceived party keys in
+        holds-onward i at _ lt (holds-product O J F (has .valid) lt _ _ (own i l) k heard-first heard-second))
+      where
+        g : Gate
+        g = gate (J .circuit) at
+
+        lt : at < gates (J .circuit)
+        lt = fits-at O J s Own e inv .0
 
         own : (i : ℕ) → i < J .parties → Holds O J i at (openings (J .circuit) at) (s .scratch i)
-        own i l = unfold pending in holds-at O J s Multiply e inv i l
+        own i l = unfold pending in holds-at O J s Own e inv i l
 
-        ref : Ref (J .circuit) at x × Ref (J .circuit) at y
-        ref = names F J has at lt (Mul x y) eg
+        many : (1 ≤ shape g .openings) × (words g Own ≡ shape g .openings)
+        many = (opens-facts g k .some, unfold shapeWords in opens-facts g k .words)
 
-        heard-first : heardSum O (J .parties) 2 0 (heard Multiply) ≡ sumOf O J (opened O J (Masked at x aAt))
+        word : (i t : ℕ) → getD (saidBy O J s Own i) t 0 ≡ getD (opening O (party J i) (s .scratch i) at (shape g .openings)) t 0
+        word i t = ap (λ (ws : List ℕ). getD ws t 0) (sent-class O J i _ at _ k) ∙ (unfold ownWords party in refl)
+
+        heard-first : heardSum O (J .parties) (words g Own) 0 (heard Own) ≡ sumOf O J (opened O J (Masked at (g .first) aAt))
         heard-first =
-            heard-opened Multiply 2 0 (Masked at x aAt) (λ i l. unfold sent in refl) (omega arith)
-            (λ i l. unfold sent party first in rw eg (ap (λ (p : Part). p .share) (own-first O J x (own i l) (ref .0))))
+            heard-opened Own e 0 _ (omega (arith, many .0, many .1))
+            (λ i l. word i 0
+            ∙ opening-first O (party J i) (s .scratch i) at (shape g .openings)
+            ∙ ap (λ (p : Part). p .share) (own-masked O J _ (own i l) (opens-named (has .valid) at lt k) aAt))
 
-        heard-second : heardSum O (J .parties) 2 1 (heard Multiply) ≡ sumOf O J (opened O J (Masked at y bAt))
+        heard-second : heardSum O (J .parties) (words g Own) (shape g .openings - 1) (heard Own)
+            ≡ sumOf O J (opened O J (Masked at (factor g) (bAt (shape g .openings))))
         heard-second =
-            heard-opened Multiply 2 1 (Masked at y bAt) (λ i l. unfold sent in refl) (omega arith)
-            (λ i l. unfold sent party second in rw eg (ap (λ (p : Part). p .share) (own-second O J y (own i l) (ref .1))))
+            heard-opened Own e (shape g .openings - 1) _ (omega (arith, many .0, many .1))
+            (λ i l. word i (shape g .openings - 1)
+            ∙ opening-last O (party J i) (s .scratch i) at k
+            ∙ ap (λ (p : Part). p .share) (own-masked O J _ (own i l) (factor-named (has .valid) at lt k) (bAt (shape g .openings))))
 
     -- After the round of an output every scratch holds the sum of the shares.
-    after-open : s .point .stage ≡ Send OpenOutput → (x : ℕ) → gate (J .circuit) at ≡ Out x
+    after-open : s .point .stage ≡ Send Open → shape (gate (J .circuit) at) .class ≡ Output
         → (i : ℕ)
         → i < J .parties
-        → Holds O J i at (pending (J .circuit) at CommitOutput) (later OpenOutput i)
-    unfolding received party first words shape pending
-    after-open e x eg i l = rw eg (holds-shown O J (has .valid) x _ (own i l) lt eg heard-shown)
+        → Holds O J i at (underCheck (J .circuit) at Second) (later Open i)
+    unfolding received party underCheck
+    after-open e k i l = holds-shown O J F (has .valid) lt _ (own i l) k heard-shown
       where
         lt : at < gates (J .circuit)
-        lt = fits-at O J s OpenOutput e inv .0
+        lt = fits-at O J s Open e inv .0
 
         own : (i : ℕ) → i < J .parties → Holds O J i at [] (s .scratch i)
-        own i l = unfold pending in holds-at O J s OpenOutput e inv i l
+        own i l = unfold pending in holds-at O J s Open e inv i l
 
-        heard-shown : heardSum O (J .parties) 1 0 (heard OpenOutput) ≡ sumOf O J (opened O J (Shown x))
+        one : 0 < words (gate (J .circuit) at) Open
+        one = unfold shapeWords in omega (arith, output-facts (gate (J .circuit) at) k .words)
+
+        heard-shown : heardSum O (J .parties) (words (gate (J .circuit) at) Open) 0 (heard Open) ≡ sumOf O J (opened O J (Shown (gate (J .circuit) at .first)))
         heard-shown =
-            heard-opened OpenOutput 1 0 (Shown x) (λ i l. unfold sent in refl) (omega arith)
-            (λ i l. unfold sent party first in rw eg (ap (λ (p : Part). p .share) (own-shown O J x (own i l) (names F J has at lt (Out x) eg))))
+            heard-opened Open e 0 _ one
+            (λ i l. unfold sent party in ap (λ (p : Part). p .share) (own-shown O J _ (own i l) (output-named (has .valid) at lt k)))
 
     -- After an output's last check the run goes on.
-    after-output : s .point .stage ≡ Send RevealOutput → (x : ℕ) → gate (J .circuit) at ≡ Out x
+    after-output : s .point .stage ≡ Send (Reveal Second) → shape (gate (J .circuit) at) .class ≡ Output
         → (i : ℕ)
         → i < J .parties
-        → Resumed O J i (suc at) (later RevealOutput i)
-    unfolding received party
-    after-output e x eg i l =
-        rw (passing s RevealOutput e inv)
-        (holds-onward i at _ (fits-at O J s RevealOutput e inv .0)
-        (rw none (holds-pass O J (holds-at O J s RevealOutput e inv i l) (fits-at O J s RevealOutput e inv .0) no-value)))
+        → Resumed O J i (suc at) (later (Reveal Second) i)
+    unfolding received revealed party
+    after-output e k i l =
+        rw (passing s (Reveal Second) e inv)
+        (holds-onward i at _ lt (rw (openings-output (J .circuit) at k) (holds-pass O J (holds-at O J s (Reveal Second) e inv i l) lt (rw out))))
       where
-        none : openings (J .circuit) (suc at) ≡ []
-        none = unfold openings openingsAfter in rw eg
+        lt : at < gates (J .circuit)
+        lt = fits-at O J s (Reveal Second) e inv .0
 
-        no-value : hasValue (gate (J .circuit) at) ≡ false
-        no-value = unfold hasValue in rw eg
+        out : isOut (gate (J .circuit) at) ≡ true
+        out = class-is k
 
     -- The check shares made at a commitment sum to zero.
     committed : (r : Round) → s .point .stage ≡ Send r → isCommit r ≡ true → (taken : List ℕ)
@@ -421,41 +396,24 @@ module _ {O : Ops} (F : Field O) (J : Joint) (has : Given O J) where
     -- Where a round leads to what follows it, the run is sound there.
     after-round : (r : Round) → s .point .stage ≡ Send r → (taken : List ℕ)
         → Sound O J (follow (J .circuit) at r) (λ i. keep r (holds O (party J i) (s .scratch i) at r taken)) (later r)
-    unfolding afterOut
-    after-round Input e taken =
-        let g = gate-at (J .circuit) at Input (fits-at O J s Input e inv .1) in
-        leaves Input _ _ e (following-input (J .circuit) at (g .0) (g .1)) (after-input e (g .0) (g .1))
-    after-round Multiply e taken =
-        let g = gate-at (J .circuit) at Multiply (fits-at O J s Multiply e inv .1) in
-        leaves Multiply _ _ e (following-multiply (J .circuit) at (g .0) (g .1) (g .2)) (after-multiply e (g .0) (g .1) (g .2))
-    after-round CommitOpened e taken =
-        let f = fits-at O J s CommitOpened e inv in
-        let g = gate-at (J .circuit) at CommitOpened (f .1) in
-        stays CommitOpened RevealOpened _ _ _ e (following-out (J .circuit) at (g .0) CommitOpened (g .1) (f .1))
-        (λ i l. unfold received pending in (unfold pending in holds-at O J s CommitOpened e inv i l))
-        (λ z. committed CommitOpened e (unfold isCommit in refl) taken)
-    after-round RevealOpened e taken =
-        let f = fits-at O J s RevealOpened e inv in
-        let g = gate-at (J .circuit) at RevealOpened (f .1) in
-        stays RevealOpened OpenOutput _ _ _ e (following-out (J .circuit) at (g .0) RevealOpened (g .1) (f .1))
-        (λ i l. unfold received pending in holds-checked O J (holds-at O J s RevealOpened e inv i l))
-        (λ z. unfold isReveal in differ z refl)
-    after-round OpenOutput e taken =
-        let f = fits-at O J s OpenOutput e inv in
-        let g = gate-at (J .circuit) at OpenOutput (f .1) in
-        stays OpenOutput CommitOutput _ _ _ e (following-out (J .circuit) at (g .0) OpenOutput (g .1) (f .1))
-        (after-open e (g .0) (g .1))
-        (λ z. unfold isReveal in differ z refl)
-    after-round CommitOutput e taken =
-        let f = fits-at O J s CommitOutput e inv in
-        let g = gate-at (J .circuit) at CommitOutput (f .1) in
-        stays CommitOutput RevealOutput _ _ _ e (following-out (J .circuit) at (g .0) CommitOutput (g .1) (f .1))
-        (λ i l. unfold received pending in (unfold pending in holds-at O J s CommitOutput e inv i l))
-        (λ z. committed CommitOutput e (unfold isCommit in refl) taken)
-    after-round RevealOutput e taken =
-        let f = fits-at O J s RevealOutput e inv in
-        let g = gate-at (J .circuit) at RevealOutput (f .1) in
-        leaves RevealOutput _ _ e (following-out (J .circuit) at (g .0) RevealOutput (g .1) (f .1)) (after-output e (g .0) (g .1))
+    after-round r e taken = go r e (Order.class-at-round (J .circuit) at r (fits-at O J s r e inv .1)) (Order.after-round (J .circuit) at r (fits-at O J s r e inv .1))
+      where
+        go : (r : Round) → s .point .stage ≡ Send r → Order.RoundClass r (shape (gate (J .circuit) at) .class)
+            → following r (rounds (J .circuit) at) ≡ Order.after r
+            → Sound O J (follow (J .circuit) at r) (λ i. keep r (holds O (party J i) (s .scratch i) at r taken)) (later r)
+        go Own e (inl k) f = leaves Own _ _ e f (after-input e k)
+        go Own e (inr k) f = leaves Own _ _ e f (after-product e k)
+        go Open e k f =
+            stays Open (Commit Second) _ _ _ e f (λ i l. unfold pending in after-open e k i l) (λ z. unfold isReveal in false-no z)
+        go (Commit h) e k f =
+            stays (Commit h) (Reveal h) _ _ _ e f
+            (λ i l. unfold received pending in (unfold pending in holds-at O J s (Commit h) e inv i l))
+            (λ z. committed (Commit h) e (unfold isCommit in refl) taken)
+        go (Reveal First) e k f =
+            stays (Reveal First) Open _ _ _ e f
+            (λ i l. unfold received revealed pending in holds-checked O J (holds-at O J s (Reveal First) e inv i l))
+            (λ z. unfold isReveal in false-no z)
+        go (Reveal Second) e k f = leaves (Reveal Second) _ _ e f (after-output e k)
 
     -- A round leads to what follows it.
     pub point-step : (r : Round) → s .point .stage ≡ Send r → step O J s r .point ≡ follow (J .circuit) at r

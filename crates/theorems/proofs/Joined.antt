@@ -7,20 +7,19 @@ use native.Mathlib.Decide.{ℕ-discrete}
 use native.Mathlib.Omega.{arith}
 use lib.ListN.{length, take, drop, length-append, length-drop}
 use lib.Seq.{length-take-le, take-all, take-append-le, drop-append-le, drop-at}
-use Rattle.field.specs.Ops.{Ops}
-use Rattle.field.specs.Field.{Field}
+use Rattle.algebra.specs.Ops.{Ops}
+use Rattle.algebra.specs.Field.{Field}
 use Rattle.circuit.specs.Verdict.{Accepted}
 use Rattle.circuit.specs.Count.{prepSize, inputCount}
 use Rattle.circuit.specs.Accept.{askCircuit}
 use Rattle.circuit.specs.Valid.{Valid}
-use Rattle.steps.specs.Scratch.{layout, scratchSize}
-use Rattle.steps.specs.Party.{Party}
-use Rattle.party.specs.Ask.{askParties, askLent}
-use Rattle.party.proofs.Accepted.{Lends, lends}
-use Rattle.joint.specs.Joint.{joined, band, inputsAt, party}
-use Rattle.joint.proofs.Inputs.{starts-suc, starts-mono}
-use Rattle.joint.proofs.Words.{length-joined}
-use Rattle.joint.proofs.Bands.{band-joined}
+use Rattle.protocol.specs.Scratch.{layout, scratchSize}
+use Rattle.protocol.specs.Ask.{askParties, askLent}
+use Rattle.protocol.proofs.Accepted.{Lends, lends}
+use Rattle.protocol.specs.Joint.{joined, band, inputsAt, party}
+use Rattle.protocol.proofs.Inputs.{starts-suc, starts-mono}
+use Rattle.protocol.proofs.Words.{length-joined}
+use Rattle.protocol.proofs.Bands.{band-joined}
 use Rattle.theorems.specs.Apart.{Apart, partyIn, jointly, bands}
 
 -- lists as long as the parties' numbers of inputs

@@ -4,18 +4,18 @@ use Prim.Native.Nat.{ℕ, zero, suc, _*_, _<_, _≤_}
 use mathlib.Core.Path.{_≡_, refl, _∙_}
 use mathlib.Core.List.{List}
 use lib.ListN.{length}
-use Rattle.field.specs.Ops.{Ops}
+use Rattle.algebra.specs.Ops.{Ops}
 use Rattle.circuit.specs.Verdict.{Accepted}
 use Rattle.circuit.specs.Round.{Round}
-use Rattle.steps.specs.Scratch.{layout, scratchSize}
-use Rattle.steps.specs.Position.{Stage, Send, Receive, Finished, Aborted, whenSending}
-use Rattle.party.specs.Entry.{leave}
-use Rattle.joint.specs.Joint.{Joint, joined, band}
-use Rattle.joint.specs.Run.{State, begun, step, still, ahead, run, whole}
-use Rattle.joint.specs.Entry.{verdict, jointScratch}
-use Rattle.steps.proofs.Lengths.{length-received}
-use Rattle.joint.proofs.Words.{length-band, length-joined}
-use Rattle.joint.proofs.Bands.{band-front, band-joined}
+use Rattle.protocol.specs.Scratch.{layout, scratchSize}
+use Rattle.protocol.specs.Position.{Stage, Send, Receive, Finished, Aborted, whenSending}
+use Rattle.protocol.specs.Entry.{leave}
+use Rattle.protocol.specs.Joint.{Joint, joined, band}
+use Rattle.protocol.specs.Run.{State, begun, step, still, ahead, run, whole}
+use Rattle.protocol.specs.JointEntry.{verdict, jointScratch}
+use Rattle.protocol.proofs.Lengths.{length-received}
+use Rattle.protocol.proofs.Words.{length-band, length-joined}
+use Rattle.protocol.proofs.Bands.{band-front, band-joined}
 
 module _ (O : Ops) where
   module _ (J : Joint) where

@@ -1,6 +1,7 @@
 -- The proofs of what is claimed of the joint run and of parties apart.
 pub mod Course
 pub mod Given
+pub mod KindValues
 pub mod Values
 pub mod Closed
 pub mod Holds
@@ -19,6 +20,7 @@ pub mod SameRound
 pub mod Twins
 pub mod Secrecy
 pub mod Corollaries
+pub mod Docket
 pub mod Example
 pub mod Calls
 pub mod Standing
@@ -26,3 +28,5 @@ pub mod Joined
 pub mod Apart
 pub mod ApartDemands
 pub mod DocketApart
+pub mod PartyOrder
+pub mod JointOrder

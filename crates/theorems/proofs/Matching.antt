@@ -2,42 +2,43 @@
 -- the sums of its MAC shares by the key times that. With the inputs exchanged it leads back, and at a party whose inputs agree and that
 -- does not carry the differences it changes nothing.
 -- Assumes nothing.
-use Prim.Native.Nat.{ℕ, zero, suc, _+_, _<_, _≤_}
+use Prim.Native.Nat.{ℕ, zero, suc, _+_, _*_, _<_, _≤_}
 use mathlib.Core.Path.{_≡_, refl, sym, ap, ap₂, subst, _∙_}
 use mathlib.Core.Logic.{_≢_}
+use mathlib.Core.Bool.{false}
 use mathlib.Core.List.{List, _++_}
 use native.Mathlib.Decide.{ℕ-discrete}
 use native.Mathlib.Omega.{arith}
 use lib.ListN.{length, getD, length-append, List·getD-append}
 use lib.Seq.{getD-append-add, getD-drop}
-use borrow.Author.Tests.{eq-eqb, ne-eqb}
-use Rattle.field.specs.Ops.{Ops}
-use Rattle.field.specs.Field.{Field}
-use Rattle.field.specs.Sum.{sum}
-use Rattle.field.proofs.Ring.{norm-zero, mul-zero, sub-add, sub-flip}
-use Rattle.field.proofs.Sums.{norm-sum, sum-ext, sum-moved}
-use Rattle.circuit.specs.Gate.{Gate, In, Add, Sub, Plus, Times, Mul, Out, gate, gates}
-use Rattle.circuit.specs.Kind.{shape}
+use lib.Dec.{eqb}
+use borrow.Author.Tests.{eq-eqb, ne-eqb, eqb-true, eqb-false}
+use Rattle.algebra.specs.Ops.{Ops}
+use Rattle.algebra.specs.Field.{Field}
+use Rattle.algebra.specs.Sum.{sum}
+use Rattle.algebra.proofs.Ring.{norm-zero, mul-zero, sub-add, sub-flip}
+use Rattle.algebra.proofs.Sums.{norm-sum, sum-ext, sum-moved}
+use Rattle.circuit.specs.Gate.{gate, gates}
+use Rattle.circuit.specs.Kind.{Class, Local, Owned, Opens, Output, shape, factor}
 use Rattle.circuit.specs.Count.{total, prepAt, prepSize}
-use Rattle.circuit.specs.Valid.{Valid, Names}
-use Rattle.steps.specs.Part.{partAt}
-use Rattle.steps.specs.Party.{recordIn, maskAt, wholeMaskAt, aAt, bAt, cAt}
-use Rattle.joint.specs.Joint.{joined, band}
-use Rattle.joint.specs.Good.{Good, GoodRecord, GoodMask, GoodTriple, recordAt, wholeKey, shareSum, macSum}
-use Rattle.theorems.specs.Matching.{only, addLists, inputMove, valueMove, moved, productMove, recordMove, prepMove, match}
-use Rattle.joint.proofs.Words.{length-band, length-joined}
-use Rattle.joint.proofs.Bands.{band-joined}
+use Rattle.circuit.specs.Valid.{Valid}
+use Rattle.circuit.proofs.Tests.{by-cases}
+use Rattle.circuit.proofs.Counts.{total-within}
+use Rattle.circuit.proofs.KindLaws.{local-facts, owned-facts, opens-facts, output-facts}
+use Rattle.circuit.proofs.Gates.{owner-named}
+use Rattle.protocol.specs.Part.{partAt}
+use Rattle.protocol.specs.Party.{recordIn, maskAt, wholeMaskAt, aAt, bAt, cAt}
+use Rattle.protocol.specs.Joint.{joined, band}
+use Rattle.protocol.specs.Good.{Good, GoodRecord, GoodMask, GoodTriple, recordAt, wholeKey, shareSum, macSum}
+use Rattle.theorems.specs.Matching.{only, addLists, inputMove, valueMove, moved, productMove, maskMove, recordMove, prepMove, match}
+use Rattle.protocol.proofs.Words.{length-band, length-joined}
+use Rattle.protocol.proofs.Bands.{band-joined}
 use Rattle.theorems.proofs.Bands.{length-addLists, getD-addLists, band-addLists, Elements, elements-of, elements-band, elements-addLists, Zeros, no-more, zero-then, zeros-append, add-zeros, Cancel, cancel-none, cancel-then, cancel-append, cancel-joined, add-cancel}
 
 -- The record of a gate ends before the records of the gates after it.
 pub record-end : (c : List ℕ) (j r : ℕ) → j < r → prepAt c j + shape (gate c j) .prep ≤ prepAt c r
-unfolding prepAt total
-record-end c j zero l = absurd (omega arith)
-record-end c j (suc r) l = go (ℕ-discrete j r) (record-end c j r)
-  where
-    go : Dec (j ≡ r) → (j < r → prepAt c j + shape (gate c j) .prep ≤ prepAt c r) → prepAt c j + shape (gate c j) .prep ≤ prepAt c (suc r)
-    go (yes here) earlier = rw here (omega arith)
-    go (no there) earlier = omega (arith, earlier (omega arith))
+unfolding prepAt
+record-end c j r l = omega (arith, total-within (λ g. shape g .prep) c j r l)
 
 -- The difference of a party is all there ..
 pub only-here : (s d i : ℕ) → i ≡ s → only s d i ≡ d
@@ -89,12 +90,15 @@ module _ {O : Ops} (F : Field O) (n : ℕ) (c : List ℕ) (h : ℕ) (x x′ prep
   abbrev macSums′ : ℕ → ℕ → ℕ
   macSums′ j k = macSum O n c matched j k
 
-  -- the differences of party i, and those in its record of gate j
+  -- the differences of party i, and those in its record of gate j, by its class
   abbrev prepBy : ℕ → ℕ → List ℕ
   prepBy i r = prepMove O n c h x x′ preps i r
 
-  abbrev recordBy : ℕ → ℕ → Gate → List ℕ
-  recordBy i j g = recordMove O n c h x x′ preps i j g
+  abbrev recordBy : ℕ → ℕ → Class → List ℕ
+  recordBy i j k = recordMove O n c h x x′ preps i j (gate c j) k
+
+  abbrev class : ℕ → Class
+  class j = shape (gate c j) .class
 
   -- by how much an input, a value, and the product of what hides two values differ
   abbrev byInput : ℕ → ℕ
@@ -103,19 +107,30 @@ module _ {O : Ops} (F : Field O) (n : ℕ) (c : List ℕ) (h : ℕ) (x x′ prep
   abbrev byValue : ℕ → ℕ
   byValue y = valueMove O n c h x x′ y
 
-  abbrev byProduct : ℕ → ℕ → ℕ → ℕ
-  byProduct j y z = productMove O n c h x x′ preps j (byValue y) (byValue z)
+  abbrev byProduct : ℕ → ℕ → ℕ → ℕ → ℕ
+  byProduct j k y z = productMove O n c h x x′ preps j k (byValue y) (byValue z)
+
+  -- the differences of a shared number and its MAC, and of the masks of a product
+  abbrev movedBy : ℕ → ℕ → List ℕ
+  movedBy i d = moved O n c h x x′ preps i d
+
+  abbrev masksBy : ℕ → ℕ → ℕ → ℕ → List ℕ
+  masksBy i y z k = maskMove O n c h x x′ preps i y z k
 
   -- The differences in a record are as many as its numbers.
-  length-recordMove : (i j : ℕ) (g : Gate) → length (recordBy i j g) ≡ shape g .prep
-  unfolding recordMove moved shape
-  length-recordMove i j (In s) = refl
-  length-recordMove i j (Add y z) = refl
-  length-recordMove i j (Sub y z) = refl
-  length-recordMove i j (Plus y k) = refl
-  length-recordMove i j (Times y k) = refl
-  length-recordMove i j (Mul y z) = refl
-  length-recordMove i j (Out y) = refl
+  length-masks : (i y z k : ℕ) → 1 ≤ k → k ≤ 2 → length (masksBy i y z k) ≡ k + k
+  unfolding maskMove moved
+  length-masks i y z k some few = by-cases (eqb k 2) (λ e. rw e (omega (arith, eqb-true k 2 e))) (λ e. rw e (omega (arith, eqb-false k 2 e)))
+
+  length-recordMove : (i j : ℕ) (k : Class) → class j ≡ k → length (recordBy i j k) ≡ shape (gate c j) .prep
+  unfolding recordMove moved
+  length-recordMove i j Local e = sym (local-facts (gate c j) e .prep)
+  length-recordMove i j Owned e = sym (owned-facts (gate c j) e .prep)
+  length-recordMove i j Opens e =
+      let f = opens-facts (gate c j) e in
+      length-append (masksBy i (gate c j .first) (factor (gate c j)) (shape (gate c j) .openings)) _
+      ∙ omega (arith, length-masks i (gate c j .first) (factor (gate c j)) (shape (gate c j) .openings) (f .some) (f .few), f .prep)
+  length-recordMove i j Output e = sym (output-facts (gate c j) e .prep)
 
   -- A party's differences up to gate j are as many as its numbers.
   length-prepMove : (i j : ℕ) → length (prepBy i j) ≡ prepAt c j
@@ -123,11 +138,11 @@ module _ {O : Ops} (F : Field O) (n : ℕ) (c : List ℕ) (h : ℕ) (x x′ prep
   length-prepMove i zero = refl
   length-prepMove i (suc j) =
       length-append (prepBy i j) _
-      ∙ omega (arith, length-prepMove i j, length-recordMove i j (gate c j))
+      ∙ omega (arith, length-prepMove i j, length-recordMove i j (class j) refl)
 
   -- The differences of gate j stand where its record stands.
   prepMove-at : (i j t r : ℕ) → j < r → t < shape (gate c j) .prep
-      → getD (prepBy i r) (prepAt c j + t) 0 ≡ getD (recordBy i j (gate c j)) t 0
+      → getD (prepBy i r) (prepAt c j + t) 0 ≡ getD (recordBy i j (class j)) t 0
   unfolding prepMove
   prepMove-at i j t zero l lt = absurd (omega arith)
   prepMove-at i j t (suc r) l lt = go (ℕ-discrete j r) (λ k. prepMove-at i j t r k lt)
@@ -136,7 +151,7 @@ module _ {O : Ops} (F : Field O) (n : ℕ) (c : List ℕ) (h : ℕ) (x x′ prep
       before r = prepBy i r
 
       last : ℕ → List ℕ
-      last r = recordBy i r (gate c r)
+      last r = recordBy i r (class r)
 
       go : Dec (j ≡ r) → (j < r → getD (before r) (prepAt c j + t) 0 ≡ getD (last j) t 0)
           → getD (before r ++ last r) (prepAt c j + t) 0 ≡ getD (last j) t 0
@@ -179,16 +194,16 @@ module _ {O : Ops} (F : Field O) (n : ℕ) (c : List ℕ) (h : ℕ) (x x′ prep
     as-long i l = unfold prepSize in length-prep i l ∙ sym (length-prepMove i (gates c))
 
     -- Each number of a party's matched record is its number with the difference there.
-    matched-at : (j t : ℕ) (g : Gate) → gate c j ≡ g → j < gates c → t < shape g .prep → (i : ℕ) → i < n
+    matched-at : (j : ℕ) {k : Class} → class j ≡ k → j < gates c → (t : ℕ) → t < shape (gate c j) .prep → (i : ℕ) → i < n
         → getD (rec′ i j) t 0
-        ≡ add (getD (rec i j) t 0) (getD (recordBy i j g) t 0)
+        ≡ add (getD (rec i j) t 0) (getD (recordBy i j k) t 0)
     unfolding recordAt recordIn
-    matched-at j t g e lj lt i l =
+    matched-at j e lj t lt i l =
         getD-drop (prepAt c j) (part′ i) t 0
         ∙ ap (λ (xs : List ℕ). getD xs (prepAt c j + t) 0) (band-matched i l)
         ∙ getD-addLists F (part i) _ (as-long i l) (prepAt c j + t)
         ∙ ap₂ add (sym (getD-drop (prepAt c j) (part i) t 0))
-        (prepMove-at i j t (gates c) lj (rw e lt) ∙ ap (λ (g : Gate). getD (recordBy i j g) t 0) e)
+        (prepMove-at i j t (gates c) lj lt ∙ ap (λ (k : Class). getD (recordBy i j k) t 0) e)
 
     -- Every number of good preprocessing is an element.
     pub elements-prep : (i : ℕ) → Elements F (part i)
@@ -249,30 +264,51 @@ module _ {O : Ops} (F : Field O) (n : ℕ) (c : List ℕ) (h : ℕ) (x x′ prep
       pub mask : Moved j maskAt (byInput j)
       pub whole : getD (rec′ s j) wholeMaskAt 0 ≡ add (getD (rec s j) wholeMaskAt 0) (byInput j)
 
-    -- .. and of a mul gate that names y and z
-    pub record MovedTriple (j y z : ℕ) : Type 0 where
+    -- .. and of a product of y and z with k openings
+    pub record MovedTriple (j k y z : ℕ) : Type 0 where
       pub at-a : Moved j aAt (byValue y)
-      pub at-b : Moved j bAt (byValue z)
-      pub at-c : Moved j cAt (byProduct j y z)
+      pub at-b : Moved j (bAt k) (byValue z)
+      pub at-c : Moved j (cAt k) (byProduct j k y z)
 
     -- The mask and the owner's whole mask of an in gate move with the input.
-    pub moved-mask : (j s : ℕ) → gate c j ≡ In s → j < gates c → h < n → s < n → MovedMask j s
-    unfolding recordMove moved shape
-    moved-mask j s e lj h-lt s-lt =
+    pub moved-mask : (j : ℕ) → class j ≡ Owned → j < gates c → h < n → gate c j .first < n → MovedMask j (gate c j .first)
+    unfolding recordMove moved
+    moved-mask j e lj h-lt s-lt =
         record {
-          mask = moved-at j maskAt _ h-lt (matched-at j 0 (In s) e lj (omega arith)) (matched-at j 1 (In s) e lj (omega arith));
-          whole = matched-at j 2 (In s) e lj (omega arith) s s-lt ∙ ap (add _) (only-here s _ s refl);
+          mask = moved-at j maskAt _ h-lt (matched-at j e lj 0 (omega (arith, three))) (matched-at j e lj 1 (omega (arith, three)));
+          whole = matched-at j e lj 2 (omega (arith, three)) (gate c j .first) s-lt ∙ ap (add _) (only-here (gate c j .first) _ (gate c j .first) refl);
         }
+      where
+        three : shape (gate c j) .prep ≡ 3
+        three = owned-facts (gate c j) e .prep
 
-    -- The a and the b of a mul gate move with the values that they hide, and its c with their product.
-    pub moved-triple : (j y z : ℕ) → gate c j ≡ Mul y z → j < gates c → h < n → MovedTriple j y z
-    unfolding recordMove moved shape
-    moved-triple j y z e lj h-lt =
+    -- Where the numbers of a record with k openings differ as the rule says, its a and its b move with the values that they hide, and its c with
+    -- their product.
+    moved-openings : (j k y z : ℕ) → 1 ≤ k → k ≤ 2 → (eqb k 2 ≡ false → z ≡ y) → h < n
+        → ((t : ℕ) → t < 2 * k + 2 → (i : ℕ) → i < n
+        → getD (rec′ i j) t 0 ≡ add (getD (rec i j) t 0) (getD (masksBy i y z k ++ movedBy i (byProduct j k y z)) t 0))
+        → MovedTriple j k y z
+    unfolding maskMove moved
+    moved-openings j zero y z some few same h-lt at = absurd (omega arith)
+    moved-openings j (suc zero) y z some few same h-lt at =
+        let first : Moved j aAt (byValue y) = moved-at j aAt _ h-lt (at 0 (omega arith)) (at 1 (omega arith)) in
+        record { at-a = first; at-b = rw (same refl) first; at-c = moved-at j 2 _ h-lt (at 2 (omega arith)) (at 3 (omega arith)) }
+    moved-openings j (suc (suc zero)) y z some few same h-lt at =
         record {
-          at-a = moved-at j aAt _ h-lt (matched-at j 0 (Mul y z) e lj (omega arith)) (matched-at j 1 (Mul y z) e lj (omega arith));
-          at-b = moved-at j bAt _ h-lt (matched-at j 2 (Mul y z) e lj (omega arith)) (matched-at j 3 (Mul y z) e lj (omega arith));
-          at-c = moved-at j cAt _ h-lt (matched-at j 4 (Mul y z) e lj (omega arith)) (matched-at j 5 (Mul y z) e lj (omega arith));
+          at-a = moved-at j aAt _ h-lt (at 0 (omega arith)) (at 1 (omega arith));
+          at-b = moved-at j 2 _ h-lt (at 2 (omega arith)) (at 3 (omega arith));
+          at-c = moved-at j 4 _ h-lt (at 4 (omega arith)) (at 5 (omega arith));
         }
+    moved-openings j (suc (suc (suc k))) y z some few same h-lt at = absurd (omega arith)
+
+    -- So they do in the records of a product.
+    pub moved-triple : (j : ℕ) → class j ≡ Opens → j < gates c → h < n
+        → MovedTriple j (shape (gate c j) .openings) (gate c j .first) (factor (gate c j))
+    unfolding recordMove factor
+    moved-triple j e lj h-lt =
+        let f = opens-facts (gate c j) e in
+        moved-openings j (shape (gate c j) .openings) _ _ (f .some) (f .few) (λ one. rw one) h-lt
+        (λ t lt. matched-at j e lj t (omega (arith, f .prep)))
 
     -- Authentic shares stay authentic.
     moved-authentic : (j k d : ℕ) → Moved j k d → macSums j k ≡ mul key (sums j k)
@@ -291,17 +327,17 @@ module _ {O : Ops} (F : Field O) (n : ℕ) (c : List ℕ) (h : ℕ) (x x′ prep
           whole = m .whole ∙ ap (λ (w : ℕ). add w (byInput j)) (g .whole) ∙ sym (m .mask .shares);
         }
 
-    -- The moved triple of a mul gate is good: its c is the product of its a and its b.
-    good-triple : (j y z : ℕ) → MovedTriple j y z → GoodTriple O n c preps j → GoodTriple O n c matched j
+    -- The moved triple of a product is good: its c is the product of its a and its b.
+    good-triple : (j k y z : ℕ) → MovedTriple j k y z → GoodTriple O n c preps j k → GoodTriple O n c matched j k
     unfolding productMove
-    good-triple j y z m g =
+    good-triple j k y z m g =
         record {
           mac-a = moved-authentic j aAt _ (m .at-a) (g .mac-a);
-          mac-b = moved-authentic j bAt _ (m .at-b) (g .mac-b);
-          mac-c = moved-authentic j cAt _ (m .at-c) (g .mac-c);
+          mac-b = moved-authentic j (bAt k) _ (m .at-b) (g .mac-b);
+          mac-c = moved-authentic j (cAt k) _ (m .at-c) (g .mac-c);
           product =
               m .at-c .shares
-              ∙ ap (λ (w : ℕ). add w (byProduct j y z)) (g .product)
+              ∙ ap (λ (w : ℕ). add w (byProduct j k y z)) (g .product)
               ∙ add-comm _ _
               ∙ sub-add F _ _
               ∙ norm-mul _ _
@@ -310,15 +346,11 @@ module _ {O : Ops} (F : Field O) (n : ℕ) (c : List ℕ) (h : ℕ) (x x′ prep
 
     module _ (ok : Valid n size c) (h-lt : h < n) where
       -- The moved records of a gate are good.
-      good-record : (j : ℕ) (g : Gate) → gate c j ≡ g → j < gates c → GoodRecord O n c preps j g → GoodRecord O n c matched j g
-      good-record j (In s) e lj g =
-          good-mask j s (moved-mask j s e lj h-lt (subst (Names n size c j) e (ok .each j lj .names))) g
-      good-record j (Add y z) e lj g = tt
-      good-record j (Sub y z) e lj g = tt
-      good-record j (Plus y k) e lj g = tt
-      good-record j (Times y k) e lj g = tt
-      good-record j (Mul y z) e lj g = good-triple j y z (moved-triple j y z e lj h-lt) g
-      good-record j (Out y) e lj g = tt
+      good-record : (j : ℕ) (k : Class) → class j ≡ k → j < gates c → GoodRecord O n c preps j (gate c j) k → GoodRecord O n c matched j (gate c j) k
+      good-record j Local e lj g = tt
+      good-record j Owned e lj g = good-mask j (gate c j .first) (moved-mask j e lj h-lt (owner-named ok j lj e)) g
+      good-record j Opens e lj g = good-triple j _ _ _ (moved-triple j e lj h-lt) g
+      good-record j Output e lj g = tt
 
       -- Good preprocessing is matched with good preprocessing.
       pub matched-good : Good O n c matched
@@ -327,36 +359,36 @@ module _ {O : Ops} (F : Field O) (n : ℕ) (c : List ℕ) (h : ℕ) (x x′ prep
           record {
             long = length-addLists F preps _ ∙ good .long;
             elements = λ k l. elements-addLists F preps _ length-moves k;
-            records = λ j lj. good-record j (gate c j) refl lj (good .records j lj);
+            records = λ j lj. good-record j (class j) refl lj (good .records j lj);
           }
 
     -- a party that does not carry the differences, and whose inputs agree
-    module _ (i : ℕ) (other : i ≢ h) (agree : (j : ℕ) → gate c j ≡ In i → byInput j ≡ 0) where
+    module _ (i : ℕ) (other : i ≢ h) (agree : (j : ℕ) → class j ≡ Owned → gate c j .first ≡ i → byInput j ≡ 0) where
       -- All its differences of a gate are zero ..
-      zeros-record : (j : ℕ) (g : Gate) → gate c j ≡ g → Zeros F (recordBy i j g)
-      unfolding recordMove moved
-      zeros-record j (In s) e = zero-then (only-elsewhere h _ i other) (zero-then (only-elsewhere h _ i other) (zero-then (own (ℕ-discrete i s)) no-more))
+      zeros-moved : (d : ℕ) → Zeros F (movedBy i d)
+      unfolding moved
+      zeros-moved d = zero-then (only-elsewhere h _ i other) (zero-then (only-elsewhere h _ i other) no-more)
+
+      zeros-masks : (y z k : ℕ) → Zeros F (masksBy i y z k)
+      unfolding maskMove
+      zeros-masks y z k = by-cases (eqb k 2) (λ e. rw e (zeros-append F (zeros-moved _) (zeros-moved _))) (λ e. rw e (zeros-moved _))
+
+      zeros-record : (j : ℕ) (k : Class) → class j ≡ k → Zeros F (recordBy i j k)
+      unfolding recordMove
+      zeros-record j Local e = no-more
+      zeros-record j Owned e = zeros-append F (zeros-moved _) (zero-then (own (ℕ-discrete i (gate c j .first))) no-more)
         where
-          own : Dec (i ≡ s) → only s (byInput j) i ≡ 0
-          own (yes q) = only-here s _ i q ∙ agree j (e ∙ ap In (sym q))
-          own (no q) = only-elsewhere s _ i q
-      zeros-record j (Add y z) e = no-more
-      zeros-record j (Sub y z) e = no-more
-      zeros-record j (Plus y k) e = no-more
-      zeros-record j (Times y k) e = no-more
-      zeros-record j (Mul y z) e =
-          zero-then (only-elsewhere h _ i other)
-          (zero-then (only-elsewhere h _ i other)
-          (zero-then (only-elsewhere h _ i other)
-          (zero-then (only-elsewhere h _ i other)
-          (zero-then (only-elsewhere h _ i other) (zero-then (only-elsewhere h _ i other) no-more)))))
-      zeros-record j (Out y) e = no-more
+          own : Dec (i ≡ gate c j .first) → only (gate c j .first) (byInput j) i ≡ 0
+          own (yes q) = only-here (gate c j .first) _ i q ∙ agree j e (sym q)
+          own (no q) = only-elsewhere (gate c j .first) _ i q
+      zeros-record j Opens e = zeros-append F (zeros-masks _ _ _) (zeros-moved _)
+      zeros-record j Output e = no-more
 
       -- .. and so are all its differences.
       zeros-prep : (r : ℕ) → Zeros F (prepBy i r)
       unfolding prepMove
       zeros-prep zero = zero-then refl no-more
-      zeros-prep (suc r) = zeros-append F (zeros-prep r) (zeros-record r (gate c r) refl)
+      zeros-prep (suc r) = zeros-append F (zeros-prep r) (zeros-record r (class r) refl)
 
       -- So its numbers are kept.
       pub matched-kept : i < n → part′ i ≡ part i
@@ -364,8 +396,8 @@ module _ {O : Ops} (F : Field O) (n : ℕ) (c : List ℕ) (h : ℕ) (x x′ prep
 
     module _ (h-lt : h < n) where
       -- the differences with the inputs exchanged
-      abbrev backRecord : ℕ → ℕ → Gate → List ℕ
-      backRecord i j g = recordMove O n c h x′ x matched i j g
+      abbrev backRecord : ℕ → ℕ → Class → List ℕ
+      backRecord i j k = recordMove O n c h x′ x matched i j (gate c j) k
 
       abbrev backInput : ℕ → ℕ
       backInput j = inputMove O n c h x′ x j
@@ -390,7 +422,7 @@ module _ {O : Ops} (F : Field O) (n : ℕ) (c : List ℕ) (h : ℕ) (x x′ prep
           ∙ mul-zero F _
 
       -- A difference of a shared number and of its MAC is taken back.
-      cancel-moved : (i d e : ℕ) → add d e ≡ 0 → Cancel F (moved O n c h x x′ preps i d) (moved O n c h x′ x matched i e)
+      cancel-moved : (i d e : ℕ) → add d e ≡ 0 → Cancel F (movedBy i d) (moved O n c h x′ x matched i e)
       unfolding moved
       cancel-moved i d e z = cancel-then (cancel-only h d e i z) (cancel-then (cancel-only h _ _ i (cancel-key d e z)) cancel-none)
 
@@ -414,36 +446,40 @@ module _ {O : Ops} (F : Field O) (n : ℕ) (c : List ℕ) (h : ℕ) (x x′ prep
           ∙ (unfold shareSum in norm-sum F n _)
 
       -- The differences of a product cancel.
-      cancel-product : (j y z : ℕ) → MovedTriple j y z
-          → add (byProduct j y z)
-          (productMove O n c h x′ x matched j (backValue y) (backValue z))
+      cancel-product : (j k y z : ℕ) → MovedTriple j k y z
+          → add (byProduct j k y z)
+          (productMove O n c h x′ x matched j k (backValue y) (backValue z))
           ≡ 0
       unfolding productMove
-      cancel-product j y z m =
+      cancel-product j k y z m =
           ap (add _)
-          (ap₂ sub (ap₂ mul (sum-back j aAt y (m .at-a .shares)) (sum-back j bAt z (m .at-b .shares)))
+          (ap₂ sub (ap₂ mul (sum-back j aAt y (m .at-a .shares)) (sum-back j (bAt k) z (m .at-b .shares)))
           (ap₂ mul (m .at-a .shares) (m .at-b .shares)))
           ∙ sub-flip F _ _
 
+      -- The differences of the masks of a product cancel.
+      cancel-masks : (i y z k : ℕ) → Cancel F (masksBy i y z k) (maskMove O n c h x′ x matched i y z k)
+      unfolding maskMove
+      cancel-masks i y z k =
+          by-cases (eqb k 2)
+          (λ e. rw e (cancel-append F (cancel-moved i _ _ (cancel-value y)) (cancel-moved i _ _ (cancel-value z))))
+          (λ e. rw e (cancel-moved i _ _ (cancel-value y)))
+
       -- The differences of a gate's record cancel ..
-      cancel-record : (i j : ℕ) (g : Gate) → gate c j ≡ g → j < gates c → Cancel F (recordBy i j g) (backRecord i j g)
+      cancel-record : (i j : ℕ) (k : Class) → class j ≡ k → j < gates c → Cancel F (recordBy i j k) (backRecord i j k)
       unfolding recordMove
-      cancel-record i j (In s) e lj =
-          cancel-append F (cancel-moved i _ _ (cancel-input j)) (cancel-then (cancel-only s _ _ i (cancel-input j)) cancel-none)
-      cancel-record i j (Add y z) e lj = cancel-none
-      cancel-record i j (Sub y z) e lj = cancel-none
-      cancel-record i j (Plus y k) e lj = cancel-none
-      cancel-record i j (Times y k) e lj = cancel-none
-      cancel-record i j (Mul y z) e lj =
-          cancel-append F (cancel-append F (cancel-moved i _ _ (cancel-value y)) (cancel-moved i _ _ (cancel-value z)))
-          (cancel-moved i _ _ (cancel-product j y z (moved-triple j y z e lj h-lt)))
-      cancel-record i j (Out y) e lj = cancel-none
+      cancel-record i j Local e lj = cancel-none
+      cancel-record i j Owned e lj =
+          cancel-append F (cancel-moved i _ _ (cancel-input j)) (cancel-then (cancel-only (gate c j .first) _ _ i (cancel-input j)) cancel-none)
+      cancel-record i j Opens e lj =
+          cancel-append F (cancel-masks i _ _ _) (cancel-moved i _ _ (cancel-product j _ _ _ (moved-triple j e lj h-lt)))
+      cancel-record i j Output e lj = cancel-none
 
       -- .. and so do all of a party's.
       cancel-prep : (i r : ℕ) → r ≤ gates c → Cancel F (prepBy i r) (prepMove O n c h x′ x matched i r)
       unfolding prepMove
       cancel-prep i zero l = cancel-then (add-zero 0 ∙ norm-zero F) cancel-none
-      cancel-prep i (suc r) l = cancel-append F (cancel-prep i r (omega arith)) (cancel-record i r (gate c r) refl (omega arith))
+      cancel-prep i (suc r) l = cancel-append F (cancel-prep i r (omega arith)) (cancel-record i r (class r) refl (omega arith))
 
       -- With the inputs exchanged, the matching leads back.
       pub matched-back : match O n c h x′ x matched ≡ preps

@@ -2,60 +2,54 @@
 -- the numbers of words and of coefficients, and the lengths of preprocessing and scratch, by the circuit's in, mul and out gates.
 -- Assumes nothing.
 use Prim.Native.Nat.{ℕ, zero, suc, _+_, _-_, _*_, _≤_}
-use mathlib.Core.Path.{_≡_, refl}
+use mathlib.Core.Path.{_≡_, refl, _∙_}
 use mathlib.Core.Bool.{Bool, true, false, cond, not, _&&_}
 use mathlib.Core.List.{List, [], _∷_, _++_}
 use native.Mathlib.Omega.{arith}
-use native.Mathlib.Nat.{add-zero}
 use lib.Dec.{eqb}
 use borrow.Author.Tests.{eqb-true}
-use Rattle.field.specs.Prime.{p}
+use Rattle.field.specs.Words.{size}
 use Rattle.circuit.specs.Verdict.{Accepted}
-use Rattle.circuit.specs.Gate.{Gate, In, Add, Sub, Plus, Times, Mul, Out, gate, gates, kind}
-use Rattle.circuit.specs.Kind.{shape, hasValue, isIn, isMul, isOut}
+use Rattle.circuit.specs.Gate.{Gate, gate, gates}
+use Rattle.circuit.specs.Kind.{Class, Local, Owned, Opens, Output, shape, classNumber, isClass, isIn, opens, isOut}
 use Rattle.circuit.specs.Count.{total, count, prepAt, prepSize, capacity, inCount, outCount, unchecked, uncheckedAfter}
-use Rattle.circuit.specs.Round.{Round, isCommit, outRounds, roundsOf}
-use Rattle.circuit.specs.Round.{rounds, words, openedIn, coefficientsIn, overRounds, overRun, roundCount, wordCount, coefficientCount}
+use Rattle.circuit.specs.Round.{Round, hasCheck, checkRounds, classRounds, rounds, shapeWords, words, coefficientsIn, overRounds, overRun, roundCount, wordCount, coefficientCount}
 use Rattle.circuit.specs.Accept.{fewestGates, mostGates, askCircuit}
-use Rattle.circuit.specs.Valid.{Names, Valid}
-use Rattle.steps.specs.Scratch.{layout, scratchSize}
-use Rattle.joint.specs.Formula.{mulCount, bareOuts, roundFormula, mostRoundsOfAll}
-use Rattle.joint.proofs.Computing.{computing}
-use Rattle.steps.proofs.InOrder.{differ, outs}
+use Rattle.circuit.specs.Valid.{Valid}
+use Rattle.circuit.proofs.Tests.{by-cases}
+use Rattle.circuit.proofs.Counts.{unchecked-valued, unchecked-out}
+use Rattle.circuit.proofs.KindLaws.{class-is, local-no-out, owned-no-out, opens-no-out, local-facts, owned-facts, opens-facts, output-facts}
+use Rattle.circuit.proofs.RoundLaws.{words-local, words-owned, words-opens, words-first, words-later, coefficients-local, coefficients-owned, coefficients-opens, coefficients-all}
+use Rattle.circuit.proofs.Gates.{gate-zero}
+use Rattle.protocol.specs.Scratch.{layout, scratchSize}
+use Rattle.protocol.specs.Formula.{openingCount, bareOuts, roundFormula, mostRoundsOfAll}
+use Rattle.protocol.proofs.Computing.{computing}
+use Rattle.theorems.proofs.KindValues.{two-of}
 
 -- one for each round
 abbrev pub ones : ℕ → Round → ℕ
 ones j r = 1
 
 -- The rounds of a gate, with 2 for the check that an output with nothing unchecked does without.
-rounds-of : (u : ℕ) (g : Gate)
-    → overRounds (λ r. 1) (roundsOf u g) + 2 * cond (isOut g && eqb u 0) 1 0
-    ≡ cond (isIn g) 1 0 + cond (isMul g) 1 0 + 5 * cond (isOut g) 1 0
-unfolding roundsOf outRounds overRounds isIn isMul isOut kind
-rounds-of u (In s) = refl
-rounds-of u (Add x y) = refl
-rounds-of u (Sub x y) = refl
-rounds-of u (Plus x k) = refl
-rounds-of u (Times x k) = refl
-rounds-of u (Mul x y) = refl
-rounds-of u (Out x) = go (eqb u 0)
-  where
-    go : (b : Bool)
-        → overRounds (λ r. 1) (outs b) + 2 * cond b 1 0
-        ≡ 5
-    go true = refl
-    go false = refl
+rounds-of : (u : ℕ) (k : Class)
+    → overRounds (λ r. 1) (classRounds u k) + 2 * cond (isClass Output k && eqb u 0) 1 0
+    ≡ cond (isClass Owned k) 1 0 + cond (isClass Opens k) 1 0 + 5 * cond (isClass Output k) 1 0
+unfolding classRounds checkRounds hasCheck overRounds isClass classNumber
+rounds-of u Local = refl
+rounds-of u Owned = refl
+rounds-of u Opens = refl
+rounds-of u Output = by-cases (eqb u 0) (λ e. rw e) (λ e. rw e)
 
--- The rounds of the gates before j, by their kinds.
+-- The rounds of the gates before j, by their classes.
 rounds-before : (c : List ℕ) (j : ℕ)
-    → overRun ones c j + 2 * bareOuts c j ≡ count isIn c j + count isMul c j + 5 * count isOut c j
+    → overRun ones c j + 2 * bareOuts c j ≡ count isIn c j + count opens c j + 5 * count isOut c j
 unfolding overRun bareOuts count total rounds
 rounds-before c zero = refl
-rounds-before c (suc j) = omega (arith, rounds-before c j, rounds-of (unchecked c j) (gate c j))
+rounds-before c (suc j) = omega (arith, rounds-before c j, rounds-of (unchecked c j) (shape (gate c j) .class))
 
 -- Document 01's formula is the number of rounds.
 pub formula-is : (c : List ℕ) → roundFormula c ≡ roundCount c
-unfolding roundFormula roundCount inCount mulCount outCount
+unfolding roundFormula roundCount inCount openingCount outCount
 formula-is c = omega (arith, rounds-before c (gates c))
 
 -- what is yet to come for what is unchecked: its check takes two rounds
@@ -67,40 +61,30 @@ owed-le : (b : Bool) → cond b 0 2 ≤ 2
 owed-le true = omega arith
 owed-le false = omega arith
 
+-- A gate that opens nothing and is no output leaves unchecked what was.
+unchanged : (g : Gate) (u : ℕ) → isOut g ≡ false → shape g .openings ≡ 0 → uncheckedAfter (shape g) u ≡ u
+unchanged g u e h = unchecked-valued (shape g) u e ∙ omega arith
+
 -- A gate adds at most 3 to rounds and what is owed together.
-three-a-gate : (u : ℕ) (g : Gate) → overRounds (λ r. 1) (roundsOf u g) + owed (uncheckedAfter g u) ≤ 3 + owed u
-unfolding roundsOf outRounds overRounds uncheckedAfter hasValue shape
-three-a-gate u (In s) = rw (add-zero u) (omega arith)
-three-a-gate u (Add x y) = rw (add-zero u) (omega arith)
-three-a-gate u (Sub x y) = rw (add-zero u) (omega arith)
-three-a-gate u (Plus x k) = rw (add-zero u) (omega arith)
-three-a-gate u (Times x k) = rw (add-zero u) (omega arith)
-three-a-gate u (Mul x y) = omega (arith, owed-le (eqb (u + 2) 0))
-three-a-gate u (Out x) = go (eqb u 0)
-  where
-    go : (b : Bool)
-        → overRounds (λ r. 1) (outs b) + 0
-        ≤ 3 + cond b 0 2
-    go true = omega arith
-    go false = omega arith
+three-a-gate : (u : ℕ) (g : Gate) (k : Class) → shape g .class ≡ k
+    → overRounds (λ r. 1) (classRounds u k) + owed (uncheckedAfter (shape g) u) ≤ 3 + owed u
+unfolding classRounds checkRounds hasCheck overRounds
+three-a-gate u g Local e = rw (unchanged g u (local-no-out e) (local-facts g e .openings)) (omega arith)
+three-a-gate u g Owned e = rw (unchanged g u (owned-no-out e) (owned-facts g e .openings)) (omega arith)
+three-a-gate u g Opens e = omega (arith, owed-le (eqb (uncheckedAfter (shape g) u) 0))
+three-a-gate u g Output e =
+    rw (unchecked-out (shape g) u (class-is e)) (by-cases (eqb u 0) (λ z. rw z (omega arith)) (λ z. rw z (omega arith)))
 
--- An accepted circuit's gate 0 names no gate, so it is an in gate, which takes one round and opens nothing.
-first-gate : (n q : ℕ) (c : List ℕ) (g : Gate) → Names n q c 0 g → overRounds (λ r. 1) (roundsOf 0 g) + owed (uncheckedAfter g 0) ≡ 1
-unfolding roundsOf overRounds uncheckedAfter hasValue shape
-first-gate n q c (In s) h = refl
-first-gate n q c (Add x y) h = absurd (omega (arith, h .0 .earlier))
-first-gate n q c (Sub x y) h = absurd (omega (arith, h .0 .earlier))
-first-gate n q c (Plus x k) h = absurd (omega (arith, h .0 .earlier))
-first-gate n q c (Times x k) h = absurd (omega (arith, h .0 .earlier))
-first-gate n q c (Mul x y) h = absurd (omega (arith, h .0 .earlier))
-first-gate n q c (Out x) h = absurd (omega (arith, h .earlier))
-
--- Rounds and what is owed after gate j are at most 3 a gate, less 2 for gate 0.
+-- Rounds and what is owed after gate j are at most 3 a gate, less 2 for gate 0: it is an in gate, which takes one round and opens nothing.
 rounds-owed : {n q : ℕ} {c : List ℕ} → Valid n q c → (j : ℕ) → overRun ones c (suc j) + owed (unchecked c (suc j)) + 2 ≤ 3 * suc j
 unfolding overRun unchecked rounds
-rounds-owed {n} {q} {c} ok zero = omega (arith, first-gate n q c (gate c 0) (ok .each 0 (omega (arith, ok .two)) .names))
+rounds-owed {n} {q} {c} ok zero =
+    let e = gate-zero ok in
+    let one : overRounds (λ r. 1) (classRounds 0 (shape (gate c 0) .class)) ≡ 1 = (unfold classRounds overRounds in rw e) in
+    let none : uncheckedAfter (shape (gate c 0)) 0 ≡ 0 = unchanged (gate c 0) 0 (owned-no-out e) (owned-facts (gate c 0) e .openings) in
+    rw none (omega arith)
 rounds-owed {n} {q} {c} ok (suc j) =
-    omega (arith, rounds-owed ok j, three-a-gate (unchecked c (suc j)) (gate c (suc j)))
+    omega (arith, rounds-owed ok j, three-a-gate (unchecked c (suc j)) (gate c (suc j)) (shape (gate c (suc j)) .class) refl)
 
 -- No accepted circuit takes more than 766 rounds.
 pub at-most-766 : {n q : ℕ} {c : List ℕ} → Valid n q c → roundFormula c ≤ mostRoundsOfAll
@@ -116,118 +100,100 @@ unfoldable pub checkedOuts : List ℕ → ℕ → ℕ
 checkedOuts c zero = 0
 checkedOuts c (suc j) = checkedOuts c j + cond (isOut (gate c j) && not (eqb (unchecked c j) 0)) 1 0
 
--- The words of a gate.
-words-of : (u : ℕ) (g : Gate)
-    → overRounds (λ r. words g r) (roundsOf u g)
-    ≡ cond (isIn g) 1 0 + 2 * cond (isMul g) 1 0 + 3 * cond (isOut g) 1 0 + 2 * cond (isOut g && not (eqb u 0)) 1 0
-unfolding roundsOf outRounds overRounds words shape isIn isMul isOut kind
-words-of u (In s) = refl
-words-of u (Add x y) = refl
-words-of u (Sub x y) = refl
-words-of u (Plus x k) = refl
-words-of u (Times x k) = refl
-words-of u (Mul x y) = refl
-words-of u (Out x) = go (eqb u 0)
-  where
-    go : (b : Bool)
-        → overRounds (λ r. words (Out x) r) (outs b)
-        ≡ 3 + 2 * cond (not b) 1 0
-    go true = refl
-    go false = refl
+-- how many values the gates before j open
+abbrev opened : List ℕ → ℕ → ℕ
+opened c j = total (λ g. shape g .openings) c j
 
--- The words of the gates before j, by their kinds.
+-- The words of a gate.
+words-of : (u : ℕ) (g : Gate) (k : Class) → shape g .class ≡ k
+    → overRounds (shapeWords (shape g)) (classRounds u k)
+    ≡ cond (isClass Owned k) 1 0 + shape g .openings + 3 * cond (isClass Output k) 1 0 + 2 * cond (isClass Output k && not (eqb u 0)) 1 0
+unfolding isClass classNumber
+words-of u g Local e = let f = local-facts g e in omega (arith, words-local u (shape g), f .openings)
+words-of u g Owned e = let f = owned-facts g e in omega (arith, words-owned u (shape g), f .openings, f .words)
+words-of u g Opens e = omega (arith, words-opens u (shape g), opens-facts g e .words)
+words-of u g Output e =
+    let f = output-facts g e in
+    by-cases (eqb u 0) (λ z. rw z (omega (arith, words-first u (shape g) (eqb-true u 0 z), f .openings, f .words)))
+    (λ z. rw z (omega (arith, words-later u (shape g) z, f .openings, f .words)))
+
+-- The words of the gates before j, by their classes.
 words-before : (c : List ℕ) (j : ℕ)
-    → overRun (λ j r. words (gate c j) r) c j ≡ count isIn c j + 2 * count isMul c j + 3 * count isOut c j + 2 * checkedOuts c j
+    → overRun (λ j r. words (gate c j) r) c j ≡ count isIn c j + opened c j + 3 * count isOut c j + 2 * checkedOuts c j
 unfolding overRun checkedOuts count total rounds
 words-before c zero = refl
-words-before c (suc j) = omega (arith, words-before c j, words-of (unchecked c j) (gate c j))
-
--- The words that a party sends in a run: one for each in gate, two for each mul gate, three for each out gate, and two for each out gate with
--- something unchecked.
-pub words-are : (c : List ℕ) → wordCount c ≡ inCount c + 2 * mulCount c + 3 * outCount c + 2 * checkedOuts c (gates c)
-unfolding wordCount inCount mulCount outCount
-words-are c = words-before c (gates c)
+words-before c (suc j) = omega (arith, words-before c j, words-of (unchecked c j) (gate c j) (shape (gate c j) .class) refl)
 
 -- The coefficients of a gate: an output takes one for each unchecked value, and one for its own.
-coefficients-of : (u : ℕ) (g : Gate)
-    → overRounds (λ r. coefficientsIn u r) (roundsOf u g) + uncheckedAfter g u ≡ u + 2 * cond (isMul g) 1 0 + cond (isOut g) 1 0
-unfolding roundsOf outRounds overRounds coefficientsIn isCommit openedIn uncheckedAfter hasValue shape isMul isOut kind
-coefficients-of u (In s) = omega arith
-coefficients-of u (Add x y) = omega arith
-coefficients-of u (Sub x y) = omega arith
-coefficients-of u (Plus x k) = omega arith
-coefficients-of u (Times x k) = omega arith
-coefficients-of u (Mul x y) = omega arith
-coefficients-of u (Out x) = go (eqb u 0) refl
-  where
-    go : (b : Bool) → eqb u 0 ≡ b
-        → overRounds (λ r. coefficientsIn u r) (outs b) + 0
-        ≡ u + 2 * 0 + 1
-    go true e = omega (arith, eqb-true u 0 e)
-    go false e = omega arith
+coefficients-of : (u : ℕ) (g : Gate) (k : Class) → shape g .class ≡ k
+    → overRounds (coefficientsIn u) (classRounds u k) + uncheckedAfter (shape g) u ≡ u + shape g .openings + cond (isClass Output k) 1 0
+unfolding isClass classNumber
+coefficients-of u g Local e = omega (arith, coefficients-local u, unchecked-valued (shape g) u (local-no-out e))
+coefficients-of u g Owned e = omega (arith, coefficients-owned u, unchecked-valued (shape g) u (owned-no-out e))
+coefficients-of u g Opens e = omega (arith, coefficients-opens u, unchecked-valued (shape g) u (opens-no-out e))
+coefficients-of u g Output e = omega (arith, coefficients-all u, unchecked-out (shape g) u (class-is e), output-facts g e .openings)
 
 -- The coefficients of the gates before j, with those that unchecked values will take.
 coefficients-before : (c : List ℕ) (j : ℕ)
-    → overRun (λ j r. coefficientsIn (unchecked c j) r) c j + unchecked c j ≡ 2 * count isMul c j + count isOut c j
+    → overRun (λ j r. coefficientsIn (unchecked c j) r) c j + unchecked c j ≡ opened c j + count isOut c j
 unfolding overRun unchecked count total rounds
 coefficients-before c zero = refl
-coefficients-before c (suc j) = omega (arith, coefficients-before c j, coefficients-of (unchecked c j) (gate c j))
+coefficients-before c (suc j) = omega (arith, coefficients-before c j, coefficients-of (unchecked c j) (gate c j) (shape (gate c j) .class) refl)
 
--- After an out gate nothing is unchecked.
-none-unchecked : (u : ℕ) (g : Gate) → isOut g ≡ true → uncheckedAfter g u ≡ 0
-unfolding uncheckedAfter hasValue isOut kind
-none-unchecked u (In s) e = differ e refl
-none-unchecked u (Add x y) e = differ e refl
-none-unchecked u (Sub x y) e = differ e refl
-none-unchecked u (Plus x k) e = differ e refl
-none-unchecked u (Times x k) e = differ e refl
-none-unchecked u (Mul x y) e = differ e refl
-none-unchecked u (Out x) e = refl
-
--- An accepted circuit ends with an out gate, so its run takes "all draws in order of use, 2M + outs of them".
-pub coefficients-are : {n q : ℕ} {c : List ℕ} → Valid n q c → coefficientCount c ≡ 2 * mulCount c + outCount c
-unfolding coefficientCount mulCount outCount unchecked
-coefficients-are {n} {q} {c} ok = go (gates c) (ok .two) (ok .last)
+-- An accepted circuit ends with an out gate, after which nothing is unchecked.
+coefficients-opened : {n q : ℕ} {c : List ℕ} → Valid n q c → coefficientCount c ≡ opened c (gates c) + outCount c
+unfolding coefficientCount outCount unchecked
+coefficients-opened {n} {q} {c} ok = go (gates c) (ok .two) (ok .last)
   where
     none : (m : ℕ) → isOut (gate c (suc m - 1)) ≡ true → unchecked c (suc m) ≡ 0
-    none m h = let before : suc m - 1 ≡ m = omega arith in none-unchecked (unchecked c m) (gate c m) (rw before at h)
+    none m h = let before : suc m - 1 ≡ m = omega arith in unchecked-out (shape (gate c m)) (unchecked c m) (rw before at h)
 
     go : (m : ℕ) → fewestGates ≤ m → isOut (gate c (m - 1)) ≡ true
-        → overRun (λ j r. coefficientsIn (unchecked c j) r) c m ≡ 2 * count isMul c m + count isOut c m
+        → overRun (λ j r. coefficientsIn (unchecked c j) r) c m ≡ opened c m + count isOut c m
     go zero l h = absurd (omega arith)
     go (suc m) l h = omega (arith, coefficients-before c (suc m), none m h)
 
--- What in and mul gates take of the preprocessing, and what mul gates open.
-shape-of : (g : Gate)
-    → (shape g .prep ≡ 3 * cond (isIn g) 1 0 + 6 * cond (isMul g) 1 0) × (shape g .openings ≡ 2 * cond (isMul g) 1 0)
-unfolding shape isIn isMul kind
-shape-of (In s) = (refl, refl)
-shape-of (Add x y) = (refl, refl)
-shape-of (Sub x y) = (refl, refl)
-shape-of (Plus x k) = (refl, refl)
-shape-of (Times x k) = (refl, refl)
-shape-of (Mul x y) = (refl, refl)
-shape-of (Out x) = (refl, refl)
+-- What a gate takes of the preprocessing: 3 numbers of an input, and of a gate that opens values 2 for each and 2 more.
+prep-of : (g : Gate) (k : Class) → shape g .class ≡ k
+    → shape g .prep ≡ 3 * cond (isClass Owned k) 1 0 + 2 * shape g .openings + 2 * cond (isClass Opens k) 1 0
+unfolding isClass classNumber
+prep-of g Local e = let f = local-facts g e in omega (arith, f .prep, f .openings)
+prep-of g Owned e = let f = owned-facts g e in omega (arith, f .prep, f .openings)
+prep-of g Opens e = omega (arith, opens-facts g e .prep)
+prep-of g Output e = let f = output-facts g e in omega (arith, f .prep, f .openings)
 
 -- The same of the gates before j.
-shapes-before : (c : List ℕ) (j : ℕ)
-    → (total (λ g. shape g .prep) c j ≡ 3 * count isIn c j + 6 * count isMul c j) × (total (λ g. shape g .openings) c j ≡ 2 * count isMul c j)
+prep-before : (c : List ℕ) (j : ℕ) → total (λ g. shape g .prep) c j ≡ 3 * count isIn c j + 2 * opened c j + 2 * count opens c j
 unfolding count total
-shapes-before c zero = (refl, refl)
-shapes-before c (suc j) =
-    let (preps, openings) = shapes-before c j in
-    let (prep, opening) = shape-of (gate c j) in
-    (omega arith, omega arith)
+prep-before c zero = refl
+prep-before c (suc j) = omega (arith, prep-before c j, prep-of (gate c j) (shape (gate c j) .class) refl)
+
+-- Document 01's M: every gate that opens values opens two.
+two-each : (c : List ℕ) (j : ℕ) → opened c j ≡ 2 * count opens c j
+unfolding count total
+two-each c zero = refl
+two-each c (suc j) = omega (arith, two-each c j, two-of (gate c j .kind))
+
+-- The words that a party sends in a run: one for each in gate, two for each mul gate, three for each out gate, and two for each out gate with
+-- something unchecked.
+pub words-are : (c : List ℕ) → wordCount c ≡ inCount c + 2 * openingCount c + 3 * outCount c + 2 * checkedOuts c (gates c)
+unfolding wordCount inCount openingCount outCount
+words-are c = omega (arith, words-before c (gates c), two-each c (gates c))
+
+-- "all draws in order of use, 2M + outs of them"
+pub coefficients-are : {n q : ℕ} {c : List ℕ} → Valid n q c → coefficientCount c ≡ 2 * openingCount c + outCount c
+unfolding openingCount
+coefficients-are {n} {q} {c} ok = omega (arith, coefficients-opened ok, two-each c (gates c))
 
 -- "With I in lines and M mul lines, material has 1 + 3 × I + 6 × M numbers."
-pub prep-is : (c : List ℕ) → prepSize c ≡ 1 + 3 * inCount c + 6 * mulCount c
-unfolding prepSize prepAt inCount mulCount
-prep-is c = omega (arith, shapes-before c (gates c) .0)
+pub prep-is : (c : List ℕ) → prepSize c ≡ 1 + 3 * inCount c + 6 * openingCount c
+unfolding prepSize prepAt inCount openingCount
+prep-is c = omega (arith, prep-before c (gates c), two-each c (gates c))
 
 -- "Scratch is one list, L being the number of lines: L shares, L MAC shares, 2M + 1 opened values, 2M + 1 MAC shares of those."
-pub scratch-is : (c : List ℕ) → scratchSize (layout c) ≡ 2 * gates c + 2 * (2 * mulCount c + 1)
-unfolding scratchSize layout capacity mulCount
-scratch-is c = omega (arith, shapes-before c (gates c) .1)
+pub scratch-is : (c : List ℕ) → scratchSize (layout c) ≡ 2 * gates c + 2 * (2 * openingCount c + 1)
+unfolding scratchSize layout capacity openingCount
+scratch-is c = omega (arith, two-each c (gates c))
 
 -- k times a mul gate and an out gate
 mulOuts : ℕ → List ℕ
@@ -239,7 +205,7 @@ pub longest : List ℕ
 longest = 1 ∷ 0 ∷ 0 ∷ 0 ∷ (mulOuts 127 ++ (7 ∷ 0 ∷ 0 ∷ 0 ∷ []))
 
 -- It is accepted.
-pub longest-accepted : askCircuit 2 p longest ≡ Accepted
+pub longest-accepted : askCircuit 2 size longest ≡ Accepted
 unfolding computing mulOuts longest
 longest-accepted = refl
 

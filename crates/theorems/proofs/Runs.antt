@@ -4,11 +4,11 @@ use Prim.Native.Nat.{ℕ, zero, suc, _+_}
 use mathlib.Core.Path.{_≡_, refl, sym, ap, subst, _∙_}
 use mathlib.Core.List.{List, _++_, append-assoc, append-nil}
 use native.Mathlib.Nat.{add-zero, add-suc}
-use Rattle.field.specs.Ops.{Ops}
+use Rattle.algebra.specs.Ops.{Ops}
 use Rattle.circuit.specs.Round.{Round}
-use Rattle.steps.specs.Position.{Stage, Send, Receive, Finished, Aborted, whenSending}
-use Rattle.joint.specs.Joint.{Joint}
-use Rattle.joint.specs.Run.{State, Run, begun, said, step, released, still, ahead, run}
+use Rattle.protocol.specs.Position.{Stage, Send, Receive, Finished, Aborted, whenSending}
+use Rattle.protocol.specs.Joint.{Joint}
+use Rattle.protocol.specs.Run.{State, Run, begun, said, step, released, still, ahead, run}
 use Rattle.theorems.specs.Premises.{after}
 
 -- a stage at which nothing is sent

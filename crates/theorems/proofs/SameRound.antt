@@ -9,20 +9,23 @@ use native.Mathlib.Decide.{ℕ-discrete}
 use lib.Dec.{eqb}
 use lib.ListN.{length, getD}
 use borrow.Author.Tests.{ne-eqb}
-use Rattle.field.specs.Ops.{Ops}
-use Rattle.field.specs.Field.{Field}
-use Rattle.field.proofs.Sums.{sum-ext}
-use Rattle.circuit.specs.Gate.{In, Mul, Out, gate, gates, first, second}
-use Rattle.circuit.specs.Round.{Input, Multiply, OpenOutput}
-use Rattle.circuit.specs.Valid.{Ref}
-use Rattle.steps.specs.Part.{Part}
-use Rattle.steps.specs.Scratch.{layout}
-use Rattle.steps.specs.Party.{key, recordOf, inputOf, wholeMaskAt, aAt, bAt}
-use Rattle.steps.specs.Send.{inputWord, checkShare, sent}
-use Rattle.joint.specs.Joint.{Joint, party}
-use Rattle.theorems.proofs.Closed.{Opening, Masked, Shown, Every, keys, ownerWord, opened, names}
-use Rattle.theorems.proofs.Holds.{Holds, own-first, own-second, own-shown}
-use Rattle.theorems.proofs.SideBySide.{Pair, J as run, J′ as run′, Agrees, same-owner, same-words, agrees-mul, agrees-shown, sigma, same-check}
+use Rattle.algebra.specs.Ops.{Ops}
+use Rattle.algebra.specs.Field.{Field}
+use Rattle.algebra.proofs.Sums.{sum-ext}
+use Rattle.circuit.specs.Gate.{gate, gates}
+use Rattle.circuit.specs.Kind.{Owned, Opens, Output, shape, factor}
+use Rattle.circuit.specs.Round.{Own, Open}
+use Rattle.circuit.proofs.Tests.{by-cases}
+use Rattle.circuit.proofs.Gates.{output-named, opens-named, factor-named}
+use Rattle.protocol.specs.Part.{Part}
+use Rattle.protocol.specs.Scratch.{layout}
+use Rattle.protocol.specs.Party.{key, recordOf, inputOf, wholeMaskAt, aAt, bAt}
+use Rattle.protocol.specs.Send.{inputWord, masked, checkShare, opening, ownWords, sent}
+use Rattle.protocol.specs.Joint.{Joint, party}
+use Rattle.theorems.proofs.Closed.{Opening, Every, keys, ownerWord, opened}
+use Rattle.theorems.proofs.Holds.{Holds, own-masked, own-shown}
+use Rattle.theorems.proofs.Sent.{sent-class}
+use Rattle.theorems.proofs.SideBySide.{Pair, J as run, J′ as run′, Agrees, same-owner, same-words, agrees-differences, agrees-shown, sigma, same-check}
 
 -- A check share is that of the closed form.
 check-is : {O : Ops} (F : Field O) (J : Joint) {i j : ℕ} {os : List Opening} {l : List ℕ} → Holds O J i j os l → (taken : List ℕ)
@@ -45,17 +48,22 @@ module _ {O : Ops} {F : Field O} (P : Pair F) where
   J′ = run′ P
 
   -- An in gate: its owner sends the same, and all others send 0.
-  pub same-input : (j s : ℕ) → j < gates c → gate c j ≡ In s → (l l′ : List ℕ) (held held′ i : ℕ)
-      → sent O (party J′ i) l′ j held′ Input ≡ sent O (party J i) l j held Input
-  unfolding sent inputWord first party
-  same-input j s lj e l l′ held held′ i = rw e (go (ℕ-discrete i s))
+  pub same-input : (j : ℕ) → j < gates c → shape (gate c j) .class ≡ Owned → (l l′ : List ℕ) (held held′ i : ℕ)
+      → sent O (party J′ i) l′ j held′ Own ≡ sent O (party J i) l j held Own
+  same-input j lj e l l′ held held′ i = sent-class O J′ i l′ j held′ e ∙ same ∙ sym (sent-class O J i l j held e)
     where
       word : Joint → ℕ
       word J = sub (inputOf (party J i) j) (getD (recordOf (party J i) j) wholeMaskAt 0)
 
-      go : Dec (i ≡ s) → _≡_ {A = List ℕ} (cond (eqb i s) (word J′) 0 ∷ []) (cond (eqb i s) (word J) 0 ∷ [])
-      go (yes q) = rw q (ap {B = List ℕ} (λ (w : ℕ). cond (eqb s s) w 0 ∷ []) (unfold ownerWord in same-owner P j s lj e))
-      go (no q) = rw (ne-eqb i s q)
+      go : Dec (i ≡ gate c j .first)
+          → _≡_ {A = List ℕ} (cond (eqb i (gate c j .first)) (word J′) 0 ∷ []) (cond (eqb i (gate c j .first)) (word J) 0 ∷ [])
+      go (yes q) =
+          rw q
+          (ap {B = List ℕ} (λ (w : ℕ). cond (eqb (gate c j .first) (gate c j .first)) w 0 ∷ []) (unfold ownerWord in same-owner P j lj e))
+      go (no q) = rw (ne-eqb i (gate c j .first) q)
+
+      same : ownWords O (party J′ i) l′ j Owned ≡ ownWords O (party J i) l j Owned
+      same = unfold ownWords inputWord party in go (ℕ-discrete i (gate c j .first))
 
   module _ (i : ℕ) (li : i < n) {j : ℕ} {os : List Opening} {l l′ : List ℕ} (p : Holds O J i j os l) (p′ : Holds O J′ i j os l′) where
     -- Where a party's two parts of what is opened are those of the closed form, it sends the same share of it.
@@ -65,33 +73,39 @@ module _ {O : Ops} {F : Field O} (P : Pair F) where
         ∙ same-words P o a i li
         ∙ sym (ap (λ (q : Part). q .share) e)
 
-    -- A mul gate: every party sends the same parts of both differences.
-    pub same-multiply : (y z : ℕ) → j < gates c → gate c j ≡ Mul y z → (held held′ : ℕ)
-        → sent O (party J′ i) l′ j held′ Multiply ≡ sent O (party J i) l j held Multiply
-    unfolding sent first second party
-    same-multiply y z lj e held held′ =
-        rw e
-        (ap₂ {C = List ℕ} (λ (u v : ℕ). u ∷ v ∷ [])
-        (same-share (Masked j y aAt) (agrees .0) (own-first O J y p (refs .0)) (own-first O J′ y p′ (refs .0)))
-        (same-share (Masked j z bAt) (agrees .1) (own-second O J z p (refs .1)) (own-second O J′ z p′ (refs .1))))
+    -- A product: every party sends the same parts of what is opened.
+    pub same-opening : j < gates c → shape (gate c j) .class ≡ Opens → (held held′ : ℕ)
+        → sent O (party J′ i) l′ j held′ Own ≡ sent O (party J i) l j held Own
+    same-opening lj e held held′ = sent-class O J′ i l′ j held′ e ∙ same ∙ sym (sent-class O J i l j held e)
       where
-        refs : Ref c j y × Ref c j z
-        refs = names F J has j lj (Mul y z) e
+        part : Joint → List ℕ → ℕ → ℕ → ℕ
+        part J l x k = masked O (layout c) l x (recordOf (party J i) j) k .share
 
-        agrees : Agrees P (Masked j y aAt) × Agrees P (Masked j z bAt)
-        agrees = agrees-mul P j y z lj e
+        first : part J′ l′ (gate c j .first) aAt ≡ part J l (gate c j .first) aAt
+        first =
+            let ref = opens-named (has .valid) j lj e in
+            same-share _ (agrees-differences P j lj e .0) (own-masked O J _ p ref aAt) (own-masked O J′ _ p′ ref aAt)
+
+        second : part J′ l′ (factor (gate c j)) (bAt (shape (gate c j) .openings)) ≡ part J l (factor (gate c j)) (bAt (shape (gate c j) .openings))
+        second =
+            let ref = factor-named (has .valid) j lj e in
+            let k = bAt (shape (gate c j) .openings) in
+            same-share _ (agrees-differences P j lj e .1) (own-masked O J _ p ref k) (own-masked O J′ _ p′ ref k)
+
+        same : ownWords O (party J′ i) l′ j Opens ≡ ownWords O (party J i) l j Opens
+        same =
+            unfold ownWords opening party in
+            by-cases (eqb (shape (gate c j) .openings) 2)
+            (λ b. rw b (ap₂ {C = List ℕ} (λ (u v : ℕ). u ∷ v ∷ []) first second))
+            (λ b. rw b (ap {B = List ℕ} (λ (u : ℕ). u ∷ []) first))
 
     -- An out gate: every party sends the same share of what is shown.
-    pub same-shown : (y : ℕ) → j < gates c → gate c j ≡ Out y → (held held′ : ℕ)
-        → sent O (party J′ i) l′ j held′ OpenOutput ≡ sent O (party J i) l j held OpenOutput
-    unfolding sent first party
-    same-shown y lj e held held′ =
-        rw e
-        (ap {B = List ℕ} (λ (u : ℕ). u ∷ [])
-        (same-share (Shown y) (agrees-shown P j y lj e) (own-shown O J y p ref) (own-shown O J′ y p′ ref)))
-      where
-        ref : Ref c j y
-        ref = names F J has j lj (Out y) e
+    pub same-shown : j < gates c → shape (gate c j) .class ≡ Output → (held held′ : ℕ)
+        → sent O (party J′ i) l′ j held′ Open ≡ sent O (party J i) l j held Open
+    unfolding sent party
+    same-shown lj e held held′ =
+        let ref = output-named (has .valid) j lj e in
+        ap {B = List ℕ} (λ (u : ℕ). u ∷ []) (same-share _ (agrees-shown P j lj e) (own-shown O J _ p ref) (own-shown O J′ _ p′ ref))
 
     -- Every party holds the same check share.
     pub same-held : Every (Agrees P) os → (taken : List ℕ) (k : ℕ) → k ≡ length os

@@ -8,20 +8,20 @@ use mathlib.Core.Logic.{_≢_}
 use mathlib.Core.List.{List}
 use native.Mathlib.Omega.{arith}
 use lib.ListN.{length}
-use Rattle.field.specs.Ops.{Ops}
-use Rattle.field.specs.Field.{Field}
-use Rattle.field.specs.Prime.{prime}
-use Rattle.field.proofs.PrimeField.{primeField}
+use Rattle.algebra.specs.Ops.{Ops}
+use Rattle.algebra.specs.Field.{Field}
+use Rattle.field.specs.Words.{ops}
+use Rattle.field.proofs.Laws.{laws}
 use Rattle.circuit.specs.Verdict.{Accepted}
 use Rattle.circuit.specs.Gate.{gates}
 use Rattle.circuit.specs.Count.{prepSize}
 use Rattle.circuit.specs.Valid.{Valid}
 use Rattle.circuit.proofs.Valid.{valid}
-use Rattle.steps.specs.Scratch.{layout, scratchSize}
-use Rattle.joint.specs.Joint.{Joint, band, party}
-use Rattle.joint.specs.Run.{State, begun, run, whole}
-use Rattle.joint.specs.Entry.{verdict, jointAnswer, jointScratch}
-use Rattle.joint.specs.Good.{Good}
+use Rattle.protocol.specs.Scratch.{layout, scratchSize}
+use Rattle.protocol.specs.Joint.{Joint, band, party}
+use Rattle.protocol.specs.Run.{State, begun, run, whole}
+use Rattle.protocol.specs.JointEntry.{verdict, jointAnswer, jointScratch}
+use Rattle.protocol.specs.Good.{Good}
 use Rattle.theorems.specs.Premises.{after}
 use Rattle.theorems.specs.Matching.{leftOut, plainly, match, rule}
 use Rattle.theorems.specs.Secrecy.{runOf, bandOf, Compared, Alike, Secret, Shows, Secrecy, Blindness}
@@ -81,7 +81,7 @@ module _ {O : Ops} (F : Field O) (n : ℕ) (c : List ℕ) (A : ℕ → Bool) whe
 
     -- A's parts of the preprocessing are kept.
     match-keeps : (m : List ℕ) → Good O n c m → (i : ℕ) → i < n → A i ≡ true → band (prepSize c) (match O n c h x x′ m) i ≡ band (prepSize c) m i
-    match-keeps m g i l a = matched-kept F n c h x x′ m g i (inside i a) (no-move O n c x x′ F h i (is .agree i l a)) l
+    match-keeps m g i l a = matched-kept F n c h x x′ m g i (inside i a) (λ j owned. no-move O n c x x′ F h i (is .agree i l a) j) l
 
     module _ (m : List ℕ) (g : Good O n c m) (co : List ℕ) where
       -- the two runs
@@ -221,9 +221,9 @@ blindness {O} F n c A x x′ is co scratch t o words preps bands =
     here : Secret O n c A x x′ (rule O n c A x x′) (rule O n c A x′ x)
     here = secrecy F n c A x x′ is
 
--- Both at the prime that the code works with.
-pub secrecy-prime : Secrecy prime
-secrecy-prime = secrecy primeField
+-- Both at the field that the code works with.
+pub secrecy-here : Secrecy ops
+secrecy-here = secrecy laws
 
-pub blindness-prime : Blindness prime
-blindness-prime = blindness primeField
+pub blindness-here : Blindness ops
+blindness-here = blindness laws

@@ -3,29 +3,30 @@
 -- Assumes nothing.
 use Prim.Native.Nat.{ℕ, _<_, _≤_}
 use mathlib.Core.Path.{_≡_, refl, sym, ap, ap₂, _∙_}
-use mathlib.Core.Bool.{true}
 use mathlib.Core.Logic.{_≢_}
 use mathlib.Core.List.{List}
 use native.Mathlib.Decide.{ℕ-discrete}
 use native.Mathlib.Omega.{arith}
 use lib.ListN.{length, getD}
-use Rattle.field.specs.Ops.{Ops}
-use Rattle.field.specs.Field.{Field}
-use Rattle.field.specs.Sum.{sum}
-use Rattle.field.proofs.Ring.{norm-zero, norm-sub, sub-moved}
-use Rattle.field.proofs.Sums.{sum-ext, sum-pin}
-use Rattle.circuit.specs.Gate.{Gate, In, Add, Sub, Plus, Times, Mul, Out, gate, gates, first}
-use Rattle.circuit.specs.Kind.{hasValue}
+use Rattle.algebra.specs.Ops.{Ops}
+use Rattle.algebra.specs.Field.{Field}
+use Rattle.algebra.specs.Sum.{sum}
+use Rattle.algebra.proofs.Ring.{norm-zero, norm-sub, sub-moved}
+use Rattle.algebra.proofs.Sums.{sum-ext, sum-pin}
+use Rattle.circuit.specs.Gate.{gate, gates}
+use Rattle.circuit.specs.Kind.{Class, Local, Owned, Opens, Output, shape, factor}
+use Rattle.circuit.proofs.Gates.{owner-named, local-named, output-named, opens-named, factor-named}
 use Rattle.circuit.specs.Valid.{Valid, Ref}
-use Rattle.steps.specs.Part.{Part, plus, minus, scale, shift, product}
-use Rattle.steps.specs.Party.{key, recordOf, inputOf, maskAt, wholeMaskAt, aAt, bAt, cAt}
-use Rattle.joint.specs.Joint.{Joint, party}
-use Rattle.joint.specs.Plain.{plainInput, values, value}
-use Rattle.joint.specs.Good.{Good, recordAt, shareSum}
+use Rattle.protocol.specs.Part.{Part, plus, minus, shift, product}
+use Rattle.protocol.specs.Party.{key, recordOf, inputOf, maskAt, wholeMaskAt, aAt, bAt, cAt}
+use Rattle.protocol.specs.Joint.{Joint, party}
+use Rattle.protocol.specs.Plain.{plainInput, values, value}
+use Rattle.protocol.specs.Good.{Good, recordAt, shareSum}
 use Rattle.theorems.specs.Matching.{plainly, inputMove, valueMove, match}
 use Rattle.theorems.proofs.Course.{strong}
 use Rattle.theorems.proofs.Given.{Given}
-use Rattle.theorems.proofs.Closed.{Opening, Masked, Shown, openings, Every, every-at, every-opening, keys, prepared, ownerWord, masked, sumOf, wireBy, wires, opened, openedValue, wires-are, names, CarriesOpened, carries-mul, carries-shown, check-zero}
+use Rattle.theorems.proofs.KindValues.{local-computes, local-second}
+use Rattle.theorems.proofs.Closed.{Opening, Masked, Shown, openings, Every, every-at, Both, every-opening, keys, prepared, ownerWord, masked, sumOf, multiplied, wireBy, wires, opened, openedValue, wires-are, CarriesOpened, carries-differences, carries-shown, check-zero}
 use Rattle.theorems.proofs.Matching.{Moved, MovedMask, MovedTriple, same-key, moved-mask, moved-triple}
 
 -- a joint run of n parties
@@ -72,12 +73,13 @@ pub record Pair {O : Ops} (F : Field O) : Type 0 where
   pub has : Given O (runWith n c m x co)
   pub has′ : Given O (runWith n c (match O n c h x x′ m) x′ co)
   -- the outputs are equal
-  pub outputs : (j y : ℕ) → j < gates c → gate c j ≡ Out y → value O (plainly n c x′) y ≡ value O (plainly n c x) y
+  pub outputs : (j : ℕ) → j < gates c → shape (gate c j) .class ≡ Output
+      → value O (plainly n c x′) (gate c j .first) ≡ value O (plainly n c x) (gate c j .first)
 
 module _ {O : Ops} {F : Field O} (P : Pair F) where
   open Pair P using (n, c, h, x, x′, m, co, h-lt, good, has, has′, outputs)
   open Ops O using (norm, add, sub, mul)
-  open Field F using (norm-add, norm-mul)
+  open Field F using (norm-add)
 
   -- the two runs
   abbrev pub J : Joint
@@ -101,19 +103,24 @@ module _ {O : Ops} {F : Field O} (P : Pair F) where
   unfolding prepared recordOf party recordAt sumOf shareSum
   sum-prepared j k d v = v .shares
 
-  -- The owner of an in gate sends the same word.
-  pub same-owner : (j s : ℕ) → j < gates c → gate c j ≡ In s → ownerWord O J′ j s ≡ ownerWord O J j s
-  unfolding ownerWord recordOf party recordAt inputMove
-  same-owner j s l e =
-      ap₂ sub (sym (own x′ (match O n c h x x′ m))) (moves .whole)
-      ∙ sub-moved F (plainInput O (plainly n c x) j) (plainInput O (plainly n c x′) j) _
-      ∙ ap (λ (u : ℕ). sub u (getD (recordOf (party J s) j) wholeMaskAt 0)) (own x m)
-    where
-      own : (x m : List ℕ) → plainInput O (plainly n c x) j ≡ inputOf (party (runWith n c m x co) s) j
-      own x m = unfold plainInput plainly inputOf party first in rw e
+  -- The mask of an in gate, and the triple of a product, have moved.
+  mask-moves : (j : ℕ) → j < gates c → shape (gate c j) .class ≡ Owned → MovedMask F n c h x x′ m good j (gate c j .first)
+  mask-moves j l e = moved-mask F n c h x x′ m good j e l h-lt (owner-named (has .valid) j l e)
 
-      moves : MovedMask F n c h x x′ m good j s
-      moves = moved-mask F n c h x x′ m good j s e l h-lt (names F J has j l (In s) e)
+  triple-moves : (j : ℕ) → j < gates c → shape (gate c j) .class ≡ Opens
+      → MovedTriple F n c h x x′ m good j (shape (gate c j) .openings) (gate c j .first) (factor (gate c j))
+  triple-moves j l e = moved-triple F n c h x x′ m good j e l h-lt
+
+  -- The owner of an in gate sends the same word.
+  pub same-owner : (j : ℕ) → j < gates c → shape (gate c j) .class ≡ Owned → ownerWord O J′ j (gate c j .first) ≡ ownerWord O J j (gate c j .first)
+  unfolding ownerWord recordOf party recordAt inputMove
+  same-owner j l e =
+      ap₂ sub (sym (own x′ (match O n c h x x′ m))) (mask-moves j l e .whole)
+      ∙ sub-moved F (plainInput O (plainly n c x) j) (plainInput O (plainly n c x′) j) _
+      ∙ ap (λ (u : ℕ). sub u (getD (recordOf (party J (gate c j .first)) j) wholeMaskAt 0)) (own x m)
+    where
+      own : (x m : List ℕ) → plainInput O (plainly n c x) j ≡ inputOf (party (runWith n c m x co) (gate c j .first)) j
+      own x m = unfold plainInput plainly inputOf party in refl
 
   -- What hides a value moves with it, so that what is opened is the same.
   same-masked : (j y k : ℕ) → Moved F n c h x x′ m good j k (valueMove O n c h x x′ y)
@@ -135,78 +142,70 @@ module _ {O : Ops} {F : Field O} (P : Pair F) where
   unfolding sumOf
   same-sum o s = s .carries′ .shares ∙ s .values ∙ sym (s .carries .shares)
 
-  -- The two differences that a mul gate opens are the same.
-  pub same-mul : (j y z : ℕ) → j < gates c → gate c j ≡ Mul y z → SameValue (Masked j y aAt) × SameValue (Masked j z bAt)
-  same-mul j y z l e = (
-    record { carries = here .0; carries′ = there .0; values = same-masked j y aAt (moves .at-a) },
-    record { carries = here .1; carries′ = there .1; values = same-masked j z bAt (moves .at-b) },
-  )
-    where
-      moves : MovedTriple F n c h x x′ m good j y z
-      moves = moved-triple F n c h x x′ m good j y z e l h-lt
-
-      here : CarriesOpened F J has (Masked j y aAt) × CarriesOpened F J has (Masked j z bAt)
-      here = carries-mul F J has j y z l e
-
-      there : CarriesOpened F J′ has′ (Masked j y aAt) × CarriesOpened F J′ has′ (Masked j z bAt)
-      there = carries-mul F J′ has′ j y z l e
+  -- The two differences of a product are the same.
+  pub same-differences : (j : ℕ) → j < gates c → shape (gate c j) .class ≡ Opens → Both SameValue c j
+  same-differences j l e =
+      let moves = triple-moves j l e in
+      let here = carries-differences F J has j l e in
+      let there = carries-differences F J′ has′ j l e in (
+        record { carries = here .0; carries′ = there .0; values = same-masked j _ aAt (moves .at-a) },
+        record { carries = here .1; carries′ = there .1; values = same-masked j _ (bAt (shape (gate c j) .openings)) (moves .at-b) },
+      )
 
   -- A gate's parts are the same at every party but h where those are that it names.
-  beside-gate : (j : ℕ) → j < gates c → (g : Gate) → gate c j ≡ g → hasValue g ≡ true
+  beside-gate : (j : ℕ) → j < gates c → (k : Class) → shape (gate c j) .class ≡ k
       → ((y : ℕ) → Ref c j y → Beside n h (wires O J y) (wires O J′ y))
-      → Beside n h (wireBy O J j (wires O J) g) (wireBy O J′ j (wires O J′) g)
+      → Beside n h (wireBy O J j (wires O J) (gate c j) k) (wireBy O J′ j (wires O J′) (gate c j) k)
   unfolding wireBy
-  beside-gate j l (In s) e v earlier i li ne =
-      cc (same-keys i li, same-owner j s l e, beside-prepared j maskAt _ (moves .mask) i li ne)
-    where
-      moves : MovedMask F n c h x x′ m good j s
-      moves = moved-mask F n c h x x′ m good j s e l h-lt (names F J has j l (In s) e)
-  beside-gate j l (Add y z) e v earlier i li ne =
-      ap₂ (plus O) (earlier y (names F J has j l (Add y z) e .0) i li ne) (earlier z (names F J has j l (Add y z) e .1) i li ne)
-  beside-gate j l (Sub y z) e v earlier i li ne =
-      ap₂ (minus O) (earlier y (names F J has j l (Sub y z) e .0) i li ne) (earlier z (names F J has j l (Sub y z) e .1) i li ne)
-  beside-gate j l (Plus y k) e v earlier i li ne = cc (same-keys i li, earlier y (names F J has j l (Plus y k) e .0) i li ne)
-  beside-gate j l (Times y k) e v earlier i li ne = ap (scale O k) (earlier y (names F J has j l (Times y k) e .0) i li ne)
-  beside-gate j l (Mul y z) e v earlier i li ne =
+  beside-gate j l Local e earlier i li ne =
+      let x = earlier (gate c j .first) (local-named (has .valid) j l e) i li ne in
+      let z = earlier (gate c j .second) (local-second F (has .valid) j l e) i li ne in
+      cc (same-keys i li, x, z)
+  beside-gate j l Owned e earlier i li ne =
+      cc (same-keys i li, same-owner j l e, beside-prepared j maskAt _ (mask-moves j l e .mask) i li ne)
+  beside-gate j l Opens e earlier i li ne =
+      unfold multiplied in
       cc (
         same-keys i li,
         beside-prepared j aAt _ (moves .at-a) i li ne,
-        beside-prepared j bAt _ (moves .at-b) i li ne,
-        beside-prepared j cAt _ (moves .at-c) i li ne,
+        beside-prepared j (bAt k) _ (moves .at-b) i li ne,
+        beside-prepared j (cAt k) _ (moves .at-c) i li ne,
         heard .0,
         heard .1,
       )
     where
-      moves : MovedTriple F n c h x x′ m good j y z
-      moves = moved-triple F n c h x x′ m good j y z e l h-lt
+      k : ℕ
+      k = shape (gate c j) .openings
 
-      heard : (sumOf O J′ (masked O J′ (wires O J′ y) j aAt) ≡ sumOf O J (masked O J (wires O J y) j aAt))
-          × (sumOf O J′ (masked O J′ (wires O J′ z) j bAt) ≡ sumOf O J (masked O J (wires O J z) j bAt))
-      heard = let s = same-mul j y z l e in (unfold opened in same-sum _ (s .0), unfold opened in same-sum _ (s .1))
-  beside-gate j l (Out y) e v earlier i li ne = let z : _≡_ {A = ℕ} 0 1 = (unfold hasValue in cc) in absurd (omega arith)
+      moves : MovedTriple F n c h x x′ m good j k (gate c j .first) (factor (gate c j))
+      moves = triple-moves j l e
+
+      heard : (sumOf O J′ (masked O J′ (wires O J′ (gate c j .first)) j aAt) ≡ sumOf O J (masked O J (wires O J (gate c j .first)) j aAt))
+          × (sumOf O J′ (masked O J′ (wires O J′ (factor (gate c j))) j (bAt k)) ≡ sumOf O J (masked O J (wires O J (factor (gate c j))) j (bAt k)))
+      heard = let s = same-differences j l e in (unfold opened in same-sum _ (s .0), unfold opened in same-sum _ (s .1))
+  beside-gate j l Output e earlier i li ne = refl
 
   -- Each wire's parts are the same at every party but h.
-  pub beside : (j : ℕ) → j < gates c → hasValue (gate c j) ≡ true → Beside n h (wires O J j) (wires O J′ j)
+  pub beside : (j : ℕ) → j < gates c → Beside n h (wires O J j) (wires O J′ j)
   beside =
-      strong (λ j. j < gates c → hasValue (gate c j) ≡ true → Beside n h (wires O J j) (wires O J′ j))
-      (λ j earlier l v.
-      rw (wires-are O J (has .valid) j l _ refl, wires-are O J′ (has′ .valid) j l _ refl)
-      (beside-gate j l (gate c j) refl v (λ y r. earlier y (r .earlier) (omega (arith, r .earlier)) (r .valued))))
+      strong (λ j. j < gates c → Beside n h (wires O J j) (wires O J′ j))
+      (λ j earlier l.
+      rw (wires-are O J F (has .valid) j l refl, wires-are O J′ F (has′ .valid) j l refl)
+      (beside-gate j l (shape (gate c j) .class) refl (λ y r. earlier y (r .earlier) (omega (arith, r .earlier)))))
 
   -- The shares of a gate are elements ..
-  reduced-gate : (J : Joint) (j : ℕ) (w : ℕ → ℕ → Part) (g : Gate) (i : ℕ) → norm (wireBy O J j w g i .share) ≡ wireBy O J j w g i .share
-  unfolding wireBy plus minus scale shift product
-  reduced-gate J j w (In s) i = norm-add _ _
-  reduced-gate J j w (Add y z) i = norm-add _ _
-  reduced-gate J j w (Sub y z) i = norm-sub F _ _
-  reduced-gate J j w (Plus y k) i = norm-add _ _
-  reduced-gate J j w (Times y k) i = norm-mul _ _
-  reduced-gate J j w (Mul y z) i = norm-add _ _
-  reduced-gate J j w (Out y) i = norm-zero F
+  reduced-gate : (J : Joint) (j : ℕ) (w : ℕ → ℕ → Part) (k : Class) → shape (gate (J .circuit) j) .class ≡ k
+      → (i : ℕ)
+      → norm (wireBy O J j w (gate (J .circuit) j) k i .share) ≡ wireBy O J j w (gate (J .circuit) j) k i .share
+  unfolding wireBy multiplied plus shift product
+  reduced-gate J j w Local e i = local-computes F (gate (J .circuit) j) e .low _ _ _ _ _
+  reduced-gate J j w Owned e i = norm-add _ _
+  reduced-gate J j w Opens e i = norm-add _ _
+  reduced-gate J j w Output e i = norm-zero F
 
   -- .. and so are those of every wire.
   reduced : (J : Joint) → Valid n (O .size) (J .circuit) → (j : ℕ) → j < gates (J .circuit) → (i : ℕ) → norm (wires O J j i .share) ≡ wires O J j i .share
-  reduced J ok j l i = rw (wires-are O J ok j l _ refl) (reduced-gate J j (wires O J) (gate (J .circuit) j) i)
+  reduced J ok j l i = rw (wires-are O J F ok j l refl) (reduced-gate J j (wires O J) (shape (gate (J .circuit) j) .class) refl i)
 
   -- what is opened is the same, at every party but h so are the parts, and all shares are elements
   pub record Agrees (o : Opening) : Type 0 where
@@ -234,46 +233,41 @@ module _ {O : Ops} {F : Field O} (P : Pair F) where
   agrees-masked j y k l r v s =
       record {
         same = s;
-        others = λ i li ne. ap₂ (minus O) (beside y (omega (arith, r .earlier)) (r .valued) i li ne) (beside-prepared j k _ v i li ne);
+        others = λ i li ne. ap₂ (minus O) (beside y (omega (arith, r .earlier)) i li ne) (beside-prepared j k _ v i li ne);
         low = norm-sub F _ _;
         low′ = norm-sub F _ _;
       }
 
-  -- The two differences that a mul gate opens.
-  pub agrees-mul : (j y z : ℕ) → j < gates c → gate c j ≡ Mul y z → Agrees (Masked j y aAt) × Agrees (Masked j z bAt)
-  agrees-mul j y z l e = (agrees-masked j y aAt l (refs .0) (moves .at-a) (same .0), agrees-masked j z bAt l (refs .1) (moves .at-b) (same .1))
-    where
-      moves : MovedTriple F n c h x x′ m good j y z
-      moves = moved-triple F n c h x x′ m good j y z e l h-lt
-
-      refs : Ref c j y × Ref c j z
-      refs = names F J has j l (Mul y z) e
-
-      same : SameValue (Masked j y aAt) × SameValue (Masked j z bAt)
-      same = same-mul j y z l e
+  -- The two differences of a product.
+  pub agrees-differences : (j : ℕ) → j < gates c → shape (gate c j) .class ≡ Opens → Both Agrees c j
+  agrees-differences j l e =
+      let moves = triple-moves j l e in
+      let same = same-differences j l e in (
+        agrees-masked j _ aAt l (opens-named (has .valid) j l e) (moves .at-a) (same .0),
+        agrees-masked j _ (bAt (shape (gate c j) .openings)) l (factor-named (has .valid) j l e) (moves .at-b) (same .1),
+      )
 
   -- What an out gate shows.
-  pub agrees-shown : (j y : ℕ) → j < gates c → gate c j ≡ Out y → Agrees (Shown y)
+  pub agrees-shown : (j : ℕ) → j < gates c → shape (gate c j) .class ≡ Output → Agrees (Shown (gate c j .first))
   unfolding opened openedValue
-  agrees-shown j y l e =
+  agrees-shown j l e =
+      let y = gate c j .first in
+      let ref = output-named (has .valid) j l e in
       record {
         same =
             record {
-              carries = carries-shown F J has j y l e;
-              carries′ = carries-shown F J′ has′ j y l e;
-              values = plain-value O n c (match O n c h x x′ m) x′ co y ∙ outputs j y l e ∙ sym (plain-value O n c m x co y);
+              carries = carries-shown F J has j l e;
+              carries′ = carries-shown F J′ has′ j l e;
+              values = plain-value O n c (match O n c h x x′ m) x′ co y ∙ outputs j l e ∙ sym (plain-value O n c m x co y);
             };
-        others = beside y (omega (arith, ref .earlier)) (ref .valued);
+        others = beside y (omega (arith, ref .earlier));
         low = reduced J (has .valid) y (omega (arith, ref .earlier)) h;
         low′ = reduced J′ (has′ .valid) y (omega (arith, ref .earlier)) h;
       }
-    where
-      ref : Ref c j y
-      ref = names F J has j l (Out y) e
 
   -- All that is opened and unchecked when a gate is reached.
   pub agrees-openings : (j : ℕ) → j ≤ gates c → Every Agrees (openings c j)
-  agrees-openings = every-opening Agrees c (gates c) agrees-mul
+  agrees-openings = every-opening Agrees c (gates c) agrees-differences
 
   -- All check shares sum to zero in both runs, so party h's is the same too.
   pub same-check : (os : List Opening) → Every Agrees os → (r : ℕ → ℕ) (i : ℕ) → i < n → sigma O J′ os r i ≡ sigma O J os r i

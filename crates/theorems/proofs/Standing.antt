@@ -7,50 +7,48 @@ use mathlib.Core.Bool.{Bool, true, false, cond}
 use mathlib.Core.List.{List}
 use native.Mathlib.Omega.{arith}
 use lib.ListN.{length}
-use Rattle.field.specs.Ops.{Ops}
-use Rattle.field.specs.Field.{Field}
-use Rattle.field.proofs.Ring.{sub-lt}
+use Rattle.algebra.specs.Ops.{Ops}
+use Rattle.algebra.specs.Field.{Field}
+use Rattle.algebra.proofs.Ring.{sub-lt}
 use Rattle.circuit.specs.Gate.{gate, gates}
 use Rattle.circuit.specs.Count.{unchecked}
-use Rattle.circuit.specs.Round.{Round, Input, Multiply, CommitOpened, RevealOpened, OpenOutput, CommitOutput, RevealOutput, isCommit, openedIn, coefficientsIn, rounds}
-use Rattle.circuit.specs.Round.{overRun}
+use Rattle.circuit.specs.Round.{Check, First, Second, Round, Own, Open, Commit, Reveal, isCommit, openedIn, coefficientsIn, overRun}
 use Rattle.circuit.specs.Valid.{Valid}
-use Rattle.circuit.proofs.Tests.{by-cases}
+use Rattle.circuit.proofs.Tests.{by-cases, false-no}
 use Rattle.circuit.proofs.Counts.{unchecked-fits}
-use Rattle.steps.specs.Scratch.{layout, scratchSize, Value, read}
-use Rattle.steps.specs.Position.{Point, Stage, Send, Receive, Finished, Aborted, finished, aborted, reach, resume, start, follow, keep, mayHold}
-use Rattle.steps.specs.Party.{key}
-use Rattle.steps.specs.Send.{checkShare, holds}
-use Rattle.steps.specs.Receive.{afterOpenOutput, passes, next, received}
-use Rattle.joint.specs.Joint.{Joint, party}
-use Rattle.joint.specs.Run.{State, begun, takes, said, step}
-use Rattle.steps.proofs.InOrder.{differ, begins}
-use Rattle.steps.proofs.Following.{followed, next-followed, next-aborted, next-holds, start-is}
-use Rattle.steps.proofs.Points.{Reached, reached, Entered, ended, begun as beginning, entered, Fits, FitsStage, spentStage, spent, goes-start, fits-follow, spent-follow}
-use Rattle.steps.proofs.Slots.{value-opened-same}
-use Rattle.steps.proofs.Keeping.{Stands, Stood, received-stands, start-stands}
-use Rattle.joint.proofs.Words.{length-band}
+use Rattle.protocol.specs.Scratch.{layout, scratchSize, Value, read}
+use Rattle.protocol.specs.Position.{Point, Stage, Send, Receive, Finished, Aborted, finished, aborted, reach, resume, start, follow, keep, mayHold}
+use Rattle.protocol.specs.Party.{key}
+use Rattle.protocol.specs.Send.{checkShare, holds}
+use Rattle.protocol.specs.Receive.{afterOpenOutput, passes, next, received}
+use Rattle.protocol.specs.Joint.{Joint, party}
+use Rattle.protocol.specs.Run.{State, begun, takes, said, step}
+use Rattle.protocol.proofs.InOrder.{begins}
+use Rattle.protocol.proofs.Following.{followed, next-followed, next-aborted, next-holds, start-is}
+use Rattle.protocol.proofs.Points.{Reached, reached, Entered, ended, begun as beginning, entered, Fits, FitsStage, spentStage, spent, goes-start, fits-follow, spent-follow}
+use Rattle.protocol.proofs.Slots.{value-opened-same}
+use Rattle.protocol.proofs.Keeping.{Stands, Stood, received-stands, start-stands}
+use Rattle.protocol.proofs.Words.{length-band}
 
--- the rounds in which the shown value is checked
+-- the rounds in which the shown value is checked: those of the second check
+unfoldable pub isSecond : Check → Bool
+isSecond First = false
+isSecond Second = true
+
 unfoldable pub checksOutput : Round → Bool
-checksOutput Input = false
-checksOutput Multiply = false
-checksOutput CommitOpened = false
-checksOutput RevealOpened = false
-checksOutput OpenOutput = false
-checksOutput CommitOutput = true
-checksOutput RevealOutput = true
+checksOutput Own = false
+checksOutput Open = false
+checksOutput (Commit k) = isSecond k
+checksOutput (Reveal k) = isSecond k
 
 -- No gate begins with one of them.
 begins-unchecked : {A : Type 0} (r : Round) → begins r ≡ true → checksOutput r ≡ true → A
-unfolding begins checksOutput
-begins-unchecked Input b h = differ h refl
-begins-unchecked Multiply b h = differ h refl
-begins-unchecked CommitOpened b h = differ h refl
-begins-unchecked RevealOpened b h = differ b refl
-begins-unchecked OpenOutput b h = differ h refl
-begins-unchecked CommitOutput b h = differ b refl
-begins-unchecked RevealOutput b h = differ b refl
+unfolding begins checksOutput isSecond
+begins-unchecked Own b h = false-no h
+begins-unchecked Open b h = false-no h
+begins-unchecked (Commit First) b h = false-no h
+begins-unchecked (Commit Second) b h = false-no b
+begins-unchecked (Reveal k) b h = false-no b
 
 -- where the shown value is checked, l and l₀ have the same
 abbrev pub ShownAlike : List ℕ → Stage → List ℕ → List ℕ → Type 0
@@ -136,21 +134,19 @@ module _ {O : Ops} (F : Field O) (J : Joint) (ok : Valid (J .parties) (O .size) 
         → ShownAlike (J .circuit) (followed (J .circuit) (s .point .gate) t .stage)
         (received O (party J i) (s .scratch i) (s .point .gate) t (said O J s t))
         (received O (party J 0) (s .scratch 0) (s .point .gate) t (said O J s t))
-    shown-next Input q i k k₀ h = shown-resumed (J .circuit) (suc (s .point .gate)) _ _ (fits .0)
-    shown-next Multiply q i k k₀ h = shown-resumed (J .circuit) (suc (s .point .gate)) _ _ (fits .0)
-    shown-next CommitOpened q i k k₀ h = λ z. unfold checksOutput in differ z refl
-    shown-next RevealOpened q i k k₀ h = λ z. unfold checksOutput in differ z refl
-    shown-next OpenOutput q i k k₀ h =
+    shown-next Own q i k k₀ h = shown-resumed (J .circuit) (suc (s .point .gate)) _ _ (fits .0)
+    shown-next Open q i k k₀ h =
         λ z. unfold received afterOpenOutput party in
         value-opened-same (layout (J .circuit)) (s .scratch i) 0 _ _ (omega (arith, k .long)) some
         ∙ sym (value-opened-same (layout (J .circuit)) (s .scratch 0) 0 _ _ (omega (arith, k₀ .long)) some)
       where
         some : 0 < layout (J .circuit) .capacity
         some = unfold layout in omega (arith, unchecked-fits (J .circuit) (s .point .gate) (omega (arith, fits .0)))
-    shown-next CommitOutput q i k k₀ h =
+    shown-next (Commit x) q i k k₀ h =
         λ z. unfold received in
-        subst (λ (g : Stage). ShownAlike (J .circuit) g (s .scratch i) (s .scratch 0)) (e ∙ ap Send q) (k .alike) (unfold checksOutput in refl)
-    shown-next RevealOutput q i k k₀ h = shown-resumed (J .circuit) (suc (s .point .gate)) _ _ (fits .0)
+        subst (λ (g : Stage). ShownAlike (J .circuit) g (s .scratch i) (s .scratch 0)) (e ∙ ap Send q) (k .alike) (unfold checksOutput in z)
+    shown-next (Reveal First) q i k k₀ h = λ z. unfold checksOutput in false-no z
+    shown-next (Reveal Second) q i k k₀ h = shown-resumed (J .circuit) (suc (s .point .gate)) _ _ (fits .0)
 
     -- A round keeps all that.
     pub sound-step : (i : ℕ) → Sound s i → Sound s 0 → Sound (step O J s r) i
@@ -204,19 +200,19 @@ module _ {O : Ops} (F : Field O) (J : Joint) (ok : Valid (J .parties) (O .size) 
   pub sound-begun : (scratch : List ℕ) → J .parties * scratchSize (layout (J .circuit)) ≤ length scratch → (i : ℕ) → i < J .parties → Sound (begun O J scratch) i
   unfolding begun
   sound-begun scratch room i h =
-      let q : start (J .circuit) ≡ record { gate = 0; stage = Send Input } = start-is (J .circuit) (J .parties) size ok in
+      let q : start (J .circuit) ≡ record { gate = 0; stage = Send Own } = start-is (J .circuit) (J .parties) size ok in
       record {
         long = length-band (scratchSize (layout (J .circuit))) (J .parties) scratch room i h;
         low = omega (arith, F .one-lt);
         none = λ z. refl;
         stands = rw q (start-stands size (J .circuit) _);
-        alike = rw q (λ z. unfold checksOutput in differ z refl);
+        alike = rw q (λ z. unfold checksOutput in false-no z);
       }
 
   pub course-begun : (scratch : List ℕ) → Course (begun O J scratch)
   unfolding begun overRun
   course-begun scratch =
-      let q : start (J .circuit) ≡ record { gate = 0; stage = Send Input } = start-is (J .circuit) (J .parties) size ok in
+      let q : start (J .circuit) ≡ record { gate = 0; stage = Send Own } = start-is (J .circuit) (J .parties) size ok in
       let g = goes-start (J .circuit) ok in
-      going Input (ap (λ (x : Point). x .stage) q) (rw q (subst (Fits (J .circuit)) q (g .fits)))
-      (sym (g .spent-is taking) ∙ ap (spent (J .circuit) taking) q ∙ ap (λ (x : Point). spentStage (J .circuit) taking (x .gate) (Send Input)) (sym q))
+      going Own (ap (λ (x : Point). x .stage) q) (rw q (subst (Fits (J .circuit)) q (g .fits)))
+      (sym (g .spent-is taking) ∙ ap (spent (J .circuit) taking) q ∙ ap (λ (x : Point). spentStage (J .circuit) taking (x .gate) (Send Own)) (sym q))

@@ -3,26 +3,28 @@
 -- Assumes nothing.
 use Prim.Native.Nat.{ℕ, zero, suc, _*_, _<_, _≤_}
 use mathlib.Core.Path.{_≡_, refl, sym, ap, ap₂, subst, _∙_}
+use mathlib.Core.Logic.{inl, inr}
 use mathlib.Core.Bool.{Bool, true, cond}
 use mathlib.Core.List.{List, [], _∷_, _++_}
 use native.Mathlib.Omega.{arith}
 use lib.ListN.{length}
-use Rattle.field.specs.Ops.{Ops}
-use Rattle.field.specs.Field.{Field}
-use Rattle.circuit.specs.Gate.{gate, gates, first}
-use Rattle.circuit.specs.Round.{Round, Input, Multiply, CommitOpened, RevealOpened, OpenOutput, CommitOutput, RevealOutput, isCommit}
-use Rattle.steps.specs.Scratch.{layout, scratchSize}
-use Rattle.steps.specs.Position.{Stage, Send, Receive, Finished, Aborted, Point, keep, whenSending}
-use Rattle.steps.specs.Send.{sent, holds}
-use Rattle.joint.specs.Joint.{Joint, party}
-use Rattle.joint.specs.Run.{State, Run, said, takes, step, still, ahead, run, begun, whole}
-use Rattle.joint.proofs.Words.{joined-ext}
+use Rattle.algebra.specs.Ops.{Ops}
+use Rattle.algebra.specs.Field.{Field}
+use Rattle.circuit.specs.Gate.{gate, gates}
+use Rattle.circuit.specs.Kind.{Output, shape}
+use Rattle.circuit.specs.Round.{Check, First, Second, Round, Own, Open, Commit, Reveal, isCommit}
+use Rattle.circuit.proofs.RoundLaws.{RoundClass, class-at-round}
+use Rattle.protocol.specs.Scratch.{layout, scratchSize}
+use Rattle.protocol.specs.Position.{Stage, Send, Receive, Finished, Aborted, Point, keep, whenSending}
+use Rattle.protocol.specs.Send.{sent, holds}
+use Rattle.protocol.specs.Joint.{Joint, party}
+use Rattle.protocol.specs.Run.{State, Run, said, takes, step, still, ahead, run, begun, whole}
+use Rattle.protocol.proofs.Words.{joined-ext}
 use Rattle.theorems.proofs.Closed.{Every}
 use Rattle.theorems.proofs.Holds.{Holds}
-use Rattle.theorems.proofs.Sent.{Wants, gate-at}
-use Rattle.theorems.proofs.Honest.{pending, length-pending, Inv, fits-at, holds-at, inv-step, inv-begun}
+use Rattle.theorems.proofs.Honest.{underCheck, pending, length-pending, Inv, fits-at, holds-at, inv-step, inv-begun}
 use Rattle.theorems.proofs.SideBySide.{Pair, J as first-run, J′ as second-run, Agrees, agrees-shown, agrees-openings}
-use Rattle.theorems.proofs.SameRound.{same-input, same-multiply, same-shown, same-held}
+use Rattle.theorems.proofs.SameRound.{same-input, same-opening, same-shown, same-held}
 
 module _ {O : Ops} {F : Field O} (P : Pair F) where
   open Pair P using (n, c)
@@ -36,31 +38,31 @@ module _ {O : Ops} {F : Field O} (P : Pair F) where
 
   module _ (j : ℕ) (l : j < gates c) (scratch scratch′ : ℕ → List ℕ) (i : ℕ) (li : i < n) where
     -- Every party sends the same words in a round.
-    same-sent : (r : Round) → Wants r (gate c j) → Holds O J i j (pending c j r) (scratch i) → Holds O J′ i j (pending c j r) (scratch′ i)
+    same-sent : (r : Round) → RoundClass r (shape (gate c j) .class) → Holds O J i j (pending c j r) (scratch i) → Holds O J′ i j (pending c j r) (scratch′ i)
         → (held held′ : ℕ)
         → held′ ≡ held
         → sent O (party J′ i) (scratch′ i) j held′ r ≡ sent O (party J i) (scratch i) j held r
-    same-sent Input g p p′ held held′ e = same-input P j (g .0) l (g .1) _ _ held held′ i
-    same-sent Multiply g p p′ held held′ e = same-multiply P i li p p′ (g .0) (g .1) l (g .2) held held′
-    same-sent CommitOpened g p p′ held held′ e = unfold sent in refl
-    same-sent RevealOpened g p p′ held held′ e = unfold sent in ap {B = List ℕ} (λ (w : ℕ). w ∷ []) e
-    same-sent OpenOutput g p p′ held held′ e = same-shown P i li p p′ (g .0) l (g .1) held held′
-    same-sent CommitOutput g p p′ held held′ e = unfold sent in refl
-    same-sent RevealOutput g p p′ held held′ e = unfold sent in ap {B = List ℕ} (λ (w : ℕ). w ∷ []) e
+    same-sent Own (inl g) p p′ held held′ e = same-input P j l g _ _ held held′ i
+    same-sent Own (inr g) p p′ held held′ e = same-opening P i li p p′ l g held held′
+    same-sent Open g p p′ held held′ e = same-shown P i li p p′ l g held held′
+    same-sent (Commit k) g p p′ held held′ e = unfold sent in refl
+    same-sent (Reveal k) g p p′ held held′ e = unfold sent in ap {B = List ℕ} (λ (w : ℕ). w ∷ []) e
 
     -- All that is opened and unchecked in a round agrees in both runs.
-    agrees-pending : (r : Round) → Wants r (gate c j) → Every (Agrees P) (pending c j r)
+    agrees-check : (k : Check) → shape (gate c j) .class ≡ Output → Every (Agrees P) (underCheck c j k)
+    unfolding underCheck
+    agrees-check First g = agrees-openings P j (omega arith)
+    agrees-check Second g = (agrees-shown P j l g, tt)
+
+    agrees-pending : (r : Round) → RoundClass r (shape (gate c j) .class) → Every (Agrees P) (pending c j r)
     unfolding pending
-    agrees-pending Input g = agrees-openings P j (omega arith)
-    agrees-pending Multiply g = agrees-openings P j (omega arith)
-    agrees-pending CommitOpened g = agrees-openings P j (omega arith)
-    agrees-pending RevealOpened g = agrees-openings P j (omega arith)
-    agrees-pending OpenOutput g = tt
-    agrees-pending CommitOutput g = (rw (g .1) (unfold first in agrees-shown P j (g .0) l (g .1)), tt)
-    agrees-pending RevealOutput g = (rw (g .1) (unfold first in agrees-shown P j (g .0) l (g .1)), tt)
+    agrees-pending Own g = agrees-openings P j (omega arith)
+    agrees-pending Open g = tt
+    agrees-pending (Commit k) g = agrees-check k g
+    agrees-pending (Reveal k) g = agrees-check k g
 
     -- Every party comes to hold the same check share.
-    same-holds : (r : Round) → Wants r (gate c j) → Holds O J i j (pending c j r) (scratch i) → Holds O J′ i j (pending c j r) (scratch′ i)
+    same-holds : (r : Round) → RoundClass r (shape (gate c j) .class) → Holds O J i j (pending c j r) (scratch i) → Holds O J′ i j (pending c j r) (scratch′ i)
         → (taken : List ℕ)
         → holds O (party J′ i) (scratch′ i) j r taken ≡ holds O (party J i) (scratch i) j r taken
     unfolding holds party
@@ -82,12 +84,12 @@ module _ {O : Ops} {F : Field O} (P : Pair F) where
       there : s′ .point .stage ≡ Send r
       there = ap (λ (p : Point). p .stage) (t .point) ∙ e
 
-      -- Its gate is one of the circuit, of the kind that has the round.
+      -- Its gate is one of the circuit, of a class that has the round.
       below : s .point .gate < gates c
       below = fits-at O J s r e (t .one) .0
 
-      wanted : Wants r (gate c (s .point .gate))
-      wanted = gate-at c (s .point .gate) r (fits-at O J s r e (t .one) .1)
+      wanted : RoundClass r (shape (gate c (s .point .gate)) .class)
+      wanted = class-at-round c (s .point .gate) r (fits-at O J s r e (t .one) .1)
 
       -- Every party's scratch holds its parts of the closed form, in the first run and in the second.
       holds-here : (i : ℕ) → i < n → Holds O J i (s .point .gate) (pending c (s .point .gate) r) (s .scratch i)

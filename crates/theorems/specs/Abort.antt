@@ -4,18 +4,18 @@ use Prim.Native.Nat.{ℕ, suc}
 use mathlib.Core.Path.{_≡_}
 use mathlib.Core.Bool.{true}
 use mathlib.Core.List.{List, _++_}
-use Rattle.field.specs.Ops.{Ops}
-use Rattle.circuit.specs.Round.{Round, isReveal, checkWords}
-use Rattle.steps.specs.Position.{Send, finished, aborted}
-use Rattle.steps.specs.Receive.{heardSum}
-use Rattle.joint.specs.Joint.{Joint}
-use Rattle.joint.specs.Run.{said, run, begun, whole}
+use Rattle.algebra.specs.Ops.{Ops}
+use Rattle.circuit.specs.Round.{Round, isReveal, revealWords}
+use Rattle.protocol.specs.Position.{Send, finished, aborted}
+use Rattle.protocol.specs.Receive.{heardSum}
+use Rattle.protocol.specs.Joint.{Joint}
+use Rattle.protocol.specs.Run.{said, run, begun, whole}
 use Rattle.theorems.specs.Premises.{after}
 
 module _ (O : Ops) (J : Joint) (scratch : List ℕ) where
   -- the sum of the words revealed in round r after k rounds
   abbrev pub revealed : ℕ → Round → ℕ
-  revealed k r = heardSum O (J .parties) checkWords 0 (said O J (after O J scratch k) r)
+  revealed k r = heardSum O (J .parties) revealWords 0 (said O J (after O J scratch k) r)
 
   -- round k is a check whose revealed words do not sum to zero
   pub record Fails (k : ℕ) (r : Round) : Type 0 where

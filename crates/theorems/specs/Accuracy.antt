@@ -5,19 +5,19 @@ use mathlib.Core.Path.{_≡_}
 use mathlib.Core.Bool.{true}
 use mathlib.Core.List.{List}
 use lib.ListN.{length}
-use Rattle.field.specs.Ops.{Ops}
-use Rattle.field.specs.Sum.{sum}
+use Rattle.algebra.specs.Ops.{Ops}
+use Rattle.algebra.specs.Sum.{sum}
 use Rattle.circuit.specs.Gate.{gate, gates}
 use Rattle.circuit.specs.Kind.{hasValue}
 use Rattle.circuit.specs.Count.{unchecked}
 use Rattle.circuit.specs.Round.{openedIn, wordCount}
-use Rattle.steps.specs.Scratch.{layout, wire, read, Value, ValueMac}
-use Rattle.steps.specs.Position.{finished, whenSending}
-use Rattle.joint.specs.Joint.{Joint}
-use Rattle.joint.specs.Run.{whole}
-use Rattle.joint.specs.Plain.{value, scores}
-use Rattle.joint.specs.Good.{wholeKey}
-use Rattle.joint.specs.Formula.{roundFormula, mostRoundsOfAll}
+use Rattle.protocol.specs.Scratch.{layout, wire, read, Value, ValueMac}
+use Rattle.protocol.specs.Position.{finished, whenSending}
+use Rattle.protocol.specs.Joint.{Joint}
+use Rattle.protocol.specs.Run.{whole}
+use Rattle.protocol.specs.Plain.{value, scores}
+use Rattle.protocol.specs.Good.{wholeKey}
+use Rattle.protocol.specs.Formula.{roundFormula, mostRoundsOfAll}
 use Rattle.theorems.specs.Premises.{after}
 
 module _ (O : Ops) (J : Joint) (scratch : List ℕ) where

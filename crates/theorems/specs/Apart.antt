@@ -6,18 +6,18 @@ use mathlib.Core.Path.{_≡_}
 use mathlib.Core.List.{List, [], _∷_, _++_}
 use lib.ListN.{length, take, drop}
 use lib.Dec.{eqb}
-use Rattle.field.specs.Ops.{Ops}
+use Rattle.algebra.specs.Ops.{Ops}
 use Rattle.circuit.specs.Verdict.{Accepted, ask, _then_, elements}
 use Rattle.circuit.specs.Gate.{gate}
 use Rattle.circuit.specs.Round.{Round, words, coefficientCount}
-use Rattle.steps.specs.Scratch.{layout, scratchSize}
-use Rattle.steps.specs.Position.{Stage, Send, Receive, Finished, Aborted, Position, holding, aborted, start, whenSending, whenReceiving}
-use Rattle.steps.specs.Party.{Party, partyOf}
-use Rattle.steps.specs.Send.{sent, holds}
-use Rattle.party.specs.Ask.{askLent}
-use Rattle.party.specs.Entry.{Answer, Refusal, Next, Output, Abort, openAnswer, sendAnswer, sendOut, receiveAnswer, receiveScratch}
-use Rattle.joint.specs.Joint.{Joint, joined}
-use Rattle.joint.specs.Run.{begun, takes, released, run}
+use Rattle.protocol.specs.Scratch.{layout, scratchSize}
+use Rattle.protocol.specs.Position.{Stage, Send, Receive, Finished, Aborted, Position, holding, aborted, whenSending, whenReceiving}
+use Rattle.protocol.specs.Party.{Party, partyOf}
+use Rattle.protocol.specs.Send.{sent, holds}
+use Rattle.protocol.specs.Ask.{askLent}
+use Rattle.protocol.specs.Entry.{Answer, Refusal, Next, Output, Abort, openAnswer, sendAnswer, sendOut, receiveAnswer, receiveScratch}
+use Rattle.protocol.specs.Joint.{Joint, joined}
+use Rattle.protocol.specs.Run.{begun, takes, released, run}
 use Rattle.theorems.specs.Premises.{after}
 
 -- what the parties bring: the lists of party i; and in round k the coefficients that it is handed and the list that it lends for its words

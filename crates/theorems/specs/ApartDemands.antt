@@ -5,14 +5,14 @@ use mathlib.Core.Path.{_≡_}
 use mathlib.Core.Bool.{Bool, true}
 use mathlib.Core.List.{List}
 use lib.ListN.{length}
-use Rattle.field.specs.Ops.{Ops}
+use Rattle.algebra.specs.Ops.{Ops}
 use Rattle.circuit.specs.Gate.{gates}
 use Rattle.circuit.specs.Count.{prepSize, inputCount}
-use Rattle.steps.specs.Position.{holding, finished}
-use Rattle.joint.specs.Joint.{joined, band}
-use Rattle.joint.specs.Plain.{scores}
-use Rattle.joint.specs.Good.{Good}
-use Rattle.joint.specs.Formula.{roundFormula}
+use Rattle.protocol.specs.Position.{holding, finished}
+use Rattle.protocol.specs.Joint.{joined, band}
+use Rattle.protocol.specs.Plain.{scores}
+use Rattle.protocol.specs.Good.{Good}
+use Rattle.protocol.specs.Formula.{roundFormula}
 use Rattle.theorems.specs.Matching.{rule}
 use Rattle.theorems.specs.Secrecy.{Compared}
 use Rattle.theorems.specs.Apart.{Apart, partyIn, outputsIn, apart, heardIn, jointly, Meets}

@@ -8,14 +8,14 @@ use mathlib.Core.Bool.{Bool, true}
 use mathlib.Core.List.{List, [], _∷_, _++_}
 use lib.Dec.{eqb}
 use lib.ListN.{getD, replicate}
-use Rattle.field.specs.Ops.{Ops}
+use Rattle.algebra.specs.Ops.{Ops}
 use Rattle.circuit.specs.Verdict.{Accepted}
 use Rattle.circuit.specs.Count.{prepSize}
-use Rattle.joint.specs.Joint.{Joint, band}
-use Rattle.joint.specs.Run.{whole}
-use Rattle.joint.specs.Entry.{Done, verdict, jointAnswer, jointScratch}
-use Rattle.joint.specs.Good.{Good}
-use Rattle.joint.specs.Docket.{circuit, prep₀, prep₁, docket, rooms}
+use Rattle.protocol.specs.Joint.{Joint, band}
+use Rattle.protocol.specs.Run.{whole}
+use Rattle.protocol.specs.JointEntry.{Done, verdict, jointAnswer, jointScratch}
+use Rattle.protocol.specs.Good.{Good}
+use Rattle.protocol.specs.Docket.{circuit, prep₀, prep₁, docket, rooms}
 use Rattle.theorems.specs.Matching.{rule}
 use Rattle.theorems.specs.Secrecy.{runOf, bandOf, Compared, Secret}
 

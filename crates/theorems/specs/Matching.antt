@@ -4,12 +4,13 @@ use Prim.Native.Nat.{ℕ, zero, suc}
 use mathlib.Core.Bool.{Bool, cond}
 use mathlib.Core.List.{List, [], _∷_, _++_}
 use lib.Dec.{eqb}
-use Rattle.field.specs.Ops.{Ops}
-use Rattle.circuit.specs.Gate.{Gate, In, Add, Sub, Plus, Times, Mul, Out, gate, gates}
-use Rattle.steps.specs.Party.{aAt, bAt}
-use Rattle.joint.specs.Joint.{Joint, joined}
-use Rattle.joint.specs.Plain.{plainInput, value}
-use Rattle.joint.specs.Good.{wholeKey, shareSum}
+use Rattle.algebra.specs.Ops.{Ops}
+use Rattle.circuit.specs.Gate.{Gate, gate, gates}
+use Rattle.circuit.specs.Kind.{Class, Local, Owned, Opens, Output, shape, factor}
+use Rattle.protocol.specs.Party.{aAt, bAt}
+use Rattle.protocol.specs.Joint.{Joint, joined}
+use Rattle.protocol.specs.Plain.{plainInput, value}
+use Rattle.protocol.specs.Good.{wholeKey, shareSum}
 
 -- the first of n parties that is not in A, or n where all are
 unfoldable pub leftOut : (ℕ → Bool) → ℕ → ℕ
@@ -46,28 +47,30 @@ module _ (O : Ops) (n : ℕ) (c : List ℕ) (h : ℕ) (x x′ : List ℕ) where
     unfoldable pub moved : ℕ → ℕ → List ℕ
     moved i d = only h d i ∷ only h (mul (wholeKey O n c preps) d) i ∷ []
 
-    -- c is a times b: by how much it differs where a differs by d and b by e
-    unfoldable pub productMove : ℕ → ℕ → ℕ → ℕ
-    productMove j d e =
-        sub (mul (add (shareSum O n c preps j aAt) d) (add (shareSum O n c preps j bAt) e))
-        (mul (shareSum O n c preps j aAt) (shareSum O n c preps j bAt))
+    -- c is a times b, in a record of k openings: by how much it differs where a differs by d and b by e
+    unfoldable pub productMove : ℕ → ℕ → ℕ → ℕ → ℕ
+    productMove j k d e =
+        sub (mul (add (shareSum O n c preps j aAt) d) (add (shareSum O n c preps j (bAt k)) e))
+        (mul (shareSum O n c preps j aAt) (shareSum O n c preps j (bAt k)))
 
-    -- the differences in party i's record of gate j: a mask, and its owner's whole mask, move with the
-    -- input that they hide, a and b with the values that they hide
-    unfoldable pub recordMove : ℕ → ℕ → Gate → List ℕ
-    recordMove i j (In s) = moved i (inputMove j) ++ (only s (inputMove j) i ∷ [])
-    recordMove i j (Add y z) = []
-    recordMove i j (Sub y z) = []
-    recordMove i j (Plus y k) = []
-    recordMove i j (Times y k) = []
-    recordMove i j (Mul y z) =
-        moved i (valueMove y) ++ moved i (valueMove z) ++ moved i (productMove j (valueMove y) (valueMove z))
-    recordMove i j (Out y) = []
+    -- the differences of a and b in a record of k openings, where they hide values y and z: where one value is opened, b is a again
+    unfoldable pub maskMove : ℕ → ℕ → ℕ → ℕ → List ℕ
+    maskMove i y z k = cond (eqb k 2) (moved i (valueMove y) ++ moved i (valueMove z)) (moved i (valueMove y))
+
+    -- the differences in party i's record of gate j, which is g: a mask, and its owner's whole mask, move with the input that they hide, a and b
+    -- with the values that they hide
+    unfoldable pub recordMove : ℕ → ℕ → Gate → Class → List ℕ
+    recordMove i j g Local = []
+    recordMove i j g Owned = moved i (inputMove j) ++ (only (g .first) (inputMove j) i ∷ [])
+    recordMove i j g Opens =
+        maskMove i (g .first) (factor g) (shape g .openings)
+        ++ moved i (productMove j (shape g .openings) (valueMove (g .first)) (valueMove (factor g)))
+    recordMove i j g Output = []
 
     -- party i's differences: none in the key share, then record by record up to gate j
     unfoldable pub prepMove : ℕ → ℕ → List ℕ
     prepMove i zero = 0 ∷ []
-    prepMove i (suc j) = prepMove i j ++ recordMove i j (gate c j)
+    prepMove i (suc j) = prepMove i j ++ recordMove i j (gate c j) (shape (gate c j) .class)
 
     unfoldable pub match : List ℕ
     match = addLists O preps (joined n (λ i. prepMove i (gates c)))

@@ -5,16 +5,16 @@ use mathlib.Core.Path.{_≡_}
 use mathlib.Core.List.{List}
 use lib.ListN.{length}
 use lib.Dec.{eqb}
-use Rattle.field.specs.Ops.{Ops}
+use Rattle.algebra.specs.Ops.{Ops}
 use Rattle.circuit.specs.Verdict.{Accepted, ask, _then_, elements}
 use Rattle.circuit.specs.Count.{inCount}
 use Rattle.circuit.specs.Accept.{askCircuit}
-use Rattle.steps.specs.Position.{whenSending}
-use Rattle.steps.specs.Scratch.{layout, scratchSize}
-use Rattle.party.specs.Ask.{askParties}
-use Rattle.joint.specs.Joint.{Joint}
-use Rattle.joint.specs.Run.{State, begun, step}
-use Rattle.joint.specs.Good.{Good}
+use Rattle.protocol.specs.Position.{whenSending}
+use Rattle.protocol.specs.Scratch.{layout, scratchSize}
+use Rattle.protocol.specs.Ask.{askParties}
+use Rattle.protocol.specs.Joint.{Joint}
+use Rattle.protocol.specs.Run.{State, begun, step}
+use Rattle.protocol.specs.Good.{Good}
 
 -- the number of parties and the circuit "pass 1 and 3 to 7"
 pub record Accepts (O : Ops) (n : ℕ) (c : List ℕ) : Type 0 where

@@ -5,16 +5,16 @@ use mathlib.Core.Path.{_≡_}
 use mathlib.Core.Bool.{Bool, true, false}
 use mathlib.Core.List.{List}
 use lib.ListN.{length}
-use Rattle.field.specs.Ops.{Ops}
+use Rattle.algebra.specs.Ops.{Ops}
 use Rattle.circuit.specs.Verdict.{Accepted}
 use Rattle.circuit.specs.Gate.{gates}
 use Rattle.circuit.specs.Count.{prepSize}
-use Rattle.steps.specs.Scratch.{layout, scratchSize}
-use Rattle.joint.specs.Joint.{Joint, band, party}
-use Rattle.joint.specs.Run.{whole}
-use Rattle.joint.specs.Entry.{verdict, jointAnswer, jointScratch}
-use Rattle.joint.specs.Plain.{scores}
-use Rattle.joint.specs.Good.{Good}
+use Rattle.protocol.specs.Scratch.{layout, scratchSize}
+use Rattle.protocol.specs.Joint.{Joint, band, party}
+use Rattle.protocol.specs.Run.{whole}
+use Rattle.protocol.specs.JointEntry.{verdict, jointAnswer, jointScratch}
+use Rattle.protocol.specs.Plain.{scores}
+use Rattle.protocol.specs.Good.{Good}
 use Rattle.theorems.specs.Premises.{Accepts, InputsPass}
 use Rattle.theorems.specs.Matching.{plainly, rule}
 

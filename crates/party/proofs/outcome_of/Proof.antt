@@ -1,65 +1,50 @@
 -- `party::outcome_of` meets its contract: an aborted point is an abort, any other the next position.
 -- Assumes nothing.
 use mathlib.Core.Path.{_∙_}
-use Rattle.steps.specs.Position.{holding}
-use Rattle.steps.specs.Code.{pointOf, stageOf}
-use Rattle.party.specs.Code.{answerOf, leadsTo, leadsBy, positionOf}
+use Rattle.protocol.specs.Position.{holding}
+use Rattle.protocol.specs.Code.{pointOf, stageOf}
+use Rattle.protocol.specs.Code.{leadsTo, leadsBy}
+use Rattle.party.specs.Code.{answerOf, positionOf}
 use borrow.Author.Needs.{needs}
 use Rattle.party.proofs.outcome_of.Statement.{statement}
 use Rattle.party.proofs.outcome_of.Tie as tie
-use Rattle.party.proofs.outcome_of.Reads as reads
-use Rattle.party.proofs.outcome_of.Lts as lts
-use Rattle.party.proofs.keep_held.Reads as keep-held-reads
-use Rattle.party.proofs.released.Reads as released-reads
 
--- src/lib.rt:271:15
 keep-held-requires : tie.Need-keep-held-requires
 keep-held-requires c κs = search needs
 
--- src/lib.rt:274:27
 enum-told : tie.Need-enum-told
 enum-told c = search needs
 
--- src/lib.rt:275:27
 enum-told-2 : tie.Need-enum-told-2
 enum-told-2 c = search needs
 
--- src/lib.rt:275:27
 released-requires : tie.Need-released-requires
 released-requires c κs = search needs
 
--- src/lib.rt:276:30
 enum-told-3 : tie.Need-enum-told-3
 enum-told-3 c = search needs
 
--- src/lib.rt:276:30
 released-requires-2 : tie.Need-released-requires-2
 released-requires-2 c κs = search needs
 
--- src/lib.rt:277:28
 enum-told-4 : tie.Need-enum-told-4
 enum-told-4 c = search needs
 
--- src/lib.rt:277:28
 released-requires-3 : tie.Need-released-requires-3
 released-requires-3 c κs = search needs
 
--- src/lib.rt:264:1
 returns : tie.Need-returns
 unfolding answerOf leadsTo leadsBy pointOf stageOf positionOf holding
 returns c = rw (c .enum-told .given .1, c .before .before .keep-held .ensures)
 
--- src/lib.rt:264:1
 returns-2 : tie.Need-returns-2
 unfolding answerOf leadsTo leadsBy pointOf stageOf positionOf holding
 returns-2 c = c .released .ensures ∙ rw (c .before .enum-told2 .given .1, c .before .before .before .keep-held .ensures)
 
--- src/lib.rt:264:1
 returns-3 : tie.Need-returns-3
 unfolding answerOf leadsTo leadsBy pointOf stageOf positionOf holding
 returns-3 c = c .released2 .ensures ∙ rw (c .before .enum-told3 .given .1, c .before .before .before .keep-held .ensures)
 
--- src/lib.rt:264:1
 returns-4 : tie.Need-returns-4
 unfolding answerOf leadsTo leadsBy pointOf stageOf positionOf holding
 returns-4 c = c .released3 .ensures ∙ rw (c .before .enum-told4 .given .1, c .before .before .before .keep-held .ensures)

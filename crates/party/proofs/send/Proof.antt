@@ -1,51 +1,36 @@
 -- `party::send` meets its contract: what its questions accept, the step sends.
 -- Assumes nothing.
+use Rattle.field.specs.Words.{ops}
 use mathlib.Core.Path.{sym, ap, _∙_}
-use Rattle.steps.specs.Code.{stageOf}
+use Rattle.protocol.specs.Code.{stageOf}
 use Rattle.party.specs.Code.{answerOf, askedOf, positionOf}
-use Rattle.party.proofs.Entries.{send-refused}
+use Rattle.protocol.proofs.Entries.{send-refused}
 use Rattle.party.proofs.Halves.{sent-done}
 -- `party::send` meets its contract: what its questions accept, the step sends.
 -- Assumes nothing.
-use mathlib.Core.Path.{sym, ap, _∙_}
-use Rattle.steps.specs.Code.{stageOf}
-use Rattle.party.specs.Code.{answerOf, askedOf, positionOf}
-use Rattle.party.proofs.Entries.{send-refused}
-use Rattle.party.proofs.Halves.{sent-done}
 use borrow.Author.Needs.{needs}
 use Rattle.party.proofs.send.Statement.{statement}
 use Rattle.party.proofs.send.Tie as tie
-use Rattle.party.proofs.send.Reads as reads
-use Rattle.party.proofs.send.Lts as lts
-use Rattle.party.proofs.asking.ask_send.Reads as ask-send-reads
-use Rattle.steps.proofs.sending.send_step.Reads as send-step-reads
 
--- src/lib.rt:97:11
 ask-send-requires : tie.Need-ask-send-requires
 ask-send-requires c κs = search needs
 
--- src/lib.rt:98:26
 enum-known-number : tie.Need-enum-known-number
 enum-known-number c = search needs
 
--- src/lib.rt:99:25
 enum-known-y : tie.Need-enum-known-y
 enum-known-y c = search needs
 
--- src/lib.rt:100:17
 send-step-requires : tie.Need-send-step-requires
 send-step-requires c κs = (rw (c .before .before .y .given .1) at (c .before .before .before .before .ask-send .ensures .1)) .sends
 
--- src/lib.rt:81:1
 returns : tie.Need-returns
 unfolding answerOf askedOf
-returns c = send-refused _ _ _ _ _ (sym (c .before .before .before .ask-send .ensures .0) ∙ ap askedOf (c .before .number .given .1))
+returns c = send-refused ops _ _ _ _ _ (sym (c .before .before .before .ask-send .ensures .0) ∙ ap askedOf (c .before .number .given .1))
 
--- src/lib.rt:81:1
 same-length : tie.Need-same-length
 same-length c = search needs
 
--- src/lib.rt:81:1
 returns-2 : tie.Need-returns-2
 unfolding answerOf askedOf positionOf stageOf
 returns-2 c = sent-done _ _ _ _ _ _ _ _ (rw (c .before .before .before .before .before .y .given .1) at (c .before .before .before .before .before .before .before .ask-send .ensures .1)) (sym (c .before .before .before .before .before .before .before .ask-send .ensures .0) ∙ ap askedOf (c .before .before .before .before .before .y .given .1)) (c .before .before .send-step .ensures .0 .is) (c .before .before .send-step .ensures .1)

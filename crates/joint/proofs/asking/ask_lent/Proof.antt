@@ -4,7 +4,7 @@ use mathlib.Core.Path.{_∙_}
 use native.Mathlib.Omega.{arith}
 use borrow.Author.Needs.{needs}
 use Rattle.circuit.specs.Code.{verdictOf}
-use Rattle.party.proofs.Loops.{call-then, refused-then}
+use Rattle.circuit.proofs.Loops.{call-then, refused-then}
 use Rattle.joint.proofs.Measures.{preps-few, sizes-few, ins-are, outs-are, words-are, words-few, coefficients-are}
 use Rattle.joint.proofs.Accepting.{lent-asked}
 use Rattle.joint.proofs.asking.ask_lent.Statement.{statement}

@@ -6,7 +6,7 @@ use borrow.Author.Tests.{eq-eqb, ne-eqb, le-leb, lt-leb}
 use Rattle.circuit.proofs.Verdicts.{ask-yes, ask-no}
 use Rattle.circuit.proofs.Tests.{both-true}
 use Rattle.circuit.specs.Code.{verdictOf}
-use Rattle.party.proofs.Loops.{yes-then, no-then, call-then, refused-then}
+use Rattle.circuit.proofs.Loops.{yes-then, no-then, call-then, refused-then}
 use Rattle.joint.proofs.asking.ask_rooms.Statement.{statement}
 use Rattle.joint.proofs.asking.ask_rooms.Tie as tie
 

@@ -3,7 +3,7 @@
 use Prim.Native.Nat.{_-_}
 use native.Mathlib.Omega.{arith}
 use denote.Ref.{now}
-use Rattle.joint.proofs.Filling.{Filled, filled-start, filled-length, filled-fits, filled-part, filled-again, filled-done}
+use Rattle.protocol.proofs.Filling.{Filled, filled-start, filled-length, filled-fits, filled-part, filled-again, filled-done}
 use Rattle.joint.proofs.Cutting.{prep-end, cut-is, cut-long, cut-low, key-there, key-is, band-room}
 use Rattle.joint.proofs.ReceiveTurns.{inputLeft, input-each}
 use Rattle.joint.proofs.receiving.receive_inputs.Statement.{statement}

@@ -2,7 +2,7 @@
 -- Assumes nothing.
 use Prim.Native.Nat.{_-_}
 use native.Mathlib.Omega.{arith}
-use Rattle.joint.proofs.Filling.{Filled, filled-start, filled-length, filled-fits, filled-part, filled-again, filled-done}
+use Rattle.protocol.proofs.Filling.{Filled, filled-start, filled-length, filled-fits, filled-part, filled-again, filled-done}
 use Rattle.joint.proofs.Cutting.{band-room}
 use Rattle.joint.proofs.ReceiveTurns.{outputLeft, output-each}
 use Rattle.joint.proofs.receiving.receive_outputs.Statement.{statement}

@@ -2,8 +2,8 @@
 -- Assumes nothing.
 use mathlib.Core.Path.{ap}
 use borrow.Author.Needs.{needs}
-use Rattle.steps.specs.Code.{stageOf}
-use Rattle.joint.proofs.Dues.{receive-none, finished-none, aborted-none}
+use Rattle.protocol.specs.Code.{stageOf}
+use Rattle.protocol.proofs.Dues.{receive-none, finished-none, aborted-none}
 use Rattle.joint.proofs.rounds.due_at.Statement.{statement}
 use Rattle.joint.proofs.rounds.due_at.Tie as tie
 

@@ -1,9 +1,9 @@
 -- `joint::rounds::ending` meets its contract. One answer for each stage.
 -- Assumes nothing.
 use borrow.Author.Needs.{needs}
-use Rattle.steps.specs.Code.{stageOf}
+use Rattle.protocol.specs.Code.{stageOf}
 use Rattle.joint.specs.Code.{jointAnswerOf}
-use Rattle.joint.specs.Entry.{ended}
+use Rattle.protocol.specs.JointEntry.{ended}
 use Rattle.joint.proofs.rounds.ending.Statement.{statement}
 use Rattle.joint.proofs.rounds.ending.Tie as tie
 

@@ -1,11 +1,9 @@
--- `joint::rounds::origin` meets its contract. Nothing is counted, held, used, written or made yet.
+-- `joint::rounds::origin` meets its contract. Nothing is counted, used, written or made yet.
 -- Assumes nothing.
 use mathlib.Core.Path.{refl}
 use borrow.Author.Needs.{needs}
 use Rattle.circuit.specs.Code.{roundOf}
-use Rattle.steps.specs.Code.{pointOf, stageOf}
-use Rattle.party.specs.Ask.{mostParties}
-use Rattle.joint.proofs.Arrays.{zeros}
+use Rattle.protocol.specs.Code.{pointOf, stageOf}
 use Rattle.joint.proofs.rounds.origin.Statement.{statement}
 use Rattle.joint.proofs.rounds.origin.Tie as tie
 
@@ -17,7 +15,6 @@ unfolding pointOf stageOf roundOf
 returns c = record {
   point = refl;
   tallied = λ cs. c .no-tally .ensures cs 0;
-  held = zeros mostParties;
   used = refl;
   written = refl;
   released = refl;

@@ -5,22 +5,22 @@ use native.Mathlib.Omega.{arith}
 use lib.Seq.{length-take-le}
 use borrow.Author.Needs.{needs}
 use Rattle.circuit.proofs.Verdicts.{said-yes}
-use Rattle.steps.specs.Code.{slotOf}
+use Rattle.protocol.specs.Code.{slotOf}
 use Rattle.joint.proofs.Releasing.{entry-read, entry-zero, freed-none, freed-stopped, freed-one}
 use Rattle.joint.proofs.rounds.release.Statement.{statement}
 use Rattle.joint.proofs.rounds.release.Tie as tie
 
-is-release-requires : tie.Need-is-release-requires
-is-release-requires c κs = search needs
+releases-requires : tie.Need-releases-requires
+releases-requires c κs = search needs
 
 returns : tie.Need-returns
-returns c = freed-none _ _ _ _ _ _ _ (c .before .is-release .ensures) (c .if1 .taken)
+returns c = freed-none _ _ _ _ _ _ _ (c .before .releases .ensures) (c .if1 .taken)
 
 heard-sum-requires : tie.Need-heard-sum-requires
-heard-sum-requires c κs = (omega arith, omega (arith, c .before .before .before .before .before .before .pre .4 (said-yes (c .before .is-release .ensures) (c .if1 .left)) .0), c .before .before .before .before .before .before .pre .2)
+heard-sum-requires c κs = (omega arith, omega (arith, c .before .before .before .before .before .before .pre .4 (said-yes (c .before .releases .ensures) (c .if1 .left)) .0), c .before .before .before .before .before .before .pre .2)
 
 returns-2 : tie.Need-returns-2
-returns-2 c = freed-stopped _ _ _ _ _ _ _ (c .before .before .before .is-release .ensures) (c .before .before .if1 .left) (c .before .heard-sum .ensures .is) (c .if2 .taken)
+returns-2 c = freed-stopped _ _ _ _ _ _ _ (c .before .before .before .releases .ensures) (c .before .before .if1 .left) (c .before .heard-sum .ensures .is) (c .if2 .taken)
 
 slice-aggregate-read-slot : tie.Need-slice-aggregate-read-slot
 slice-aggregate-read-slot c = sym (length-take-le _ _ (c .before .before .before .before .before .before .before .before .before .pre .1))
@@ -33,7 +33,7 @@ mul-outputs : tie.Need-mul-outputs
 mul-outputs c = search needs
 
 slice-write-outputs : tie.Need-slice-write-outputs
-slice-write-outputs c = c .before .before .before .before .before .before .before .before .before .before .pre .4 (said-yes (c .before .before .before .before .before .is-release .ensures) (c .before .before .before .before .if1 .left)) .1
+slice-write-outputs c = c .before .before .before .before .before .before .before .before .before .before .pre .4 (said-yes (c .before .before .before .before .before .releases .ensures) (c .before .before .before .before .if1 .left)) .1
 
 add-result : tie.Need-add-result
 add-result c = search needs
@@ -43,13 +43,13 @@ same-length c = search needs
 
 returns-3 : tie.Need-returns-3
 unfolding slotOf
-returns-3 c = freed-one _ _ _ _ _ _ _ (c .before .before .before .before .before .is-release .ensures) (c .before .before .before .before .if1 .left) (c .before .before .before .heard-sum .ensures .is) (c .before .before .if2 .left) (c .before .before .before .before .before .before .before .before .before .before .pre .4 (said-yes (c .before .before .before .before .before .is-release .ensures) (c .before .before .before .before .if1 .left)) .1) (entry-read _ _ _ _ (c .before .before .before .before .before .before .before .before .before .before .pre .0 .lay) (c .read-slot .ensures))
+returns-3 c = freed-one _ _ _ _ _ _ _ (c .before .before .before .before .before .releases .ensures) (c .before .before .before .before .if1 .left) (c .before .before .before .heard-sum .ensures .is) (c .before .before .if2 .left) (c .before .before .before .before .before .before .before .before .before .before .pre .4 (said-yes (c .before .before .before .before .before .releases .ensures) (c .before .before .before .before .if1 .left)) .1) (entry-read _ _ _ _ (c .before .before .before .before .before .before .before .before .before .before .pre .0 .lay) (c .read-slot .ensures))
 
 pub release-spec : {M : Type 1} → statement M
 release-spec =
     tie.close
     (tie.spec
-    is-release-requires
+    releases-requires
     returns
     heard-sum-requires
     returns-2

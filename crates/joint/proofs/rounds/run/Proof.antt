@@ -4,19 +4,19 @@ use Prim.Native.Nat.{_-_, _*_}
 use mathlib.Core.Path.{sym, subst, _∙_}
 use native.Mathlib.Omega.{arith}
 use borrow.Author.Needs.{needs}
-use Rattle.field.specs.Prime.{prime}
+use Rattle.field.specs.Words.{ops}
 use Rattle.circuit.specs.Gate.{gates}
-use Rattle.joint.specs.Run.{mostRounds}
+use Rattle.protocol.specs.Run.{mostRounds}
 use Rattle.joint.specs.Code.{jointOf, IsDue, Placed}
 use Rattle.joint.proofs.Running.{Running, placed-start, running-start, rounds-left, running-turning, running-again, running-ended}
 use Rattle.joint.proofs.rounds.run.Statement.{statement}
 use Rattle.joint.proofs.rounds.run.Tie as tie
 
 abbrev Inv-loop : tie.InvT-loop
-Inv-loop f places₀ c preps inputs scratch₀ coefficients transcript₀ outputs₀ s₀ places scratch transcript outputs s = Placed (f .parties) c (s .point .gate) places × Running (jointOf (f .parties) c preps inputs coefficients) f scratch₀ transcript₀ outputs₀ s scratch transcript outputs
+Inv-loop f places₀ c preps inputs scratch₀ coefficients transcript₀ outputs₀ held₀ s₀ places scratch transcript outputs held s = Placed (f .parties) c (s .point .gate) places × Running (jointOf (f .parties) c preps inputs coefficients) f scratch₀ transcript₀ outputs₀ s held scratch transcript outputs
 
 abbrev μ-loop : tie.MeasureT-loop
-μ-loop f places₀ c preps inputs scratch₀ coefficients transcript₀ outputs₀ s₀ places scratch transcript outputs s = mostRounds prime (jointOf (f .parties) c preps inputs coefficients) * gates c - s .rounds
+μ-loop f places₀ c preps inputs scratch₀ coefficients transcript₀ outputs₀ held₀ s₀ places scratch transcript outputs held s = mostRounds ops (jointOf (f .parties) c preps inputs coefficients) * gates c - s .rounds
 
 origin-requires : tie.Need-origin-requires Inv-loop μ-loop
 origin-requires c κs = search needs
@@ -30,14 +30,17 @@ due-at-requires c κs = search needs
 enum-known-r : tie.Need-enum-known-r Inv-loop μ-loop
 enum-known-r c = search needs
 
+slice-aggregate-one-round : tie.Need-slice-aggregate-one-round Inv-loop μ-loop
+slice-aggregate-one-round c = sym (running-turning _ _ _ _ _ (c .before .before .before .before .before .before .before .before .before .before .before .before .before .before .before .before .before .pre .0) (c .before .before .before .before .before .before .before .loop .inv .1) _ (subst (IsDue _) (c .before .before .before .r .given .1) (c .before .before .before .before .before .due-at .ensures)) .going .eight)
+
 one-round-requires : tie.Need-one-round-requires Inv-loop μ-loop
-one-round-requires c κs = (running-turning _ _ _ _ _ (c .before .before .before .before .before .before .before .before .before .before .before .before .before .before .before .before .before .before .before .pre .0) (c .before .before .before .before .before .before .before .before .before .loop .inv .1) _ (subst (IsDue _) (c .before .before .before .before .before .r .given .1) (c .before .before .before .before .before .before .before .due-at .ensures)), c .before .before .before .before .before .before .before .before .before .loop .inv .0)
+one-round-requires c κs = (running-turning _ _ _ _ _ (c .before .before .before .before .before .before .before .before .before .before .before .before .before .before .before .before .before .before .before .before .pre .0) (c .before .before .before .before .before .before .before .before .before .before .loop .inv .1) _ (subst (IsDue _) (c .before .before .before .before .before .before .r .given .1) (c .before .before .before .before .before .before .before .before .due-at .ensures)), c .before .before .before .before .before .before .before .before .before .before .loop .inv .0)
 
 loop-less : tie.Need-loop-less Inv-loop μ-loop
-loop-less c = omega (arith, c .before .before .before .before .before .before .before .before .one-round .ensures .0 .rounds, rounds-left _ _ _ _ _ (c .before .before .before .before .before .before .before .before .before .before .before .before .before .before .before .before .before .before .before .before .before .before .before .before .before .before .before .before .pre .0) (c .before .before .before .before .before .before .before .before .before .before .before .before .before .before .before .before .before .before .loop .inv .1) _ (subst (IsDue _) (c .before .before .before .before .before .before .before .before .before .before .before .before .before .before .r .given .1) (c .before .before .before .before .before .before .before .before .before .before .before .before .before .before .before .before .due-at .ensures)))
+loop-less c = omega (arith, c .before .before .before .before .before .before .before .before .before .one-round .ensures .0 .rounds, rounds-left _ _ _ _ _ (c .before .before .before .before .before .before .before .before .before .before .before .before .before .before .before .before .before .before .before .before .before .before .before .before .before .before .before .before .before .before .pre .0) (c .before .before .before .before .before .before .before .before .before .before .before .before .before .before .before .before .before .before .before .before .loop .inv .1) _ (subst (IsDue _) (c .before .before .before .before .before .before .before .before .before .before .before .before .before .before .before .before .r .given .1) (c .before .before .before .before .before .before .before .before .before .before .before .before .before .before .before .before .before .before .due-at .ensures)))
 
 loop-again : tie.Need-loop-again Inv-loop μ-loop
-loop-again c = (c .before .before .before .before .before .before .before .before .one-round .ensures .1, running-again _ _ _ _ _ (c .before .before .before .before .before .before .before .before .before .before .before .before .before .before .before .before .before .before .before .before .before .before .before .before .before .before .before .before .pre .0) (c .before .before .before .before .before .before .before .before .before .before .before .before .before .before .before .before .before .before .loop .inv .1) _ (subst (IsDue _) (c .before .before .before .before .before .before .before .before .before .before .before .before .before .before .r .given .1) (c .before .before .before .before .before .before .before .before .before .before .before .before .before .before .before .before .due-at .ensures)) (c .before .before .before .before .before .before .before .before .one-round .ensures .0))
+loop-again c = (c .before .before .before .before .before .before .before .before .before .one-round .ensures .1, running-again _ _ _ _ _ (c .before .before .before .before .before .before .before .before .before .before .before .before .before .before .before .before .before .before .before .before .before .before .before .before .before .before .before .before .before .before .pre .0) (c .before .before .before .before .before .before .before .before .before .before .before .before .before .before .before .before .before .before .before .before .loop .inv .1) _ (subst (IsDue _) (c .before .before .before .before .before .before .before .before .before .before .before .before .before .before .before .before .r .given .1) (c .before .before .before .before .before .before .before .before .before .before .before .before .before .before .before .before .before .before .due-at .ensures)) (c .before .before .before .before .before .before .before .before .before .one-round .ensures .0))
 
 enum-told : tie.Need-enum-told Inv-loop μ-loop
 enum-told c = search needs
@@ -70,6 +73,7 @@ run-spec =
     loop-holds
     due-at-requires
     enum-known-r
+    slice-aggregate-one-round
     one-round-requires
     loop-less
     loop-again

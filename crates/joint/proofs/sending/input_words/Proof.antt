@@ -5,18 +5,18 @@ use mathlib.Core.Path.{refl, ap}
 use mathlib.Core.List.{[], _∷_}
 use native.Mathlib.Omega.{arith}
 use lib.ListN.{getD}
-use Rattle.field.specs.Prime.{prime}
-use Rattle.steps.specs.Send.{inputWord}
+use Rattle.field.specs.Words.{ops}
+use Rattle.protocol.specs.Send.{inputWord}
 use Rattle.joint.specs.Code.{prepFrom}
 use Rattle.joint.proofs.Cutting.{prep-end, cut-is, cut-long, cut-low}
-use Rattle.joint.proofs.Filling.{Filled, filled-start}
-use Rattle.joint.proofs.Gathering.{put-length, put-more, put-all}
+use Rattle.protocol.proofs.Filling.{Filled, filled-start}
+use Rattle.protocol.proofs.Gathering.{put-length, put-more, put-all}
 use Rattle.joint.proofs.sending.input_words.Statement.{statement}
 use Rattle.joint.proofs.sending.input_words.Tie as tie
 
 abbrev Inv-loop : tie.InvT-loop
 Inv-loop f at owner places preps inputs out₀ i₀ out i =
-    Filled (f .parties) 1 (λ m. inputWord prime m owner (prepFrom f preps at m) (getD inputs (getD places m 0) 0) ∷ []) out₀ out i i
+    Filled (f .parties) 1 (λ m. inputWord ops m owner (prepFrom f preps at m) (getD inputs (getD places m 0) 0) ∷ []) out₀ out i i
 
 abbrev μ-loop : tie.MeasureT-loop
 μ-loop f at owner places preps inputs out₀ i₀ out i = f .parties - i

@@ -4,13 +4,13 @@ use Prim.Native.Nat.{ℕ, _-_}
 use mathlib.Core.Path.{refl, ap}
 use mathlib.Core.List.{[], _∷_}
 use native.Mathlib.Omega.{arith}
-use Rattle.steps.specs.Scratch.{wire}
-use Rattle.steps.specs.Code.{layoutOf}
-use Rattle.joint.specs.Joint.{band}
+use Rattle.protocol.specs.Scratch.{wire}
+use Rattle.protocol.specs.Code.{layoutOf}
+use Rattle.protocol.specs.Joint.{band}
 use Rattle.joint.proofs.Cutting.{band-fits, band-is, band-room}
 use Rattle.joint.proofs.SendTurns.{share-of}
-use Rattle.joint.proofs.Filling.{Filled, filled-start}
-use Rattle.joint.proofs.Gathering.{put-length, put-more, put-all}
+use Rattle.protocol.proofs.Filling.{Filled, filled-start}
+use Rattle.protocol.proofs.Gathering.{put-length, put-more, put-all}
 use Rattle.joint.proofs.sending.output_words.Statement.{statement}
 use Rattle.joint.proofs.sending.output_words.Tie as tie
 

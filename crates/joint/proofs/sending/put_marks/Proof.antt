@@ -4,9 +4,9 @@ use Prim.Native.Nat.{_-_}
 use mathlib.Core.Path.{refl}
 use mathlib.Core.List.{[], _∷_}
 use native.Mathlib.Omega.{arith}
-use Rattle.steps.specs.Send.{mark}
-use Rattle.joint.proofs.Filling.{Filled, filled-start}
-use Rattle.joint.proofs.Gathering.{put-length, put-more, put-all}
+use Rattle.protocol.specs.Send.{mark}
+use Rattle.protocol.proofs.Filling.{Filled, filled-start}
+use Rattle.protocol.proofs.Gathering.{put-length, put-more, put-all}
 use Rattle.joint.proofs.sending.put_marks.Statement.{statement}
 use Rattle.joint.proofs.sending.put_marks.Tie as tie
 

@@ -5,15 +5,13 @@ use mathlib.Core.Logic.{⊎-elim}
 use borrow.Author.Needs.{needs}
 use native.Mathlib.Omega.{arith}
 use lib.ListN.{length}
-use Rattle.field.specs.Prime.{p}
-use Rattle.party.proofs.Loops.{Sifted, sifted-starts, sifted-yes, sifted-no, sifted-ends}
+use Rattle.field.specs.Words.{size}
+use Rattle.circuit.proofs.Loops.{Sifted, sifted-starts, sifted-yes, sifted-no, sifted-ends}
 use Rattle.party.proofs.asking.all_elements.Statement.{statement}
 use Rattle.party.proofs.asking.all_elements.Tie as tie
-use Rattle.party.proofs.asking.all_elements.Reads as reads
-use Rattle.party.proofs.asking.all_elements.Lts as lts
 
 abbrev Inv-loop : tie.InvT-loop
-Inv-loop xs all₀ k₀ all k = Sifted p xs k all
+Inv-loop xs all₀ k₀ all k = Sifted size xs k all
 
 abbrev μ-loop : tie.MeasureT-loop
 μ-loop xs all₀ k₀ all k = length xs - k

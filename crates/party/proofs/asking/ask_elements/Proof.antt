@@ -8,19 +8,16 @@ use borrow.Author.Tests.{lt-ltb, le-ltb}
 use native.Mathlib.Omega.{arith}
 use lib.ListN.{length, getD}
 use lib.Dec.{ltb}
-use Rattle.field.specs.Prime.{p}
+use Rattle.field.specs.Words.{size}
 use Rattle.circuit.specs.Verdict.{ask, elements}
 use Rattle.circuit.specs.Code.{verdictOf}
 use Rattle.circuit.proofs.Verdicts.{ask-yes, ask-no, each-all}
-use Rattle.party.proofs.Loops.{Asking, asking-starts, asking-goes-on, asking-refuses, asking-ends}
+use Rattle.circuit.proofs.Loops.{Asking, asking-starts, asking-goes-on, asking-refuses, asking-ends}
 use Rattle.party.proofs.asking.ask_elements.Statement.{statement}
 use Rattle.party.proofs.asking.ask_elements.Tie as tie
-use Rattle.party.proofs.asking.ask_elements.Reads as reads
-use Rattle.party.proofs.asking.ask_elements.Lts as lts
-use Rattle.party.proofs.asking.all_elements.Reads as all-elements-reads
 
 abbrev Inv-loop : tie.InvT-loop
-Inv-loop number xs k₀ k = Asking (λ k. ask number k (ltb (getD xs k 0) p)) (length xs) k
+Inv-loop number xs k₀ k = Asking (λ k. ask number k (ltb (getD xs k 0) size)) (length xs) k
 
 abbrev μ-loop : tie.MeasureT-loop
 μ-loop number xs k₀ k = length xs - k

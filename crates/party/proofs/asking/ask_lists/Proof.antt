@@ -5,27 +5,20 @@ use borrow.Author.Needs.{needs}
 use borrow.Author.Tests.{eq-eqb, ne-eqb, le-leb, lt-leb}
 use Rattle.circuit.specs.Code.{verdictOf}
 use Rattle.circuit.proofs.Verdicts.{ask-yes, ask-no}
-use Rattle.party.proofs.Loops.{yes-then, no-then, call-then, refused-then}
+use Rattle.circuit.proofs.Loops.{yes-then, no-then, call-then, refused-then}
 use Rattle.party.proofs.asking.ask_lists.Statement.{statement}
 use Rattle.party.proofs.asking.ask_lists.Tie as tie
-use Rattle.party.proofs.asking.ask_lists.Reads as reads
-use Rattle.party.proofs.asking.ask_lists.Lts as lts
-use Rattle.party.proofs.asking.ask_elements.Reads as ask-elements-reads
 
--- src/asking.rt:65:9
 returns : tie.Need-returns
 unfolding verdictOf
 returns c = no-then 8 0 _ (ne-eqb _ _ (c .if1 .taken))
 
--- src/asking.rt:67:11
 ask-elements-requires : tie.Need-ask-elements-requires
 ask-elements-requires c κs = search needs
 
--- src/asking.rt:68:28
 enum-known-number : tie.Need-enum-known-number
 enum-known-number c = search needs
 
--- src/asking.rt:69:13
 returns-2 : tie.Need-returns-2
 unfolding verdictOf
 returns-2 c = yes-then 8 0 _ (eq-eqb _ _ (c .before .before .before .before .if1 .left)) (refused-then _ _ (c .before .before .before .ask-elements .ensures) (c .before .number .given .1))
@@ -33,20 +26,16 @@ returns-2 c = yes-then 8 0 _ (eq-eqb _ _ (c .before .before .before .before .if1
 enum-told : tie.Need-enum-told
 enum-told c = search needs
 
--- src/asking.rt:74:9
 returns-3 : tie.Need-returns-3
 unfolding verdictOf
 returns-3 c = yes-then 8 0 _ (eq-eqb _ _ (c .before .before .before .before .if1 .left)) (call-then _ _ (c .before .before .before .ask-elements .ensures) (c .before .enum-told .given .1) (no-then 10 0 _ (ne-eqb _ _ (c .if2 .taken))))
 
--- src/asking.rt:76:11
 ask-elements-requires-2 : tie.Need-ask-elements-requires-2
 ask-elements-requires-2 c κs = search needs
 
--- src/asking.rt:77:28
 enum-known-number-2 : tie.Need-enum-known-number-2
 enum-known-number-2 c = search needs
 
--- src/asking.rt:78:13
 returns-4 : tie.Need-returns-4
 unfolding verdictOf
 returns-4 c = yes-then 8 0 _ (eq-eqb _ _ (c .before .before .before .before .before .before .before .before .if1 .left)) (call-then _ _ (c .before .before .before .before .before .before .before .ask-elements .ensures) (c .before .before .before .before .before .enum-told .given .1) (yes-then 10 0 _ (eq-eqb _ _ (c .before .before .before .before .if2 .left)) (refused-then _ _ (c .before .before .before .ask-elements2 .ensures) (c .before .number2 .given .1))))
@@ -54,12 +43,10 @@ returns-4 c = yes-then 8 0 _ (eq-eqb _ _ (c .before .before .before .before .bef
 enum-told-2 : tie.Need-enum-told-2
 enum-told-2 c = search needs
 
--- src/asking.rt:83:9
 returns-5 : tie.Need-returns-5
 unfolding verdictOf
 returns-5 c = yes-then 8 0 _ (eq-eqb _ _ (c .before .before .before .before .before .before .before .before .if1 .left)) (call-then _ _ (c .before .before .before .before .before .before .before .ask-elements .ensures) (c .before .before .before .before .before .enum-told .given .1) (yes-then 10 0 _ (eq-eqb _ _ (c .before .before .before .before .if2 .left)) (call-then _ _ (c .before .before .before .ask-elements2 .ensures) (c .before .enum-told2 .given .1) (sym (ask-no 12 0 (lt-leb _ _ (c .if3 .taken)))))))
 
--- src/asking.rt:61:1
 returns-6 : tie.Need-returns-6
 unfolding verdictOf
 returns-6 c = yes-then 8 0 _ (eq-eqb _ _ (c .before .before .before .before .before .before .before .before .if1 .left)) (call-then _ _ (c .before .before .before .before .before .before .before .ask-elements .ensures) (c .before .before .before .before .before .enum-told .given .1) (yes-then 10 0 _ (eq-eqb _ _ (c .before .before .before .before .if2 .left)) (call-then _ _ (c .before .before .before .ask-elements2 .ensures) (c .before .enum-told2 .given .1) (sym (ask-yes 12 0 (le-leb _ _ (c .if3 .left)))))))

@@ -8,13 +8,11 @@ use lib.ListN.{length, getD}
 use lib.Dec.{eqb}
 use Rattle.circuit.specs.Verdict.{ask}
 use Rattle.circuit.specs.Code.{verdictOf}
-use Rattle.steps.specs.Send.{mark}
+use Rattle.protocol.specs.Send.{mark}
 use Rattle.circuit.proofs.Verdicts.{ask-yes, ask-no}
-use Rattle.party.proofs.Loops.{Asking, asking-starts, asking-goes-on, asking-refuses, asking-ends}
+use Rattle.circuit.proofs.Loops.{Asking, asking-starts, asking-goes-on, asking-refuses, asking-ends}
 use Rattle.party.proofs.asking.ask_marks.Statement.{statement}
 use Rattle.party.proofs.asking.ask_marks.Tie as tie
-use Rattle.party.proofs.asking.ask_marks.Reads as reads
-use Rattle.party.proofs.asking.ask_marks.Lts as lts
 
 abbrev Inv-loop : tie.InvT-loop
 Inv-loop heard k₀ k = Asking (λ k. ask 21 k (eqb (getD heard k 0) mark)) (length heard) k

@@ -3,7 +3,7 @@
 use borrow.Author.Tests.{le-leb, lt-leb}
 use Rattle.circuit.specs.Verdict.{ask}
 use Rattle.circuit.specs.Code.{verdictOf}
-use Rattle.party.specs.Ask.{askParties}
+use Rattle.protocol.specs.Ask.{askParties}
 use Rattle.party.proofs.asking.ask_parties.Statement.{statement}
 use Rattle.party.proofs.asking.ask_parties.Tie as tie
 

@@ -2,24 +2,17 @@
 -- Assumes nothing.
 use borrow.Author.Tests.{lt-ltb, le-ltb}
 use Rattle.circuit.specs.Code.{verdictOf}
-use Rattle.party.proofs.Loops.{yes-then, no-then, call-then, refused-then}
+use Rattle.circuit.proofs.Loops.{yes-then, no-then, call-then, refused-then}
 use borrow.Author.Needs.{needs}
 use Rattle.party.proofs.asking.ask_party.Statement.{statement}
 use Rattle.party.proofs.asking.ask_party.Tie as tie
-use Rattle.party.proofs.asking.ask_party.Reads as reads
-use Rattle.party.proofs.asking.ask_party.Lts as lts
-use Rattle.party.proofs.asking.ask_circuit.Reads as ask-circuit-reads
-use Rattle.party.proofs.asking.ask_parties.Reads as ask-parties-reads
 
--- src/asking.rt:106:11
 ask-parties-requires : tie.Need-ask-parties-requires
 ask-parties-requires c κs = search needs
 
--- src/asking.rt:107:28
 enum-known-number : tie.Need-enum-known-number
 enum-known-number c = search needs
 
--- src/asking.rt:108:13
 returns : tie.Need-returns
 unfolding verdictOf
 returns c = refused-then _ _ (c .before .before .before .ask-parties .ensures) (c .before .number .given .1)
@@ -27,16 +20,13 @@ returns c = refused-then _ _ (c .before .before .before .ask-parties .ensures) (
 enum-told : tie.Need-enum-told
 enum-told c = search needs
 
--- src/asking.rt:113:9
 returns-2 : tie.Need-returns-2
 unfolding verdictOf
 returns-2 c = call-then _ _ (c .before .before .before .ask-parties .ensures) (c .before .enum-told .given .1) (no-then 2 0 _ (le-ltb _ _ (c .if1 .taken)))
 
--- src/asking.rt:115:5
 ask-circuit-requires : tie.Need-ask-circuit-requires
 ask-circuit-requires c κs = search needs
 
--- src/asking.rt:103:1
 returns-3 : tie.Need-returns-3
 unfolding verdictOf
 returns-3 c = call-then _ _ (c .before .before .before .before .ask-parties .ensures) (c .before .before .enum-told .given .1) (yes-then 2 0 _ (lt-ltb _ _ (c .before .if1 .left)) (c .ask-circuit .ensures))

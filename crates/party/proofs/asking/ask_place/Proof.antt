@@ -7,38 +7,27 @@ use Rattle.party.proofs.Halves.{lent-refuses, place-refuses, place-acce
 use borrow.Author.Needs.{needs}
 use Rattle.party.proofs.asking.ask_place.Statement.{statement}
 use Rattle.party.proofs.asking.ask_place.Tie as tie
-use Rattle.party.proofs.asking.ask_place.Reads as reads
-use Rattle.party.proofs.asking.ask_place.Lts as lts
-use Rattle.party.proofs.asking.ask_lent.Reads as ask-lent-reads
-use Rattle.party.proofs.asking.can_occur.Reads as can-occur-reads
 
--- src/asking.rt:470:11
 ask-lent-requires : tie.Need-ask-lent-requires
 ask-lent-requires c κs = search needs
 
--- src/asking.rt:471:25
 enum-known-number : tie.Need-enum-known-number
 enum-known-number c = search needs
 
--- src/asking.rt:472:24
 enum-known-y : tie.Need-enum-known-y
 enum-known-y c = search needs
 
--- src/asking.rt:473:17
 can-occur-requires : tie.Need-can-occur-requires
 can-occur-requires c κs = can-asks _ _ _ _ _ (lent-to _ _ _ (c .before .before .before .ask-lent .ensures .0) (c .before .before .before .ask-lent .ensures .1) (c .before .y .given .1))
 
--- src/asking.rt:474:17
 returns : tie.Need-returns
 unfolding lentOf
 returns c = (place-refuses _ _ _ ((lent-to _ _ _ (c .before .before .before .before .before .ask-lent .ensures .0) (c .before .before .before .before .before .ask-lent .ensures .1) (c .before .before .before .y .given .1)) .accepted) (sym (c .before .can-occur .ensures) ∙ not-true _ (c .if1 .taken)), tt)
 
--- src/asking.rt:456:1
 returns-2 : tie.Need-returns-2
 unfolding lentOf
 returns-2 c = (lent-refuses _ _ _ (sym (c .before .before .before .ask-lent .ensures .0) ∙ ap lentOf (c .before .number .given .1)), tt)
 
--- src/asking.rt:456:1
 returns-3 : tie.Need-returns-3
 unfolding lentOf
 returns-3 c =

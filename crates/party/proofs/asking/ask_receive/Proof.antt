@@ -2,74 +2,58 @@
 -- Assumes nothing.
 use mathlib.Core.Path.{sym, ap, _∙_}
 use Rattle.circuit.specs.Code.{verdictOf}
-use Rattle.steps.specs.Position.{whenReceiving}
-use Rattle.steps.specs.Code.{stageOf}
-use Rattle.party.specs.Ask.{askReceive}
+use Rattle.protocol.specs.Position.{whenReceiving}
+use Rattle.protocol.specs.Code.{stageOf}
+use Rattle.protocol.specs.Ask.{askReceive}
 use Rattle.party.specs.Code.{lentOf, askedOf, positionOf}
-use Rattle.party.proofs.Halves.{placed-refuses, half-decides, round-at, round-asks, few-parties, receive-asked, receivable}
+use Rattle.protocol.proofs.Entries.{half-decides}
+use Rattle.party.proofs.Halves.{placed-refuses, round-at, round-asks, few-parties, receive-asked, receivable}
 use borrow.Author.Needs.{needs}
 use Rattle.party.proofs.asking.ask_receive.Statement.{statement}
 use Rattle.party.proofs.asking.ask_receive.Tie as tie
-use Rattle.party.proofs.asking.ask_receive.Reads as reads
-use Rattle.party.proofs.asking.ask_receive.Lts as lts
-use Rattle.party.proofs.asking.ask_place.Reads as ask-place-reads
-use Rattle.party.proofs.asking.ask_receive_round.Reads as ask-receive-round-reads
 
--- src/asking.rt:545:11
 ask-place-requires : tie.Need-ask-place-requires
 ask-place-requires c κs = search needs
 
--- src/asking.rt:546:25
 enum-known-number : tie.Need-enum-known-number
 enum-known-number c = search needs
 
--- src/asking.rt:547:24
 enum-known-y : tie.Need-enum-known-y
 enum-known-y c = search needs
 
--- src/asking.rt:550:32
 enum-known-stage : tie.Need-enum-known-stage
 enum-known-stage c = search needs
 
--- src/asking.rt:550:44
 ask-receive-round-requires : tie.Need-ask-receive-round-requires
 ask-receive-round-requires c κs =
     let place = round-at _ _ _ (c .before .before .before .before .before .before .ask-place .ensures .1) (c .before .before .before .before .y .given .1) in
     (round-asks _ _ _ _ _ place _, few-parties _ _ _ _ _ (place .lent))
 
--- src/asking.rt:551:40
 enum-known-number-2 : tie.Need-enum-known-number-2
 enum-known-number-2 c = search needs
 
--- src/asking.rt:552:42
 enum-told : tie.Need-enum-told
 enum-told c = search needs
 
--- src/asking.rt:554:35
 enum-told-2 : tie.Need-enum-told-2
 enum-told-2 c = search needs
 
--- src/asking.rt:558:36
 enum-told-3 : tie.Need-enum-told-3
 enum-told-3 c = search needs
 
--- src/asking.rt:562:35
 enum-told-4 : tie.Need-enum-told-4
 enum-told-4 c = search needs
 
--- src/asking.rt:529:1
 returns : tie.Need-returns
 unfolding lentOf askedOf askReceive
 returns c = (placed-refuses _ _ _ _ (sym (c .before .before .before .ask-place .ensures .0) ∙ ap lentOf (c .before .number .given .1)), tt)
 
--- src/asking.rt:529:1
 returns-2 : tie.Need-returns-2
 unfolding verdictOf askedOf stageOf
 returns-2 c =
     let place = round-at _ _ _ (c .before .before .before .before .before .before .before .before .before .before .ask-place .ensures .1) (c .before .before .before .before .before .before .before .before .y .given .1) in
     (receive-asked _ _ _ _ _ place _ (ap stageOf (c .before .before .before .before .before .stage .given .1)) _ (sym (ap verdictOf (c .before .number2 .given .1)) ∙ c .before .before .before .ask-receive-round .ensures), tt)
 
--- src/asking.rt:529:1
 returns-3 : tie.Need-returns-3
 unfolding verdictOf askedOf stageOf
 returns-3 c =
@@ -80,17 +64,14 @@ returns-3 c =
       receivable _ _ _ _ _ place _ stage _ (sym (c .before .before .ask-receive-round .ensures) ∙ told),
     )
 
--- src/asking.rt:529:1
 returns-4 : tie.Need-returns-4
 unfolding askedOf askReceive positionOf stageOf whenReceiving
 returns-4 c = let place = round-at _ _ _ (c .before .before .before .before .before .ask-place .ensures .1) (c .before .before .before .y .given .1) in (half-decides _ _ _ _ _ (place .lent .accepted) (place .can) (rw (c .enum-told2 .given .1)), tt)
 
--- src/asking.rt:529:1
 returns-5 : tie.Need-returns-5
 unfolding askedOf askReceive positionOf stageOf whenReceiving
 returns-5 c = let place = round-at _ _ _ (c .before .before .before .before .before .ask-place .ensures .1) (c .before .before .before .y .given .1) in (half-decides _ _ _ _ _ (place .lent .accepted) (place .can) (rw (c .enum-told3 .given .1)), tt)
 
--- src/asking.rt:529:1
 returns-6 : tie.Need-returns-6
 unfolding askedOf askReceive positionOf stageOf whenReceiving
 returns-6 c = let place = round-at _ _ _ (c .before .before .before .before .before .ask-place .ensures .1) (c .before .before .before .y .given .1) in (half-decides _ _ _ _ _ (place .lent .accepted) (place .can) (rw (c .enum-told4 .given .1)), tt)

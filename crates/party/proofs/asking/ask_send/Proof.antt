@@ -2,72 +2,56 @@
 -- Assumes nothing.
 use mathlib.Core.Path.{sym, ap, _∙_}
 use Rattle.circuit.specs.Code.{verdictOf}
-use Rattle.steps.specs.Position.{whenSending}
-use Rattle.steps.specs.Code.{stageOf}
-use Rattle.party.specs.Ask.{askSend}
+use Rattle.protocol.specs.Position.{whenSending}
+use Rattle.protocol.specs.Code.{stageOf}
+use Rattle.protocol.specs.Ask.{askSend}
 use Rattle.party.specs.Code.{lentOf, askedOf, positionOf}
-use Rattle.party.proofs.Halves.{placed-refuses, half-decides, round-at, round-asks, send-asked, sendable}
+use Rattle.protocol.proofs.Entries.{half-decides}
+use Rattle.party.proofs.Halves.{placed-refuses, round-at, round-asks, send-asked, sendable}
 use borrow.Author.Needs.{needs}
 use Rattle.party.proofs.asking.ask_send.Statement.{statement}
 use Rattle.party.proofs.asking.ask_send.Tie as tie
-use Rattle.party.proofs.asking.ask_send.Reads as reads
-use Rattle.party.proofs.asking.ask_send.Lts as lts
-use Rattle.party.proofs.asking.ask_place.Reads as ask-place-reads
-use Rattle.party.proofs.asking.ask_send_round.Reads as ask-send-round-reads
 
--- src/asking.rt:502:11
 ask-place-requires : tie.Need-ask-place-requires
 ask-place-requires c κs = search needs
 
--- src/asking.rt:503:25
 enum-known-number : tie.Need-enum-known-number
 enum-known-number c = search needs
 
--- src/asking.rt:504:24
 enum-known-y : tie.Need-enum-known-y
 enum-known-y c = search needs
 
--- src/asking.rt:507:29
 enum-known-stage : tie.Need-enum-known-stage
 enum-known-stage c = search needs
 
--- src/asking.rt:507:41
 ask-send-round-requires : tie.Need-ask-send-round-requires
 ask-send-round-requires c κs = round-asks _ _ _ _ _ (round-at _ _ _ (c .before .before .before .before .before .before .ask-place .ensures .1) (c .before .before .before .before .y .given .1)) _
 
--- src/asking.rt:508:40
 enum-known-number-2 : tie.Need-enum-known-number-2
 enum-known-number-2 c = search needs
 
--- src/asking.rt:509:42
 enum-told : tie.Need-enum-told
 enum-told c = search needs
 
--- src/asking.rt:511:38
 enum-told-2 : tie.Need-enum-told-2
 enum-told-2 c = search needs
 
--- src/asking.rt:515:36
 enum-told-3 : tie.Need-enum-told-3
 enum-told-3 c = search needs
 
--- src/asking.rt:519:35
 enum-told-4 : tie.Need-enum-told-4
 enum-told-4 c = search needs
 
--- src/asking.rt:485:1
 returns : tie.Need-returns
 unfolding lentOf askedOf askSend
 returns c = (placed-refuses _ _ _ _ (sym (c .before .before .before .ask-place .ensures .0) ∙ ap lentOf (c .before .number .given .1)), tt)
 
--- src/asking.rt:485:1
 returns-2 : tie.Need-returns-2
 unfolding verdictOf askedOf stageOf
 returns-2 c =
     let place = round-at _ _ _ (c .before .before .before .before .before .before .before .before .before .before .ask-place .ensures .1) (c .before .before .before .before .before .before .before .before .y .given .1) in
     (send-asked _ _ _ _ _ place _ (ap stageOf (c .before .before .before .before .before .stage .given .1)) _ _ (sym (ap verdictOf (c .before .number2 .given .1)) ∙ c .before .before .before .ask-send-round .ensures), tt)
 
--- src/asking.rt:485:1
 returns-3 : tie.Need-returns-3
 unfolding verdictOf askedOf stageOf
 returns-3 c =
@@ -78,17 +62,14 @@ returns-3 c =
       sendable _ _ _ _ _ place _ stage _ _ (sym (c .before .before .ask-send-round .ensures) ∙ told),
     )
 
--- src/asking.rt:485:1
 returns-4 : tie.Need-returns-4
 unfolding askedOf askSend positionOf stageOf whenSending
 returns-4 c = let place = round-at _ _ _ (c .before .before .before .before .before .ask-place .ensures .1) (c .before .before .before .y .given .1) in (half-decides _ _ _ _ _ (place .lent .accepted) (place .can) (rw (c .enum-told2 .given .1)), tt)
 
--- src/asking.rt:485:1
 returns-5 : tie.Need-returns-5
 unfolding askedOf askSend positionOf stageOf whenSending
 returns-5 c = let place = round-at _ _ _ (c .before .before .before .before .before .ask-place .ensures .1) (c .before .before .before .y .given .1) in (half-decides _ _ _ _ _ (place .lent .accepted) (place .can) (rw (c .enum-told3 .given .1)), tt)
 
--- src/asking.rt:485:1
 returns-6 : tie.Need-returns-6
 unfolding askedOf askSend positionOf stageOf whenSending
 returns-6 c = let place = round-at _ _ _ (c .before .before .before .before .before .ask-place .ensures .1) (c .before .before .before .y .given .1) in (half-decides _ _ _ _ _ (place .lent .accepted) (place .can) (rw (c .enum-told4 .given .1)), tt)

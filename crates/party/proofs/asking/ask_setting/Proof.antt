@@ -2,7 +2,7 @@
 -- Assumes nothing.
 use borrow.Author.Needs.{needs}
 use Rattle.circuit.specs.Code.{verdictOf}
-use Rattle.party.proofs.Loops.{call-then, refused-then}
+use Rattle.circuit.proofs.Loops.{call-then, refused-then}
 use Rattle.party.proofs.asking.ask_setting.Statement.{statement}
 use Rattle.party.proofs.asking.ask_setting.Tie as tie
 

@@ -3,18 +3,13 @@
 use mathlib.Core.Path.{sym, ap₂, _∙_}
 use native.Mathlib.Omega.{arith}
 use Rattle.circuit.specs.Code.{verdictOf}
-use Rattle.steps.specs.Scratch.{offset, read}
+use Rattle.protocol.specs.Scratch.{offset, read}
 use Rattle.party.specs.Code.{sortOf}
-use Rattle.steps.proofs.Slots.{slot-fits}
-use Rattle.party.proofs.SlotQuestions.{unwanted, fine, too-large}
+use Rattle.protocol.proofs.Slots.{slot-fits}
+use Rattle.protocol.proofs.SlotQuestions.{unwanted, fine, too-large}
 use borrow.Author.Needs.{needs}
-use Rattle.steps.proofs.scratch.offset_of.Reads as offset-of-reads
 use Rattle.party.proofs.asking.ask_slot.Statement.{statement}
 use Rattle.party.proofs.asking.ask_slot.Tie as tie
-use Rattle.party.proofs.asking.ask_slot.Reads as reads
-use Rattle.party.proofs.asking.ask_slot.Lts as lts
-use Rattle.party.proofs.asking.is_wanted.Reads as is-wanted-reads
-use Rattle.party.proofs.asking.slot_at.Reads as slot-at-reads
 
 slot-at-requires : tie.Need-slot-at-requires
 slot-at-requires c κs = search needs
@@ -36,7 +31,7 @@ shared-slice-read-if1 c =
 
 returns : tie.Need-returns
 unfolding verdictOf read
-returns c = fine _ _ _ _ (rw (c .before .before .offset-of .ensures ∙ ap₂ offset (c .before .before .before .before .before .before .pre .0 .lay) (c .before .before .before .slot-at .ensures)) at (c .if1 .taken))
+returns c = fine _ _ _ _ _ (rw (c .before .before .offset-of .ensures ∙ ap₂ offset (c .before .before .before .before .before .before .pre .0 .lay) (c .before .before .before .slot-at .ensures)) at (c .if1 .taken))
 
 is-wanted-requires : tie.Need-is-wanted-requires
 is-wanted-requires c κs = search needs
@@ -45,11 +40,11 @@ returns-2 : tie.Need-returns-2
 unfolding verdictOf read
 returns-2 c =
     let place = c .before .before .before .before .offset-of .ensures ∙ ap₂ offset (c .before .before .before .before .before .before .before .before .pre .0 .lay) (c .before .before .before .before .before .slot-at .ensures) in
-    too-large _ _ _ _ (sym (c .before .is-wanted .ensures) ∙ c .if2 .taken) place (rw place at (c .before .before .if1 .left))
+    too-large _ _ _ _ _ (sym (c .before .is-wanted .ensures) ∙ c .if2 .taken) place (rw place at (c .before .before .if1 .left))
 
 returns-3 : tie.Need-returns-3
 unfolding verdictOf
-returns-3 c = unwanted _ _ _ _ (sym (c .before .is-wanted .ensures) ∙ c .if2 .left)
+returns-3 c = unwanted _ _ _ _ _ (sym (c .before .is-wanted .ensures) ∙ c .if2 .left)
 
 pub ask-slot-spec : {M : Type 1} → statement M
 ask-slot-spec =

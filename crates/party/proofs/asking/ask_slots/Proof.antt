@@ -4,36 +4,29 @@ use Prim.Native.Nat.{_-_}
 use mathlib.Core.Path.{sym, ap, _∙_}
 use native.Mathlib.Omega.{arith}
 use borrow.Author.Needs.{needs}
-use Rattle.field.specs.Prime.{p}
+use Rattle.field.specs.Words.{size}
 use Rattle.circuit.specs.Code.{verdictOf}
-use Rattle.party.specs.Ask.{slotQuestion, askSlots}
+use Rattle.protocol.specs.Ask.{slotQuestion, askSlots}
 use Rattle.party.specs.Code.{sortOf, wantedOf}
-use Rattle.party.proofs.Loops.{Asking, asking-starts, asking-goes-on, asking-refuses, asking-ends}
+use Rattle.circuit.proofs.Loops.{Asking, asking-starts, asking-goes-on, asking-refuses, asking-ends}
 use Rattle.party.proofs.asking.ask_slots.Statement.{statement}
 use Rattle.party.proofs.asking.ask_slots.Tie as tie
-use Rattle.party.proofs.asking.ask_slots.Reads as reads
-use Rattle.party.proofs.asking.ask_slots.Lts as lts
-use Rattle.party.proofs.asking.ask_slot.Reads as ask-slot-reads
 
 abbrev Inv-loop : tie.InvT-loop
-Inv-loop c l y k sort t₀ t = Asking (λ t. slotQuestion p c l (wantedOf c sort t) (sortOf sort t)) k t
+Inv-loop c l y k sort t₀ t = Asking (λ t. slotQuestion size c l (wantedOf c sort t) (sortOf sort t)) k t
 
 abbrev μ-loop : tie.MeasureT-loop
 μ-loop c l y k sort t₀ t = k - t
 
--- src/asking.rt:159:5
 loop-holds : tie.Need-loop-holds Inv-loop μ-loop
 loop-holds c = asking-starts _ _
 
--- src/asking.rt:160:15
 ask-slot-requires : tie.Need-ask-slot-requires Inv-loop μ-loop
 ask-slot-requires c κs = (c .before .before .before .before .pre .0, c .before .before .before .before .pre .1 _ (omega arith))
 
--- src/asking.rt:161:32
 enum-known-number : tie.Need-enum-known-number Inv-loop μ-loop
 enum-known-number c = search needs
 
--- src/asking.rt:162:17
 returns : tie.Need-returns Inv-loop μ-loop
 unfolding verdictOf askSlots
 returns c = asking-refuses _ _ _ (c .before .before .before .before .before .loop .inv) (omega arith) (sym (c .before .before .before .ask-slot .ensures) ∙ ap verdictOf (c .before .number .given .1))
@@ -41,20 +34,16 @@ returns c = asking-refuses _ _ _ (c .before .before .before .before .before .loo
 enum-told : tie.Need-enum-told Inv-loop μ-loop
 enum-told c = search needs
 
--- src/asking.rt:166:9
 add-t : tie.Need-add-t Inv-loop μ-loop
 add-t c = search needs
 
--- src/asking.rt:159:5
 loop-less : tie.Need-loop-less Inv-loop μ-loop
 loop-less c = search needs
 
--- src/asking.rt:159:5
 loop-again : tie.Need-loop-again Inv-loop μ-loop
 unfolding verdictOf
 loop-again c = asking-goes-on _ _ _ (c .before .before .before .before .loop .inv) (omega arith) (sym (c .before .before .ask-slot .ensures) ∙ ap verdictOf (c .enum-told .given .1))
 
--- src/asking.rt:154:1
 returns-2 : tie.Need-returns-2 Inv-loop μ-loop
 unfolding verdictOf askSlots
 returns-2 c = asking-ends _ _ _ (c .before .loop .inv) (omega arith)

@@ -5,32 +5,24 @@ use mathlib.Core.Path.{ap, _∙_}
 use native.Mathlib.Omega.{arith}
 use Rattle.circuit.specs.Round.{openedIn}
 use Rattle.circuit.specs.Code.{verdictOf, roundOf}
-use Rattle.steps.specs.Scratch.{layout}
-use Rattle.party.specs.Ask.{askWorked}
+use Rattle.protocol.specs.Scratch.{layout}
+use Rattle.protocol.specs.Ask.{askWorked}
 use Rattle.party.specs.Code.{sortOf, wantedOf}
-use Rattle.party.proofs.Loops.{call-then, refused-then}
+use Rattle.circuit.proofs.Loops.{call-then, refused-then}
 use borrow.Author.Needs.{needs}
 use Rattle.party.proofs.asking.ask_worked.Statement.{statement}
 use Rattle.party.proofs.asking.ask_worked.Tie as tie
-use Rattle.party.proofs.asking.ask_worked.Reads as reads
-use Rattle.party.proofs.asking.ask_worked.Lts as lts
-use Rattle.circuit.proofs.opened_in.Reads as opened-in-reads
-use Rattle.party.proofs.asking.ask_slots.Reads as ask-slots-reads
 
--- src/asking.rt:177:9
 opened-in-requires : tie.Need-opened-in-requires
 opened-in-requires c κs = search needs
 
--- src/asking.rt:178:11
 ask-slots-requires : tie.Need-ask-slots-requires
 unfolding sortOf layout
 ask-slots-requires c κs = (c .before .before .before .pre .laid, λ t h. omega (arith, c .before .before .before .pre .within))
 
--- src/asking.rt:179:28
 enum-known-number : tie.Need-enum-known-number
 enum-known-number c = search needs
 
--- src/asking.rt:180:13
 returns : tie.Need-returns
 unfolding verdictOf askWorked wantedOf sortOf
 returns c = refused-then _ _ (c .before .before .before .ask-slots .ensures) (c .before .number .given .1)
@@ -38,16 +30,13 @@ returns c = refused-then _ _ (c .before .before .before .ask-slots .ensures) (c 
 enum-told : tie.Need-enum-told
 enum-told c = search needs
 
--- src/asking.rt:184:11
 ask-slots-requires-2 : tie.Need-ask-slots-requires-2
 unfolding sortOf layout
 ask-slots-requires-2 c κs = (c .before .before .before .before .before .before .pre .laid, λ t h. omega (arith, c .before .before .before .before .before .before .pre .within))
 
--- src/asking.rt:185:28
 enum-known-number-2 : tie.Need-enum-known-number-2
 enum-known-number-2 c = search needs
 
--- src/asking.rt:186:13
 returns-2 : tie.Need-returns-2
 unfolding verdictOf askWorked wantedOf sortOf
 returns-2 c = call-then _ _ (c .before .before .before .before .before .before .ask-slots .ensures) (c .before .before .before .before .enum-told .given .1) (refused-then _ _ (c .before .before .before .ask-slots2 .ensures) (c .before .number2 .given .1))
@@ -55,16 +44,13 @@ returns-2 c = call-then _ _ (c .before .before .before .before .before .before .
 enum-told-2 : tie.Need-enum-told-2
 enum-told-2 c = search needs
 
--- src/asking.rt:190:11
 ask-slots-requires-3 : tie.Need-ask-slots-requires-3
 unfolding sortOf layout
 ask-slots-requires-3 c κs = (c .before .before .before .before .before .before .before .before .before .pre .laid, λ t h. omega (arith, c .before .before .before .before .before .before .before .before .before .pre .fits, (c .before .before .before .before .before .before .opened-in .ensures ∙ ap (λ (u : ℕ). openedIn u (roundOf (c .before .before .before .before .before .before .before .before .before .args .r))) (c .before .before .before .before .before .before .before .before .before .pre .waiting))))
 
--- src/asking.rt:191:28
 enum-known-number-3 : tie.Need-enum-known-number-3
 enum-known-number-3 c = search needs
 
--- src/asking.rt:192:13
 returns-3 : tie.Need-returns-3
 unfolding verdictOf askWorked wantedOf sortOf
 returns-3 c = call-then _ _ (c .before .before .before .before .before .before .before .before .before .ask-slots .ensures) (c .before .before .before .before .before .before .before .enum-told .given .1) (call-then _ _ (c .before .before .before .before .before .before .ask-slots2 .ensures) (c .before .before .before .before .enum-told2 .given .1) (refused-then _ _ (rw (c .before .before .before .before .before .before .before .before .before .before .opened-in .ensures ∙ ap (λ (u : ℕ). openedIn u (roundOf (c .before .before .before .before .before .before .before .before .before .before .before .before .before .args .r))) (c .before .before .before .before .before .before .before .before .before .before .before .before .before .pre .waiting)) at (c .before .before .before .ask-slots3 .ensures)) (c .before .number3 .given .1)))
@@ -72,12 +58,10 @@ returns-3 c = call-then _ _ (c .before .before .before .before .before .before .
 enum-told-3 : tie.Need-enum-told-3
 enum-told-3 c = search needs
 
--- src/asking.rt:196:5
 ask-slots-requires-4 : tie.Need-ask-slots-requires-4
 unfolding sortOf layout
 ask-slots-requires-4 c κs = (c .before .before .before .before .before .before .before .before .before .before .before .before .pre .laid, λ t h. omega (arith, c .before .before .before .before .before .before .before .before .before .before .before .before .pre .fits, (c .before .before .before .before .before .before .before .before .before .opened-in .ensures ∙ ap (λ (u : ℕ). openedIn u (roundOf (c .before .before .before .before .before .before .before .before .before .before .before .before .args .r))) (c .before .before .before .before .before .before .before .before .before .before .before .before .pre .waiting))))
 
--- src/asking.rt:172:1
 returns-4 : tie.Need-returns-4
 unfolding verdictOf askWorked wantedOf sortOf
 returns-4 c = call-then _ _ (c .before .before .before .before .before .before .before .before .before .ask-slots .ensures) (c .before .before .before .before .before .before .before .enum-told .given .1) (call-then _ _ (c .before .before .before .before .before .before .ask-slots2 .ensures) (c .before .before .before .before .enum-told2 .given .1) (call-then _ _ (rw (c .before .before .before .before .before .before .before .before .before .before .opened-in .ensures ∙ ap (λ (u : ℕ). openedIn u (roundOf (c .before .before .before .before .before .before .before .before .before .before .before .before .before .args .r))) (c .before .before .before .before .before .before .before .before .before .before .before .before .before .pre .waiting)) at (c .before .before .before .ask-slots3 .ensures)) (c .before .enum-told3 .given .1) (rw (c .before .before .before .before .before .before .before .before .before .before .opened-in .ensures ∙ ap (λ (u : ℕ). openedIn u (roundOf (c .before .before .before .before .before .before .before .before .before .before .before .before .before .args .r))) (c .before .before .before .before .before .before .before .before .before .before .before .before .before .pre .waiting)) at (c .ask-slots4 .ensures))))

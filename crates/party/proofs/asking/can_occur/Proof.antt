@@ -4,39 +4,29 @@ use mathlib.Core.Path.{refl, sym, _∙_}
 use borrow.Author.Tests.{not-true, not-false}
 use native.Mathlib.Omega.{arith}
 use Rattle.party.specs.Code.{positionOf}
-use Rattle.party.proofs.Occurring.{past, no-stage, held-some, held-none}
+use Rattle.protocol.proofs.Occurring.{past, no-stage, held-some, held-none}
 use borrow.Author.Needs.{needs}
 use Rattle.party.proofs.asking.can_occur.Statement.{statement}
 use Rattle.party.proofs.asking.can_occur.Tie as tie
-use Rattle.party.proofs.asking.can_occur.Reads as reads
-use Rattle.party.proofs.asking.can_occur.Lts as lts
-use Rattle.party.proofs.asking.may_hold.Reads as may-hold-reads
-use Rattle.party.proofs.asking.stage_occurs.Reads as stage-occurs-reads
 
--- src/asking.rt:151:9
 returns : tie.Need-returns
 unfolding positionOf
 returns c = past _ _ _ (omega (arith, c .if1 .taken, c .before .before .pre .1))
 
--- src/asking.rt:154:9
 stage-occurs-requires : tie.Need-stage-occurs-requires
 stage-occurs-requires c κs = (c .before .before .pre .0, c .before .before .pre .1, omega (arith, c .if1 .left), c .before .before .pre .2 (omega (arith, c .if1 .left)))
 
--- src/asking.rt:155:9
 returns-2 : tie.Need-returns-2
 unfolding positionOf
 returns-2 c = no-stage _ _ _ (omega (arith, c .before .before .if1 .left, c .before .before .before .before .pre .1)) (sym (c .before .stage-occurs .ensures) ∙ not-true _ (c .if2 .taken))
 
--- src/asking.rt:157:8
 may-hold-requires : tie.Need-may-hold-requires
 may-hold-requires c κs = search needs
 
--- src/asking.rt:158:9
 returns-3 : tie.Need-returns-3
 unfolding positionOf
 returns-3 c = held-some _ _ _ (omega (arith, c .before .before .before .before .before .if1 .left, c .before .before .before .before .before .before .before .pre .1)) (sym (c .before .before .before .before .stage-occurs .ensures) ∙ not-false _ (c .before .before .before .if2 .left)) (sym (c .before .before .may-hold .ensures) ∙ c .before .if3 .taken) refl
 
--- src/asking.rt:145:1
 returns-4 : tie.Need-returns-4
 unfolding positionOf
 returns-4 c = held-none _ _ _ (omega (arith, c .before .before .before .before .before .if1 .left, c .before .before .before .before .before .before .before .pre .1)) (sym (c .before .before .before .before .stage-occurs .ensures) ∙ not-false _ (c .before .before .before .if2 .left)) (sym (c .before .before .may-hold .ensures) ∙ c .before .if3 .left) refl

@@ -1,56 +1,42 @@
 -- `party::asking::may_hold` meets its contract, stage by stage.
 -- Assumes nothing.
 use mathlib.Core.Path.{_∙_}
-use Rattle.steps.specs.Position.{mayHold}
-use Rattle.steps.specs.Code.{stageOf}
+use Rattle.protocol.specs.Position.{mayHold}
+use Rattle.protocol.specs.Code.{stageOf}
 use borrow.Author.Needs.{needs}
 use Rattle.party.proofs.asking.may_hold.Statement.{statement}
 use Rattle.party.proofs.asking.may_hold.Tie as tie
-use Rattle.party.proofs.asking.may_hold.Reads as reads
-use Rattle.party.proofs.asking.may_hold.Lts as lts
-use Rattle.circuit.proofs.is_commit.Reads as is-commit-reads
-use Rattle.circuit.proofs.is_reveal.Reads as is-reveal-reads
 
--- src/asking.rt:107:21
 enum-known-stage : tie.Need-enum-known-stage
 enum-known-stage c = search needs
 
--- src/asking.rt:107:27
 is-reveal-requires : tie.Need-is-reveal-requires
 is-reveal-requires c κs = search needs
 
--- src/asking.rt:108:24
 enum-known-stage-2 : tie.Need-enum-known-stage-2
 enum-known-stage-2 c = search needs
 
--- src/asking.rt:108:30
 is-commit-requires : tie.Need-is-commit-requires
 is-commit-requires c κs = search needs
 
--- src/asking.rt:109:28
 enum-told : tie.Need-enum-told
 enum-told c = search needs
 
--- src/asking.rt:110:27
 enum-told-2 : tie.Need-enum-told-2
 enum-told-2 c = search needs
 
--- src/asking.rt:103:1
 returns : tie.Need-returns
 unfolding mayHold stageOf
 returns c = c .is-reveal .ensures ∙ rw (c .before .before .stage .given .1)
 
--- src/asking.rt:103:1
 returns-2 : tie.Need-returns-2
 unfolding mayHold stageOf
 returns-2 c = c .is-commit .ensures ∙ rw (c .before .before .stage2 .given .1)
 
--- src/asking.rt:103:1
 returns-3 : tie.Need-returns-3
 unfolding mayHold stageOf
 returns-3 c = rw (c .enum-told .given .1)
 
--- src/asking.rt:103:1
 returns-4 : tie.Need-returns-4
 unfolding mayHold stageOf
 returns-4 c = rw (c .enum-told2 .given .1)

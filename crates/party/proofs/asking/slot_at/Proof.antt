@@ -1,45 +1,35 @@
 -- `party::asking::slot_at` meets its contract, sort by sort.
 -- Assumes nothing.
-use Rattle.steps.specs.Code.{slotOf}
+use Rattle.protocol.specs.Code.{slotOf}
 use Rattle.party.specs.Code.{sortOf}
 use borrow.Author.Needs.{needs}
 use Rattle.party.proofs.asking.slot_at.Statement.{statement}
 use Rattle.party.proofs.asking.slot_at.Tie as tie
-use Rattle.party.proofs.asking.slot_at.Reads as reads
-use Rattle.party.proofs.asking.slot_at.Lts as lts
 
--- src/asking.rt:119:25
 enum-told : tie.Need-enum-told
 enum-told c = search needs
 
--- src/asking.rt:120:23
 enum-told-2 : tie.Need-enum-told-2
 enum-told-2 c = search needs
 
--- src/asking.rt:121:25
 enum-told-3 : tie.Need-enum-told-3
 enum-told-3 c = search needs
 
--- src/asking.rt:122:28
 enum-told-4 : tie.Need-enum-told-4
 enum-told-4 c = search needs
 
--- src/asking.rt:115:1
 returns : tie.Need-returns
 unfolding sortOf slotOf
 returns c = rw (c .enum-told .given .1)
 
--- src/asking.rt:115:1
 returns-2 : tie.Need-returns-2
 unfolding sortOf slotOf
 returns-2 c = rw (c .enum-told2 .given .1)
 
--- src/asking.rt:115:1
 returns-3 : tie.Need-returns-3
 unfolding sortOf slotOf
 returns-3 c = rw (c .enum-told3 .given .1)
 
--- src/asking.rt:115:1
 returns-4 : tie.Need-returns-4
 unfolding sortOf slotOf
 returns-4 c = rw (c .enum-told4 .given .1)

@@ -1,6 +1,6 @@
 -- `steps::parts::add` meets its contract: shares and MAC shares are added alike.
 -- Assumes nothing.
-use Rattle.steps.specs.Part.{plus}
+use Rattle.protocol.specs.Part.{plus}
 use Rattle.steps.specs.Code.{partOf}
 use borrow.Author.Needs.{needs}
 use Rattle.steps.proofs.parts.add.Statement.{statement}

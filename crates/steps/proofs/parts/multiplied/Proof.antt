@@ -2,10 +2,9 @@
 -- E × D is that share.
 -- Assumes nothing.
 use mathlib.Core.Path.{_∙_}
-use Rattle.field.specs.Prime.Laws.{norm-of-lt}
-use Rattle.field.proofs.PrimeField.{primeField}
-use Rattle.field.proofs.Ring.{one-mul}
-use Rattle.steps.specs.Part.{plus, scale, known, shift, product}
+use Rattle.field.proofs.Laws.{laws}
+use Rattle.algebra.proofs.Ring.{one-mul}
+use Rattle.protocol.specs.Part.{plus, scale, known, shift, product}
 use Rattle.steps.specs.Code.{partOf}
 use borrow.Author.Needs.{needs}
 use Rattle.steps.proofs.parts.multiplied.Statement.{statement}
@@ -26,7 +25,7 @@ add-products-requires-2 c κs = search needs
 returns : tie.Need-returns
 unfolding partOf plus scale known shift product
 returns c =
-    record { is = cc (one-mul primeField _ ∙ norm-of-lt (c .before .before .known-share .ensures .below)); low = search needs }
+    record { is = cc (one-mul laws _ ∙ laws .norm-of-lt (c .before .before .known-share .ensures .below)); low = search needs }
 
 pub multiplied-spec : {M : Type 1} → statement M
 multiplied-spec =

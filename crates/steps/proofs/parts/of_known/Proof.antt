@@ -1,6 +1,6 @@
 -- `steps::parts::of_known` meets its contract: the calls give its share and its MAC share.
 -- Assumes nothing.
-use Rattle.steps.specs.Part.{known}
+use Rattle.protocol.specs.Part.{known}
 use Rattle.steps.specs.Code.{partOf}
 use borrow.Author.Needs.{needs}
 use Rattle.steps.proofs.parts.of_known.Statement.{statement}

@@ -1,6 +1,6 @@
 -- `steps::parts::part_at` meets its contract: the two numbers stand at k and k + 1, and every number of the list is an element.
 -- Assumes nothing.
-use Rattle.steps.specs.Part.{partAt}
+use Rattle.protocol.specs.Part.{partAt}
 use Rattle.steps.specs.Code.{partOf}
 use borrow.Author.Needs.{needs}
 use Rattle.steps.proofs.parts.part_at.Statement.{statement}

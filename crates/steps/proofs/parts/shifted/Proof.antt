@@ -1,6 +1,6 @@
 -- `steps::parts::shifted` meets its contract: the part of the known number is added.
 -- Assumes nothing.
-use Rattle.steps.specs.Part.{shift}
+use Rattle.protocol.specs.Part.{shift}
 use borrow.Author.Needs.{needs}
 use Rattle.steps.proofs.parts.shifted.Statement.{statement}
 use Rattle.steps.proofs.parts.shifted.Tie as tie

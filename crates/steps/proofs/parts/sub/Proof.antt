@@ -1,6 +1,6 @@
 -- `steps::parts::sub` meets its contract: shares and MAC shares are subtracted alike.
 -- Assumes nothing.
-use Rattle.steps.specs.Part.{minus}
+use Rattle.protocol.specs.Part.{minus}
 use Rattle.steps.specs.Code.{partOf}
 use borrow.Author.Needs.{needs}
 use Rattle.steps.proofs.parts.sub.Statement.{statement}

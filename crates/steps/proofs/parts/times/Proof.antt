@@ -1,6 +1,6 @@
 -- `steps::parts::times` meets its contract: shares and MAC shares are multiplied alike.
 -- Assumes nothing.
-use Rattle.steps.specs.Part.{scale}
+use Rattle.protocol.specs.Part.{scale}
 use Rattle.steps.specs.Code.{partOf}
 use borrow.Author.Needs.{needs}
 use Rattle.steps.proofs.parts.times.Statement.{statement}

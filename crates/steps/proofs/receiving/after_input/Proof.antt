@@ -1,6 +1,6 @@
 -- `steps::receiving::after_input` meets its contract: the mask shifted by the owner's word is written as the gate's wire.
 -- Assumes nothing.
-use Rattle.steps.specs.Receive.{afterInput}
+use Rattle.protocol.specs.Receive.{afterInput}
 use borrow.Author.Needs.{needs}
 use Rattle.steps.proofs.receiving.after_input.Statement.{statement}
 use Rattle.steps.proofs.receiving.after_input.Tie as tie

@@ -1,24 +1,29 @@
--- `steps::receiving::after_linear` meets its contract: each arm is the definition's.
+-- `steps::receiving::after_linear` meets its contract: each local kind has its line in the definition, and no other is asked.
 -- Assumes nothing.
-use Rattle.circuit.specs.Code.{gateOf}
-use Rattle.steps.specs.Receive.{afterLinear}
 use borrow.Author.Needs.{needs}
+use Rattle.circuit.proofs.Tests.{false-no}
+use Rattle.circuit.specs.Kind.{kindShape, isClass}
+use Rattle.circuit.specs.Kind.{classNumber}
+use Rattle.circuit.specs.Code.{kindOf}
+use Rattle.protocol.specs.Receive.{linear, afterLinear}
+use Rattle.circuit.specs.Kind.{kindShape, isClass}
+use Rattle.circuit.specs.Code.{kindOf}
 use Rattle.steps.proofs.receiving.after_linear.Statement.{statement}
 use Rattle.steps.proofs.receiving.after_linear.Tie as tie
 
 enum-told : tie.Need-enum-told
 enum-told c = search needs
 
-enum-known-g : tie.Need-enum-known-g
-enum-known-g c = search needs
+enum-told-2 : tie.Need-enum-told-2
+enum-told-2 c = search needs
 
 wire-at-requires : tie.Need-wire-at-requires
-unfolding gateOf
-wire-at-requires c κs = (c .before .before .before .before .before .pre .1, (rw (c .before .before .g .given .1) at (c .before .before .before .before .before .pre .3)) .0)
+unfolding kindOf kindShape
+wire-at-requires c κs = (c .before .before .before .before .pre .1, rw (c .before .enum-told2 .given .1) at (c .before .before .before .before .pre .4 .first))
 
 wire-at-requires-2 : tie.Need-wire-at-requires-2
-unfolding gateOf
-wire-at-requires-2 c κs = (c .before .before .before .before .before .before .before .pre .1, (rw (c .before .before .before .before .g .given .1) at (c .before .before .before .before .before .before .before .pre .3)) .1)
+unfolding kindOf kindShape
+wire-at-requires-2 c κs = (c .before .before .before .before .before .before .pre .1, rw (c .before .before .before .enum-told2 .given .1) at (c .before .before .before .before .before .before .pre .4 .second))
 
 add-requires : tie.Need-add-requires
 add-requires c κs = search needs
@@ -26,16 +31,16 @@ add-requires c κs = search needs
 put-wire-requires : tie.Need-put-wire-requires
 put-wire-requires c κs = search needs
 
-enum-known-g-2 : tie.Need-enum-known-g-2
-enum-known-g-2 c = search needs
+enum-told-3 : tie.Need-enum-told-3
+enum-told-3 c = search needs
 
 wire-at-requires-3 : tie.Need-wire-at-requires-3
-unfolding gateOf
-wire-at-requires-3 c κs = (c .before .before .before .before .before .pre .1, (rw (c .before .before .g2 .given .1) at (c .before .before .before .before .before .pre .3)) .0)
+unfolding kindOf kindShape
+wire-at-requires-3 c κs = (c .before .before .before .before .pre .1, rw (c .before .enum-told3 .given .1) at (c .before .before .before .before .pre .4 .first))
 
 wire-at-requires-4 : tie.Need-wire-at-requires-4
-unfolding gateOf
-wire-at-requires-4 c κs = (c .before .before .before .before .before .before .before .pre .1, (rw (c .before .before .before .before .g2 .given .1) at (c .before .before .before .before .before .before .before .pre .3)) .1)
+unfolding kindOf kindShape
+wire-at-requires-4 c κs = (c .before .before .before .before .before .before .pre .1, rw (c .before .before .before .enum-told3 .given .1) at (c .before .before .before .before .before .before .pre .4 .second))
 
 sub-requires : tie.Need-sub-requires
 sub-requires c κs = search needs
@@ -43,105 +48,105 @@ sub-requires c κs = search needs
 put-wire-requires-2 : tie.Need-put-wire-requires-2
 put-wire-requires-2 c κs = search needs
 
-enum-known-g-3 : tie.Need-enum-known-g-3
-enum-known-g-3 c = search needs
+enum-told-4 : tie.Need-enum-told-4
+enum-told-4 c = search needs
 
 wire-at-requires-5 : tie.Need-wire-at-requires-5
-unfolding gateOf
-wire-at-requires-5 c κs = (c .before .before .before .before .before .pre .1, (rw (c .before .before .g3 .given .1) at (c .before .before .before .before .before .pre .3)) .0)
+unfolding kindOf kindShape
+wire-at-requires-5 c κs = (c .before .before .before .before .pre .1, rw (c .before .enum-told4 .given .1) at (c .before .before .before .before .pre .4 .first))
 
 shifted-requires : tie.Need-shifted-requires
-unfolding gateOf
-shifted-requires c κs = (c .before .before .before .before .before .before .pre .0, c .wire-at5 .ensures .low, (rw (c .before .before .before .g3 .given .1) at (c .before .before .before .before .before .before .pre .3)) .1)
+unfolding kindOf kindShape
+shifted-requires c κs = (c .before .before .before .before .before .pre .0, c .wire-at5 .ensures .low, rw (c .before .before .enum-told4 .given .1) at (c .before .before .before .before .before .pre .4 .constant))
 
 put-wire-requires-3 : tie.Need-put-wire-requires-3
 put-wire-requires-3 c κs = search needs
 
-enum-known-g-4 : tie.Need-enum-known-g-4
-enum-known-g-4 c = search needs
+enum-told-5 : tie.Need-enum-told-5
+enum-told-5 c = search needs
 
 wire-at-requires-6 : tie.Need-wire-at-requires-6
-unfolding gateOf
-wire-at-requires-6 c κs = (c .before .before .before .before .before .pre .1, (rw (c .before .before .g4 .given .1) at (c .before .before .before .before .before .pre .3)) .0)
+unfolding kindOf kindShape
+wire-at-requires-6 c κs = (c .before .before .before .before .pre .1, rw (c .before .enum-told5 .given .1) at (c .before .before .before .before .pre .4 .first))
 
 times-requires : tie.Need-times-requires
-unfolding gateOf
-times-requires c κs = ((rw (c .before .before .before .g4 .given .1) at (c .before .before .before .before .before .before .pre .3)) .1, c .wire-at6 .ensures .low)
+unfolding kindOf kindShape
+times-requires c κs = (rw (c .before .before .enum-told5 .given .1) at (c .before .before .before .before .before .pre .4 .constant), c .wire-at6 .ensures .low)
 
 put-wire-requires-4 : tie.Need-put-wire-requires-4
 put-wire-requires-4 c κs = search needs
 
-enum-told-2 : tie.Need-enum-told-2
-enum-told-2 c = search needs
+enum-told-6 : tie.Need-enum-told-6
+enum-told-6 c = search needs
 
-enum-told-3 : tie.Need-enum-told-3
-enum-told-3 c = search needs
+enum-told-7 : tie.Need-enum-told-7
+enum-told-7 c = search needs
 
 returns : tie.Need-returns
-unfolding afterLinear gateOf
-returns c = rw (c .enum-told .given .1)
+unfolding kindOf kindShape isClass classNumber
+returns c = false-no (rw (c .enum-told .given .1) at (c .before .before .before .pre .3))
 
 same-length : tie.Need-same-length
 same-length c = search needs
 
 returns-2 : tie.Need-returns-2
-unfolding afterLinear gateOf
-returns-2 c = rw (c .before .before .before .before .before .before .before .before .before .before .g .given .1) (cc)
+unfolding afterLinear linear kindOf
+returns-2 c = rw (c .before .before .before .before .before .before .before .before .before .enum-told2 .given .1) (cc)
 
 same-length-2 : tie.Need-same-length-2
 same-length-2 c = search needs
 
 returns-3 : tie.Need-returns-3
-unfolding afterLinear gateOf
-returns-3 c = rw (c .before .before .before .before .before .before .before .before .before .before .g2 .given .1) (cc)
+unfolding afterLinear linear kindOf
+returns-3 c = rw (c .before .before .before .before .before .before .before .before .before .enum-told3 .given .1) (cc)
 
 same-length-3 : tie.Need-same-length-3
 same-length-3 c = search needs
 
 returns-4 : tie.Need-returns-4
-unfolding afterLinear gateOf
-returns-4 c = rw (c .before .before .before .before .before .before .before .before .g3 .given .1) (cc)
+unfolding afterLinear linear kindOf
+returns-4 c = rw (c .before .before .before .before .before .before .before .enum-told4 .given .1) (cc)
 
 same-length-4 : tie.Need-same-length-4
 same-length-4 c = search needs
 
 returns-5 : tie.Need-returns-5
-unfolding afterLinear gateOf
-returns-5 c = rw (c .before .before .before .before .before .before .before .before .g4 .given .1) (cc)
+unfolding afterLinear linear kindOf
+returns-5 c = rw (c .before .before .before .before .before .before .before .enum-told5 .given .1) (cc)
 
 returns-6 : tie.Need-returns-6
-unfolding afterLinear gateOf
-returns-6 c = rw (c .enum-told2 .given .1)
+unfolding kindOf kindShape isClass classNumber
+returns-6 c = false-no (rw (c .enum-told6 .given .1) at (c .before .before .before .pre .3))
 
 returns-7 : tie.Need-returns-7
-unfolding afterLinear gateOf
-returns-7 c = rw (c .enum-told3 .given .1)
+unfolding kindOf kindShape isClass classNumber
+returns-7 c = false-no (rw (c .enum-told7 .given .1) at (c .before .before .before .pre .3))
 
 pub after-linear-spec : {M : Type 1} → statement M
 after-linear-spec =
     tie.close
     (tie.spec
     enum-told
-    enum-known-g
+    enum-told-2
     wire-at-requires
     wire-at-requires-2
     add-requires
     put-wire-requires
-    enum-known-g-2
+    enum-told-3
     wire-at-requires-3
     wire-at-requires-4
     sub-requires
     put-wire-requires-2
-    enum-known-g-3
+    enum-told-4
     wire-at-requires-5
     shifted-requires
     put-wire-requires-3
-    enum-known-g-4
+    enum-told-5
     wire-at-requires-6
     times-requires
     put-wire-requires-4
-    enum-told-2
-    enum-told-3
+    enum-told-6
+    enum-told-7
     returns
     same-length
     returns-2

@@ -1,8 +1,8 @@
 -- `steps::receiving::after_open_output` meets its contract: the entry is written with the MAC share of the wire.
 -- Assumes nothing.
 use mathlib.Core.Path.{_∙_}
-use Rattle.steps.specs.Receive.{afterOpenOutput}
-use Rattle.steps.proofs.Readiness.{mac-is}
+use Rattle.protocol.specs.Receive.{afterOpenOutput}
+use Rattle.steps.proofs.Numbers.{mac-is}
 use borrow.Author.Needs.{needs}
 use Rattle.steps.proofs.receiving.after_open_output.Statement.{statement}
 use Rattle.steps.proofs.receiving.after_open_output.Tie as tie

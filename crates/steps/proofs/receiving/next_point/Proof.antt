@@ -2,11 +2,17 @@
 -- Assumes nothing.
 use mathlib.Core.Path.{refl, _∙_}
 use borrow.Author.Needs.{needs}
-use Rattle.field.specs.Prime.{prime}
-use Rattle.circuit.specs.Round.{Input, Multiply, CommitOpened, RevealOpened, OpenOutput, CommitOutput, RevealOutput, isReveal}
-use Rattle.circuit.specs.Code.{roundOf}
-use Rattle.steps.proofs.Following.{next-follows, next-stops, passes-zero, passes-not, passes-other}
-use Rattle.steps.proofs.HeardWords.{revealed-opened, revealed-output}
+use Rattle.field.specs.Words.{ops}
+use Rattle.circuit.specs.Code.{roundOf, checkOf}
+use Rattle.circuit.specs.Round.{First, Second, Own, Open, Commit, Reveal, isReveal}
+use Rattle.protocol.proofs.Following.{next-follows, next-stops, passes-zero, passes-not, passes-other}
+use Rattle.protocol.proofs.HeardWords.{reveal-heard}
+use mathlib.Core.Path.{refl, _∙_}
+use Rattle.field.specs.Words.{ops}
+use Rattle.circuit.specs.Code.{roundOf, checkOf}
+use Rattle.circuit.specs.Round.{First, Second, Own, Open, Commit, Reveal, isReveal}
+use Rattle.protocol.proofs.Following.{next-follows, next-stops, passes-zero, passes-not, passes-other}
+use Rattle.protocol.proofs.HeardWords.{reveal-heard}
 use Rattle.steps.proofs.receiving.next_point.Statement.{statement}
 use Rattle.steps.proofs.receiving.next_point.Tie as tie
 
@@ -19,80 +25,56 @@ resume-requires c κs = c .before .before .before .before .pre .1
 enum-told-2 : tie.Need-enum-told-2
 enum-told-2 c = search needs
 
-resume-requires-2 : tie.Need-resume-requires-2
-resume-requires-2 c κs = c .before .before .before .before .pre .1
-
-enum-told-3 : tie.Need-enum-told-3
-enum-told-3 c = search needs
-
 sending-at-requires : tie.Need-sending-at-requires
 sending-at-requires c κs = search needs
 
-enum-told-4 : tie.Need-enum-told-4
-enum-told-4 c = search needs
+enum-known-r : tie.Need-enum-known-r
+enum-known-r c = search needs
 
 sending-at-requires-2 : tie.Need-sending-at-requires-2
 sending-at-requires-2 c κs = search needs
 
-returns : tie.Need-returns
-unfolding roundOf isReveal
-returns c = let s = (rw (c .before .before .enum-told4 .given .1) at (c .before .before .before .before .before .before .pre)) in rw (c .before .before .enum-told4 .given .1) (next-follows _ prime _ _ _ RevealOpened (s .0 .occurs) (passes-zero prime _ _ RevealOpened refl (s .2 ∙ revealed-opened (s .0)) (c .before .if1 .taken)) (c .sending-at2 .ensures))
+enum-known-r-2 : tie.Need-enum-known-r-2
+enum-known-r-2 c = search needs
 
 aborted-at-requires : tie.Need-aborted-at-requires
 aborted-at-requires c κs = search needs
 
-enum-told-5 : tie.Need-enum-told-5
-enum-told-5 c = search needs
+returns : tie.Need-returns
+unfolding roundOf isReveal
+returns c = let s = (rw (c .before .before .before .r2 .given .1) at (c .before .before .before .before .before .before .before .pre)) in rw (c .before .before .before .r2 .given .1) (next-stops _ ops _ _ _ (Reveal _) (passes-not ops _ _ (Reveal _) refl (s .2 ∙ reveal-heard ops _ (s .0)) (c .before .if1 .taken)) (c .aborted-at .ensures))
+
+enum-told-3 : tie.Need-enum-told-3
+enum-told-3 c = search needs
 
 sending-at-requires-3 : tie.Need-sending-at-requires-3
 sending-at-requires-3 c κs = search needs
 
-enum-told-6 : tie.Need-enum-told-6
-enum-told-6 c = search needs
+enum-told-4 : tie.Need-enum-told-4
+enum-told-4 c = search needs
 
-sending-at-requires-4 : tie.Need-sending-at-requires-4
-sending-at-requires-4 c κs = search needs
-
-enum-told-7 : tie.Need-enum-told-7
-enum-told-7 c = search needs
-
-resume-requires-3 : tie.Need-resume-requires-3
-resume-requires-3 c κs = c .before .before .before .before .before .pre .1
+resume-requires-2 : tie.Need-resume-requires-2
+resume-requires-2 c κs = c .before .before .before .before .before .before .before .before .pre .1
 
 returns-2 : tie.Need-returns-2
 unfolding roundOf isReveal
-returns-2 c = let s = (rw (c .before .before .enum-told7 .given .1) at (c .before .before .before .before .before .before .pre)) in rw (c .before .before .enum-told7 .given .1) (next-follows _ prime _ _ _ RevealOutput (s .0 .occurs) (passes-zero prime _ _ RevealOutput refl (s .2 ∙ revealed-output (s .0)) (c .before .if2 .taken)) (c .resume3 .ensures))
-
-aborted-at-requires-2 : tie.Need-aborted-at-requires-2
-aborted-at-requires-2 c κs = search needs
+returns-2 c = let s = (rw (c .before .enum-told .given .1) at (c .before .before .before .before .before .pre)) in rw (c .before .enum-told .given .1) (next-follows _ ops _ _ _ Own (s .0 .occurs) (passes-other ops _ _ Own refl) (c .resume .ensures))
 
 returns-3 : tie.Need-returns-3
-unfolding roundOf isReveal
-returns-3 c = let s = (rw (c .before .enum-told .given .1) at (c .before .before .before .before .before .pre)) in rw (c .before .enum-told .given .1) (next-follows _ prime _ _ _ Input (s .0 .occurs) (passes-other prime _ _ Input refl) (c .resume .ensures))
+unfolding roundOf checkOf isReveal
+returns-3 c = let s = (rw (c .before .enum-told2 .given .1) at (c .before .before .before .before .before .pre)) in rw (c .before .enum-told2 .given .1) (next-follows _ ops _ _ _ Open (s .0 .occurs) (passes-other ops _ _ Open refl) (c .sending-at .ensures))
 
 returns-4 : tie.Need-returns-4
 unfolding roundOf isReveal
-returns-4 c = let s = (rw (c .before .enum-told2 .given .1) at (c .before .before .before .before .before .pre)) in rw (c .before .enum-told2 .given .1) (next-follows _ prime _ _ _ Multiply (s .0 .occurs) (passes-other prime _ _ Multiply refl) (c .resume2 .ensures))
+returns-4 c = let s = (rw (c .before .before .r .given .1) at (c .before .before .before .before .before .before .pre)) in rw (c .before .before .r .given .1) (next-follows _ ops _ _ _ (Commit _) (s .0 .occurs) (passes-other ops _ _ (Commit _) refl) (c .sending-at2 .ensures))
 
 returns-5 : tie.Need-returns-5
-unfolding roundOf isReveal
-returns-5 c = let s = (rw (c .before .enum-told3 .given .1) at (c .before .before .before .before .before .pre)) in rw (c .before .enum-told3 .given .1) (next-follows _ prime _ _ _ CommitOpened (s .0 .occurs) (passes-other prime _ _ CommitOpened refl) (c .sending-at .ensures))
+unfolding roundOf checkOf isReveal
+returns-5 c = let s = (rw (c .before .before .before .before .before .r2 .given .1, c .before .enum-told3 .given .1) at (c .before .before .before .before .before .before .before .before .before .pre)) in rw (c .before .before .before .before .before .r2 .given .1, c .before .enum-told3 .given .1) (next-follows _ ops _ _ _ (Reveal First) (s .0 .occurs) (passes-zero ops _ _ (Reveal First) refl (s .2 ∙ reveal-heard ops First (s .0)) (c .before .before .before .if1 .left)) (c .sending-at3 .ensures))
 
 returns-6 : tie.Need-returns-6
-unfolding roundOf isReveal
-returns-6 c = let s = (rw (c .before .before .enum-told4 .given .1) at (c .before .before .before .before .before .before .pre)) in rw (c .before .before .enum-told4 .given .1) (next-stops _ prime _ _ _ RevealOpened (passes-not prime _ _ RevealOpened refl (s .2 ∙ revealed-opened (s .0)) (c .before .if1 .left)) (c .aborted-at .ensures))
-
-returns-7 : tie.Need-returns-7
-unfolding roundOf isReveal
-returns-7 c = let s = (rw (c .before .enum-told5 .given .1) at (c .before .before .before .before .before .pre)) in rw (c .before .enum-told5 .given .1) (next-follows _ prime _ _ _ OpenOutput (s .0 .occurs) (passes-other prime _ _ OpenOutput refl) (c .sending-at3 .ensures))
-
-returns-8 : tie.Need-returns-8
-unfolding roundOf isReveal
-returns-8 c = let s = (rw (c .before .enum-told6 .given .1) at (c .before .before .before .before .before .pre)) in rw (c .before .enum-told6 .given .1) (next-follows _ prime _ _ _ CommitOutput (s .0 .occurs) (passes-other prime _ _ CommitOutput refl) (c .sending-at4 .ensures))
-
-returns-9 : tie.Need-returns-9
-unfolding roundOf isReveal
-returns-9 c = let s = (rw (c .before .before .enum-told7 .given .1) at (c .before .before .before .before .before .before .pre)) in rw (c .before .before .enum-told7 .given .1) (next-stops _ prime _ _ _ RevealOutput (passes-not prime _ _ RevealOutput refl (s .2 ∙ revealed-output (s .0)) (c .before .if2 .left)) (c .aborted-at2 .ensures))
+unfolding roundOf checkOf isReveal
+returns-6 c = let s = (rw (c .before .before .before .before .before .r2 .given .1, c .before .enum-told4 .given .1) at (c .before .before .before .before .before .before .before .before .before .pre)) in rw (c .before .before .before .before .before .r2 .given .1, c .before .enum-told4 .given .1) (next-follows _ ops _ _ _ (Reveal Second) (s .0 .occurs) (passes-zero ops _ _ (Reveal Second) refl (s .2 ∙ reveal-heard ops Second (s .0)) (c .before .before .before .if1 .left)) (c .resume2 .ensures))
 
 pub next-point-spec : {M : Type 1} → statement M
 next-point-spec =
@@ -101,25 +83,18 @@ next-point-spec =
     enum-told
     resume-requires
     enum-told-2
-    resume-requires-2
-    enum-told-3
     sending-at-requires
-    enum-told-4
+    enum-known-r
     sending-at-requires-2
-    returns
+    enum-known-r-2
     aborted-at-requires
-    enum-told-5
+    returns
+    enum-told-3
     sending-at-requires-3
-    enum-told-6
-    sending-at-requires-4
-    enum-told-7
-    resume-requires-3
+    enum-told-4
+    resume-requires-2
     returns-2
-    aborted-at-requires-2
     returns-3
     returns-4
     returns-5
-    returns-6
-    returns-7
-    returns-8
-    returns-9)
+    returns-6)

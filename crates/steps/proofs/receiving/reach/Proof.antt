@@ -1,10 +1,16 @@
 -- `steps::receiving::reach` meets its contract: the next stop from gate j on is that from the first gate on.
 -- Assumes nothing.
 use Prim.Native.Nat.{_-_}
+use mathlib.Core.Path.{sym, ap, _∙_}
 use native.Mathlib.Omega.{arith}
 use borrow.Author.Needs.{needs}
 use borrow.Author.Tests.{not-true, not-false}
-use Rattle.steps.proofs.Settling.{Reaching, reaching-start, reaching-again, reaching-stop, reaching-done}
+use Rattle.circuit.specs.Kind.{Local, isClass}
+use Rattle.protocol.proofs.Settling.{Reaching, reaching-start, reaching-again, reaching-stop, reaching-done}
+use Prim.Native.Nat.{_-_}
+use mathlib.Core.Path.{sym, ap, _∙_}
+use Rattle.circuit.specs.Kind.{Local, isClass}
+use Rattle.protocol.proofs.Settling.{Reaching, reaching-start, reaching-again, reaching-stop, reaching-done}
 use Rattle.steps.proofs.receiving.reach.Statement.{statement}
 use Rattle.steps.proofs.receiving.reach.Tie as tie
 
@@ -17,14 +23,14 @@ abbrev μ-loop : tie.MeasureT-loop
 loop-holds : tie.Need-loop-holds Inv-loop μ-loop
 loop-holds c = reaching-start _ _ _ (c .before .pre .1)
 
-gate-at-requires : tie.Need-gate-at-requires Inv-loop μ-loop
-gate-at-requires c κs = omega (arith, c .before .before .before .pre .0)
+class-at-requires : tie.Need-class-at-requires Inv-loop μ-loop
+class-at-requires c κs = omega (arith, c .before .before .before .pre .0)
 
 is-linear-requires : tie.Need-is-linear-requires Inv-loop μ-loop
 is-linear-requires c κs = search needs
 
 returns : tie.Need-returns Inv-loop μ-loop
-returns c = reaching-stop _ _ _ _ (c .before .before .before .before .loop .inv) (omega arith) (cc (not-true (c .before .is-linear .result) (c .if1 .taken)))
+returns c = reaching-stop _ _ _ _ (c .before .before .before .before .loop .inv) (omega arith) (sym (c .before .is-linear .ensures ∙ ap (isClass Local) (c .before .before .class-at .ensures)) ∙ not-true (c .before .is-linear .result) (c .if1 .taken))
 
 add-j : tie.Need-add-j Inv-loop μ-loop
 add-j c = omega arith
@@ -33,7 +39,7 @@ loop-less : tie.Need-loop-less Inv-loop μ-loop
 loop-less c = omega arith
 
 loop-again : tie.Need-loop-again Inv-loop μ-loop
-loop-again c = reaching-again _ _ _ _ (c .before .before .before .before .loop .inv) (omega arith) (cc (not-false (c .before .is-linear .result) (c .if1 .left)))
+loop-again c = reaching-again _ _ _ _ (c .before .before .before .before .loop .inv) (omega arith) (sym (c .before .is-linear .ensures ∙ ap (isClass Local) (c .before .before .class-at .ensures)) ∙ not-false (c .before .is-linear .result) (c .if1 .left))
 
 returns-2 : tie.Need-returns-2 Inv-loop μ-loop
 returns-2 c = reaching-done _ _ _ _ (c .before .loop .inv) (omega arith)
@@ -45,7 +51,7 @@ reach-spec =
     Inv-loop
     μ-loop
     loop-holds
-    gate-at-requires
+    class-at-requires
     is-linear-requires
     returns
     add-j

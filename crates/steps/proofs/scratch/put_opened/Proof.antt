@@ -1,8 +1,8 @@
 -- `steps::scratch::put_opened` meets its contract: it writes the two slots of the entry.
 -- Assumes nothing.
 use native.Mathlib.Omega.{arith}
-use Rattle.steps.specs.Scratch.{putOpened}
-use Rattle.steps.specs.Code.{layoutOf, slotOf}
+use Rattle.protocol.specs.Scratch.{putOpened}
+use Rattle.protocol.specs.Code.{layoutOf, slotOf}
 use borrow.Author.Needs.{needs}
 use Rattle.steps.proofs.scratch.put_opened.Statement.{statement}
 use Rattle.steps.proofs.scratch.put_opened.Tie as tie

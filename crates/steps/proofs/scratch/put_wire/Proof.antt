@@ -1,8 +1,9 @@
 -- `steps::scratch::put_wire` meets its contract: it writes the two slots of the gate.
 -- Assumes nothing.
 use native.Mathlib.Omega.{arith}
-use Rattle.steps.specs.Scratch.{putWire}
-use Rattle.steps.specs.Code.{partOf, layoutOf, slotOf}
+use Rattle.protocol.specs.Scratch.{putWire}
+use Rattle.protocol.specs.Code.{layoutOf, slotOf}
+use Rattle.steps.specs.Code.{partOf}
 use borrow.Author.Needs.{needs}
 use Rattle.steps.proofs.scratch.put_wire.Statement.{statement}
 use Rattle.steps.proofs.scratch.put_wire.Tie as tie

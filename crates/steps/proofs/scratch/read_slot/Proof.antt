@@ -1,9 +1,9 @@
 -- `steps::scratch::read_slot` meets its contract: the slot's offset is below the scratch's size.
 -- Assumes nothing.
 use native.Mathlib.Omega.{arith}
-use Rattle.steps.specs.Scratch.{read}
-use Rattle.steps.specs.Code.{slotOf}
-use Rattle.steps.proofs.Slots.{slot-fits}
+use Rattle.protocol.specs.Scratch.{read}
+use Rattle.protocol.specs.Code.{slotOf}
+use Rattle.protocol.proofs.Slots.{slot-fits}
 use borrow.Author.Needs.{needs}
 use Rattle.steps.proofs.scratch.read_slot.Statement.{statement}
 use Rattle.steps.proofs.scratch.read_slot.Tie as tie

@@ -1,7 +1,8 @@
 -- `steps::scratch::wire_at` meets its contract: it reads the two slots of the gate, which hold elements.
 -- Assumes nothing.
-use Rattle.steps.specs.Scratch.{wire}
-use Rattle.steps.specs.Code.{partOf, slotOf}
+use Rattle.protocol.specs.Scratch.{wire}
+use Rattle.protocol.specs.Code.{slotOf}
+use Rattle.steps.specs.Code.{partOf}
 use Rattle.steps.proofs.scratch.wire_at.Statement.{statement}
 use Rattle.steps.proofs.scratch.wire_at.Tie as tie
 

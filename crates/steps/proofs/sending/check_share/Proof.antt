@@ -4,21 +4,22 @@ use Prim.Native.Nat.{_≤_, _-_}
 use mathlib.Core.Path.{ap}
 use native.Mathlib.Omega.{arith}
 use borrow.Author.Needs.{needs}
-use Rattle.field.specs.Prime.{mul}
-use Rattle.steps.specs.Scratch.{Value, ValueMac}
-use Rattle.steps.specs.Code.{layoutOf}
-use Rattle.steps.proofs.Summing.{Running, weighed, running-start, running-more, check-made}
+use Rattle.field.specs.Words.{ops, sumSize}
+use Rattle.field.proofs.Laws.{laws}
+use Rattle.protocol.specs.Scratch.{Value, ValueMac}
+use Rattle.protocol.specs.Code.{layoutOf}
+use Rattle.protocol.proofs.Summing.{Running, weighed, running-start, running-more, check-made}
 use Rattle.steps.proofs.sending.check_share.Statement.{statement}
 use Rattle.steps.proofs.sending.check_share.Tie as tie
 
 abbrev Inv-loop : tie.InvT-loop
-Inv-loop l y k key coefficients values₀ macs₀ t₀ values macs t = (t ≤ k) × Running (weighed (layoutOf y) l coefficients Value) t values × Running (weighed (layoutOf y) l coefficients ValueMac) t macs
+Inv-loop l y k key coefficients values₀ macs₀ t₀ values macs t = (t ≤ k) × Running ops sumSize (weighed ops (layoutOf y) l coefficients Value) t values × Running ops sumSize (weighed ops (layoutOf y) l coefficients ValueMac) t macs
 
 abbrev μ-loop : tie.MeasureT-loop
 μ-loop l y k key coefficients values₀ macs₀ t₀ values macs t = k - t
 
 loop-holds : tie.Need-loop-holds Inv-loop μ-loop
-loop-holds c = (omega arith, running-start _, running-start _)
+loop-holds c = (omega arith, running-start laws _ (omega arith), running-start laws _ (omega arith))
 
 mul-w : tie.Need-mul-w Inv-loop μ-loop
 mul-w c = omega arith
@@ -47,8 +48,8 @@ loop-less c = omega arith
 loop-again : tie.Need-loop-again Inv-loop μ-loop
 loop-again c = (
   omega arith,
-  running-more _ _ _ (c .before .before .before .before .before .before .loop .inv .1) (ap (mul _) (c .before .before .before .opened-value .ensures .is)) (c .before .before .add-product .ensures),
-  running-more _ _ _ (c .before .before .before .before .before .before .loop .inv .2) (ap (mul _) (c .before .opened-mac .ensures .is)) (c .add-product2 .ensures),
+  running-more laws _ _ _ (c .before .before .before .before .before .before .loop .inv .1) (ap (ops .mul _) (c .before .before .before .opened-value .ensures .is)) (c .before .before .add-product .ensures),
+  running-more laws _ _ _ (c .before .before .before .before .before .before .loop .inv .2) (ap (ops .mul _) (c .before .opened-mac .ensures .is)) (c .add-product2 .ensures),
 )
 
 reduce-requires : tie.Need-reduce-requires Inv-loop μ-loop

@@ -2,7 +2,7 @@
 -- Assumes nothing.
 use native.Mathlib.Omega.{arith}
 use borrow.Author.Tests.{eq-eqb, ne-eqb}
-use Rattle.steps.specs.Send.{inputWord}
+use Rattle.protocol.specs.Send.{inputWord}
 use borrow.Author.Needs.{needs}
 use Rattle.steps.proofs.sending.input_word.Statement.{statement}
 use Rattle.steps.proofs.sending.input_word.Tie as tie

@@ -1,6 +1,6 @@
 -- `steps::sending::opened_mac` meets its contract: the slot of an opened entry holds an element.
 -- Assumes nothing.
-use Rattle.steps.specs.Code.{slotOf}
+use Rattle.protocol.specs.Code.{slotOf}
 use Rattle.steps.proofs.sending.opened_mac.Statement.{statement}
 use Rattle.steps.proofs.sending.opened_mac.Tie as tie
 

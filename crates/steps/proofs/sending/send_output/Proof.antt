@@ -1,8 +1,10 @@
 -- `steps::sending::send_output` meets its contract: the wire is the one that the gate names, and its share is written first.
 -- Assumes nothing.
-use Rattle.steps.proofs.Readiness.{share-is}
-use Rattle.steps.proofs.Sent.{overwrite-one}
 use borrow.Author.Needs.{needs}
+use Rattle.steps.proofs.Numbers.{share-is}
+use Rattle.protocol.proofs.Sent.{overwrite-one}
+use Rattle.steps.proofs.Numbers.{share-is}
+use Rattle.protocol.proofs.Sent.{overwrite-one}
 use Rattle.steps.proofs.sending.send_output.Statement.{statement}
 use Rattle.steps.proofs.sending.send_output.Tie as tie
 
@@ -23,10 +25,4 @@ returns c = rw (share-is (c .wire-at .ensures), c .before .first-at .ensures) (o
 
 pub send-output-spec : {M : Type 1} → statement M
 send-output-spec =
-    tie.close
-    (tie.spec
-    first-at-requires
-    wire-at-requires
-    slice-write-out
-    same-length
-    returns)
+    tie.close (tie.spec first-at-requires wire-at-requires slice-write-out same-length returns)

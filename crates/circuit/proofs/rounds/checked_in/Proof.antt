@@ -1,0 +1,26 @@
+-- `circuit::rounds::checked_in` meets its contract: each check has its line in the definition.
+-- Assumes nothing.
+use borrow.Author.Needs.{needs}
+use Rattle.circuit.specs.Round.{checked}
+use Rattle.circuit.specs.Code.{checkOf}
+use Rattle.circuit.specs.Round.{checked}
+use Rattle.circuit.specs.Code.{checkOf}
+use Rattle.circuit.proofs.rounds.checked_in.Statement.{statement}
+use Rattle.circuit.proofs.rounds.checked_in.Tie as tie
+
+enum-told : tie.Need-enum-told
+enum-told c = search needs
+
+enum-told-2 : tie.Need-enum-told-2
+enum-told-2 c = search needs
+
+returns : tie.Need-returns
+unfolding checked checkOf
+returns c = search needs
+
+returns-2 : tie.Need-returns-2
+unfolding checked checkOf
+returns-2 c = search needs
+
+pub checked-in-spec : {M : Type 1} → statement M
+checked-in-spec = tie.close (tie.spec enum-told enum-told-2 returns returns-2)

@@ -1,0 +1,93 @@
+-- `circuit::shapes::shape_of` meets its contract: each kind has its row in the definition.
+-- Assumes nothing.
+use borrow.Author.Needs.{needs}
+use Rattle.circuit.specs.Kind.{kindShape}
+use Rattle.circuit.specs.Code.{kindOf, classOf, roleOf, shapeOf}
+use Rattle.circuit.specs.Kind.{kindShape}
+use Rattle.circuit.specs.Code.{kindOf, classOf, roleOf, shapeOf}
+use Rattle.circuit.proofs.shapes.shape_of.Statement.{statement}
+use Rattle.circuit.proofs.shapes.shape_of.Tie as tie
+
+enum-told : tie.Need-enum-told
+enum-told c = search needs
+
+enum-told-2 : tie.Need-enum-told-2
+enum-told-2 c = search needs
+
+local-requires : tie.Need-local-requires
+local-requires c κs = search needs
+
+enum-told-3 : tie.Need-enum-told-3
+enum-told-3 c = search needs
+
+local-requires-2 : tie.Need-local-requires-2
+local-requires-2 c κs = search needs
+
+enum-told-4 : tie.Need-enum-told-4
+enum-told-4 c = search needs
+
+local-requires-3 : tie.Need-local-requires-3
+local-requires-3 c κs = search needs
+
+enum-told-5 : tie.Need-enum-told-5
+enum-told-5 c = search needs
+
+local-requires-4 : tie.Need-local-requires-4
+local-requires-4 c κs = search needs
+
+enum-told-6 : tie.Need-enum-told-6
+enum-told-6 c = search needs
+
+enum-told-7 : tie.Need-enum-told-7
+enum-told-7 c = search needs
+
+returns : tie.Need-returns
+unfolding kindShape kindOf shapeOf classOf roleOf
+returns c = rw (c .enum-told .given .1)
+
+returns-2 : tie.Need-returns-2
+unfolding kindShape kindOf shapeOf classOf roleOf
+returns-2 c = rw (c .before .enum-told2 .given .1) (c .local .ensures)
+
+returns-3 : tie.Need-returns-3
+unfolding kindShape kindOf shapeOf classOf roleOf
+returns-3 c = rw (c .before .enum-told3 .given .1) (c .local2 .ensures)
+
+returns-4 : tie.Need-returns-4
+unfolding kindShape kindOf shapeOf classOf roleOf
+returns-4 c = rw (c .before .enum-told4 .given .1) (c .local3 .ensures)
+
+returns-5 : tie.Need-returns-5
+unfolding kindShape kindOf shapeOf classOf roleOf
+returns-5 c = rw (c .before .enum-told5 .given .1) (c .local4 .ensures)
+
+returns-6 : tie.Need-returns-6
+unfolding kindShape kindOf shapeOf classOf roleOf
+returns-6 c = rw (c .enum-told6 .given .1)
+
+returns-7 : tie.Need-returns-7
+unfolding kindShape kindOf shapeOf classOf roleOf
+returns-7 c = rw (c .enum-told7 .given .1)
+
+pub shape-of-spec : {M : Type 1} → statement M
+shape-of-spec =
+    tie.close
+    (tie.spec
+    enum-told
+    enum-told-2
+    local-requires
+    enum-told-3
+    local-requires-2
+    enum-told-4
+    local-requires-3
+    enum-told-5
+    local-requires-4
+    enum-told-6
+    enum-told-7
+    returns
+    returns-2
+    returns-3
+    returns-4
+    returns-5
+    returns-6
+    returns-7)

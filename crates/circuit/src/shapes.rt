@@ -1,0 +1,159 @@
+// What a kind tells. One match over the kinds; everything else goes by the shape.
+use crate::Class;
+use crate::Kind;
+use crate::Role;
+use crate::Shape;
+ghost use mathlib.Core.Path.{_≡_};
+ghost use Rattle.circuit.specs.Gate.{decode};
+ghost use Rattle.circuit.specs.Kind.{Local, Owned, Opens, Output, Wire, kindShape, classNumber, isClass, role};
+ghost use Rattle.circuit.specs.Code.{kindOf, classOf, roleOf, shapeOf};
+
+const KIND_IN: usize = 1;
+
+const KIND_ADD: usize = 2;
+
+const KIND_SUB: usize = 3;
+
+const KIND_PLUS: usize = 4;
+
+const KIND_TIMES: usize = 5;
+
+const KIND_MUL: usize = 6;
+
+const LOCAL: usize = 0;
+
+const OWNED: usize = 1;
+
+const OPENS: usize = 2;
+
+const OUTPUT: usize = 3;
+
+// A number that is no kind counts as out.
+pub fn decode(number: usize) -> Kind
+    ensures { λ k. ⌜ kindOf k ≡ decode number ⌝ }
+{
+    if number == KIND_IN {
+        return Kind::In;
+    }
+    if number == KIND_ADD {
+        return Kind::Add;
+    }
+    if number == KIND_SUB {
+        return Kind::Sub;
+    }
+    if number == KIND_PLUS {
+        return Kind::Plus;
+    }
+    if number == KIND_TIMES {
+        return Kind::Times;
+    }
+    if number == KIND_MUL {
+        return Kind::Mul;
+    }
+    Kind::Out
+}
+
+// A kind that takes nothing and needs no round.
+fn local(second: Role, constant: Role) -> Shape
+    ensures { λ s. ⌜ shapeOf s ≡ record { class = Local; prep = 0; openings = 0; words = 0; first = Wire; second = roleOf second; constant = roleOf constant } ⌝ }
+{
+    Shape {
+        class: Class::Local,
+        prep: 0,
+        openings: 0,
+        words: 0,
+        first: Role::Wire,
+        second,
+        constant,
+    }
+}
+
+pub fn shape_of(kind: Kind) -> Shape
+    ensures { λ s. ⌜ shapeOf s ≡ kindShape (kindOf kind) ⌝ }
+{
+    match kind {
+        Kind::In => Shape {
+            class: Class::Owned,
+            prep: 3,
+            openings: 0,
+            words: 1,
+            first: Role::Party,
+            second: Role::Unused,
+            constant: Role::Unused,
+        },
+        Kind::Add => local(Role::Wire, Role::Unused),
+        Kind::Sub => local(Role::Wire, Role::Unused),
+        Kind::Plus => local(Role::Unused, Role::Constant),
+        Kind::Times => local(Role::Unused, Role::Constant),
+        Kind::Mul => Shape {
+            class: Class::Opens,
+            prep: 6,
+            openings: 2,
+            words: 2,
+            first: Role::Wire,
+            second: Role::Wire,
+            constant: Role::Unused,
+        },
+        Kind::Out => Shape {
+            class: Class::Output,
+            prep: 0,
+            openings: 0,
+            words: 1,
+            first: Role::Wire,
+            second: Role::Unused,
+            constant: Role::Unused,
+        },
+    }
+}
+
+fn class_number(class: Class) -> usize
+    ensures { λ n. ⌜ n ≡ classNumber (classOf class) ⌝ }
+{
+    match class {
+        Class::Local => LOCAL,
+        Class::Owned => OWNED,
+        Class::Opens => OPENS,
+        Class::Output => OUTPUT,
+    }
+}
+
+pub fn is_linear(class: Class) -> bool
+    ensures { λ r. ⌜ r ≡ isClass Local (classOf class) ⌝ }
+{
+    let number = class_number(class);
+    number == LOCAL
+}
+
+pub fn is_in(class: Class) -> bool
+    ensures { λ r. ⌜ r ≡ isClass Owned (classOf class) ⌝ }
+{
+    let number = class_number(class);
+    number == OWNED
+}
+
+pub fn opens(class: Class) -> bool
+    ensures { λ r. ⌜ r ≡ isClass Opens (classOf class) ⌝ }
+{
+    let number = class_number(class);
+    number == OPENS
+}
+
+pub fn is_out(class: Class) -> bool
+    ensures { λ r. ⌜ r ≡ isClass Output (classOf class) ⌝ }
+{
+    let number = class_number(class);
+    number == OUTPUT
+}
+
+// What number k of a gate is for: 1 its first, 2 its second, 3 its constant.
+pub fn role_of(s: Shape, k: usize) -> Role
+    ensures { λ r. ⌜ roleOf r ≡ role (shapeOf s) k ⌝ }
+{
+    if k == 1 {
+        return s.first;
+    }
+    if k == 2 {
+        return s.second;
+    }
+    s.constant
+}

@@ -1,0 +1,17 @@
+-- `gates::reading::class_at` meets its contract: the shape tells the class.
+-- Assumes nothing.
+use borrow.Author.Needs.{needs}
+use denote.Ref.{now}
+use Rattle.circuit.specs.Gate.{gate}
+use Rattle.circuit.proofs.KindLaws.{shape-class}
+use Rattle.gates.proofs.reading.class_at.Statement.{statement}
+use Rattle.gates.proofs.reading.class_at.Tie as tie
+
+shape-at-requires : tie.Need-shape-at-requires
+shape-at-requires c κs = search needs
+
+returns : tie.Need-returns
+returns c = shape-class _ _ (c .shape-at .ensures)
+
+pub class-at-spec : {M : Type 1} → statement M
+class-at-spec = tie.close (tie.spec shape-at-requires returns)

@@ -1,0 +1,29 @@
+-- `gates::reading::first_at` meets its contract: it is the second of a gate's four numbers.
+-- Assumes nothing.
+use borrow.Author.Needs.{needs}
+use Rattle.circuit.specs.Gate.{entry, gate}
+use Rattle.gates.proofs.reading.first_at.Statement.{statement}
+use Rattle.gates.proofs.reading.first_at.Tie as tie
+
+mul-at : tie.Need-mul-at
+mul-at c = search needs
+
+add-at : tie.Need-add-at
+add-at c = search needs
+
+mul-index : tie.Need-mul-index
+mul-index c = search needs
+
+shared-slice-read-index : tie.Need-shared-slice-read-index
+shared-slice-read-index c = search needs
+
+index-requires : tie.Need-index-requires
+index-requires c κs = search needs
+
+returns : tie.Need-returns
+unfolding gate entry
+returns c = c .index .ensures
+
+pub first-at-spec : {M : Type 1} → statement M
+first-at-spec =
+    tie.close (tie.spec mul-at add-at mul-index shared-slice-read-index index-requires returns)

@@ -1,0 +1,33 @@
+-- `gates::reading::kind_at` meets its contract: the kind is the first of a gate's four numbers.
+-- Assumes nothing.
+use native.Mathlib.Nat.{add-zero}
+use mathlib.Core.Path.{ap, _∙_}
+use borrow.Author.Needs.{needs}
+use Rattle.circuit.specs.Gate.{entry, gate}
+use Rattle.circuit.specs.Gate.{decode}
+use Rattle.gates.proofs.reading.kind_at.Statement.{statement}
+use Rattle.gates.proofs.reading.kind_at.Tie as tie
+
+mul-at : tie.Need-mul-at
+mul-at c = search needs
+
+mul-index : tie.Need-mul-index
+mul-index c = search needs
+
+shared-slice-read-index : tie.Need-shared-slice-read-index
+shared-slice-read-index c = search needs
+
+index-requires : tie.Need-index-requires
+index-requires c κs = search needs
+
+decode-requires : tie.Need-decode-requires
+decode-requires c κs = search needs
+
+returns : tie.Need-returns
+unfolding gate entry
+returns c = c .decode .ensures ∙ ap decode (c .before .index .ensures ∙ rw add-zero)
+
+pub kind-at-spec : {M : Type 1} → statement M
+kind-at-spec =
+    tie.close
+    (tie.spec mul-at mul-index shared-slice-read-index index-requires decode-requires returns)

@@ -1,0 +1,153 @@
+// Questions 3 to 7.
+use crate::reading;
+use circuit::Role;
+use circuit::Verdict;
+use circuit::shapes;
+use field::Word;
+ghost use mathlib.Core.Path.{_≡_};
+ghost use Prim.Native.Nat.{_*_, _≤_};
+ghost use lib.ListN.{length};
+ghost use Rattle.circuit.specs.Verdict.{each};
+ghost use Rattle.circuit.specs.Gate.{gateSize};
+ghost use Rattle.circuit.specs.Accept.{mostGates, isKind, mayName, nameOk, restOk, askGate, askCircuit};
+ghost use Rattle.circuit.specs.Code.{verdictOf, roleOf};
+
+// Numbers of a gate after its kind.
+const OPERANDS: usize = 3;
+
+// The index of a refusal that is about no gate.
+const NO_GATE: usize = 0;
+
+const FEWEST_GATES: usize = 2;
+
+const MOST_GATES: usize = 256;
+
+const FIRST_KIND: usize = 1;
+
+const LAST_KIND: usize = 7;
+
+fn is_kind(number: usize) -> bool
+    ensures { λ r. ⌜ r ≡ isKind number ⌝ }
+{
+    if number < FIRST_KIND {
+        return false;
+    }
+    number <= LAST_KIND
+}
+
+// May gate j name gate x?
+fn may_name(c: &[Word], j: usize, x: usize) -> bool
+    requires { ⌜ gateSize * j ≤ length (now c) ⌝ }
+    ensures { λ r. ⌜ r ≡ mayName (now (c .entry)) j x ⌝ }
+{
+    if x < j {
+        return !shapes::is_out(reading::class_at(c, x));
+    }
+    false
+}
+
+// Question 5 of one number.
+fn name_ok(parties: usize, c: &[Word], j: usize, x: usize, role: Role) -> bool
+    requires { ⌜ gateSize * j ≤ length (now c) ⌝ }
+    ensures { λ r. ⌜ r ≡ nameOk parties (now (c .entry)) j x (roleOf role) ⌝ }
+{
+    match role {
+        Role::Unused => true,
+        Role::Party => x < parties,
+        Role::Wire => may_name(c, j, x),
+        Role::Constant => true,
+    }
+}
+
+// Question 6 of one number.
+fn rest_ok(size: usize, x: usize, role: Role) -> bool
+    ensures { λ r. ⌜ r ≡ restOk size x (roleOf role) ⌝ }
+{
+    match role {
+        Role::Unused => x == 0,
+        Role::Party => true,
+        Role::Wire => true,
+        Role::Constant => x < size,
+    }
+}
+
+// Questions 4 to 6 of the first count gates: all three of one gate before the next, and of a gate question 5 of each of its numbers before
+// question 6 of any.
+fn scan(parties: usize, size: usize, c: &[Word], count: usize) -> Verdict
+    requires { ⌜ (gateSize * count ≤ length (now c)) × (count ≤ mostGates) ⌝ }
+    ensures { λ r. ⌜ verdictOf r ≡ each count (askGate parties size (now (c .entry))) ⌝ }
+{
+    let mut j = 0;
+    while j < count {
+        let at = reading::GATE_SIZE * j;
+        if !is_kind(field::index(c[at])) {
+            return Verdict::Refused {
+                number: 4,
+                index: j,
+            };
+        }
+        let s = reading::shape_at(c, j);
+        let mut k = 0;
+        while k < OPERANDS {
+            let role = shapes::role_of(s, k + 1);
+            if !name_ok(parties, c, j, field::index(c[at + 1 + k]), role) {
+                return Verdict::Refused {
+                    number: 5,
+                    index: j,
+                };
+            }
+            k += 1;
+        }
+        let mut t = 0;
+        while t < OPERANDS {
+            let role = shapes::role_of(s, t + 1);
+            if !rest_ok(size, field::index(c[at + 1 + t]), role) {
+                return Verdict::Refused {
+                    number: 6,
+                    index: j,
+                };
+            }
+            t += 1;
+        }
+        j += 1;
+    }
+    Verdict::Accepted
+}
+
+// Questions 3 to 7, of a field of that size. It is no entry: it is for the crates above, which ask question 1 before it.
+pub fn accept(parties: usize, size: usize, c: &[Word]) -> Verdict
+    ensures { λ r. ⌜ verdictOf r ≡ askCircuit parties size (now (c .entry)) ⌝ }
+{
+    if c.len() % reading::GATE_SIZE != 0 {
+        return Verdict::Refused {
+            number: 3,
+            index: NO_GATE,
+        };
+    }
+    let count = c.len() / reading::GATE_SIZE;
+    if count < FEWEST_GATES {
+        return Verdict::Refused {
+            number: 3,
+            index: NO_GATE,
+        };
+    }
+    if MOST_GATES < count {
+        return Verdict::Refused {
+            number: 3,
+            index: NO_GATE,
+        };
+    }
+    match scan(parties, size, c, count) {
+        Verdict::Refused { number, index } => {
+            return Verdict::Refused { number, index };
+        }
+        Verdict::Accepted => {}
+    }
+    if !shapes::is_out(reading::class_at(c, count - 1)) {
+        return Verdict::Refused {
+            number: 7,
+            index: NO_GATE,
+        };
+    }
+    Verdict::Accepted
+}

@@ -1,0 +1,96 @@
+// What is counted along a circuit.
+use crate::reading;
+use circuit::Shape;
+use circuit::Tally;
+use circuit::Totals;
+use circuit::counting;
+use circuit::shapes;
+use field::Word;
+ghost use mathlib.Core.Path.{_≡_};
+ghost use Prim.Native.Nat.{_+_, _*_, _<_, _≤_};
+ghost use lib.ListN.{length};
+ghost use Rattle.circuit.specs.Gate.{gateSize, gate};
+ghost use Rattle.circuit.specs.Kind.{shape, ownedBy};
+ghost use Rattle.circuit.specs.Count.{unchecked};
+ghost use Rattle.circuit.specs.Accept.{mostGates};
+ghost use Rattle.circuit.specs.Code.{shapeOf, Tallied, Totalled};
+
+// Is gate j, of that shape, an in gate of party i?
+fn owned_by(s: Shape, c: &[Word], i: usize, j: usize) -> bool
+    requires { ⌜ (gateSize * j + gateSize ≤ length (now c)) × (shapeOf s ≡ shape (gate (now c) j)) ⌝ }
+    ensures { λ r. ⌜ r ≡ ownedBy i (gate (now (c .entry)) j) ⌝ }
+{
+    let class = s.class;
+    if shapes::is_in(class) {
+        return reading::first_at(c, j) == i;
+    }
+    false
+}
+
+// The count of party i goes on by gate j.
+pub fn tally_gate(c: &[Word], i: usize, j: usize, t: Tally) -> Tally
+    requires { ⌜ (gateSize * j + gateSize ≤ length (now c)) × (j < mostGates) × Tallied (now c) i j t ⌝ }
+    ensures { λ r. ⌜ Tallied (now (c .entry)) i (j + 1) r ⌝ }
+{
+    let s = reading::shape_at(c, j);
+    Tally {
+        prep: t.prep + s.prep,
+        openings: t.openings + s.openings,
+        unchecked: counting::unchecked_after(s, t.unchecked),
+        inputs: t.inputs + counting::one_if(owned_by(s, c, i, j)),
+    }
+}
+
+// The count of party i goes on from one gate to another.
+pub fn tally_between(c: &[Word], i: usize, from: usize, to: usize, start: Tally) -> Tally
+    requires { ⌜ (from ≤ to) × (gateSize * to ≤ length (now c)) × (to ≤ mostGates) × Tallied (now c) i from start ⌝ }
+    ensures { λ t. ⌜ Tallied (now (c .entry)) i to t ⌝ }
+{
+    let mut t = start;
+    let mut j = from;
+    while j < to {
+        t = tally_gate(c, i, j, t);
+        j += 1;
+    }
+    t
+}
+
+// The totals go on by gate j, which has that shape and before which that many entries wait for a check.
+fn total_gate(c: &[Word], j: usize, s: Shape, waiting: usize, t: Totals) -> Totals
+    requires { ⌜ (shapeOf s ≡ shape (gate (now c) j)) × (j < mostGates) × (waiting ≡ unchecked (now c) j) × Totalled (now c) j t ⌝ }
+    ensures { λ r. ⌜ Totalled (now (c .entry)) (j + 1) r ⌝ }
+{
+    let class = s.class;
+    Totals {
+        prep: t.prep + s.prep,
+        openings: t.openings + s.openings,
+        ins: t.ins + counting::one_if(shapes::is_in(class)),
+        outs: t.outs + counting::one_if(shapes::is_out(class)),
+        words: t.words + counting::words_of(s, waiting),
+        coefficients: t.coefficients + counting::coefficients_of(s, waiting),
+    }
+}
+
+// What a run of the first count gates takes.
+pub fn totals_before(c: &[Word], count: usize) -> Totals
+    requires { ⌜ (gateSize * count ≤ length (now c)) × (count ≤ mostGates) ⌝ }
+    ensures { λ r. ⌜ Totalled (now (c .entry)) count r ⌝ }
+{
+    let mut t = Totals {
+        prep: 1,
+        openings: 0,
+        ins: 0,
+        outs: 0,
+        words: 0,
+        coefficients: 0,
+    };
+    let mut waiting = 0;
+    let mut j = 0;
+    while j < count {
+        let s = reading::shape_at(c, j);
+        t = total_gate(c, j, s, waiting, t);
+        waiting = counting::unchecked_after(s, waiting);
+        j += 1;
+    }
+    t
+}

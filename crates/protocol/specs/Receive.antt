@@ -1,0 +1,116 @@
+-- What a party works out of the words of all, in party order.
+-- Assumes nothing.
+use Prim.Native.Nat.{ℕ, zero, suc, _+_, _-_, _*_}
+use mathlib.Core.Bool.{Bool, true, cond}
+use mathlib.Core.List.{List}
+use lib.ListN.{getD}
+use lib.Dec.{eqb}
+use Rattle.algebra.specs.Ops.{Ops}
+use Rattle.algebra.specs.Sum.{sum}
+use Rattle.circuit.specs.Gate.{Kind, In, Add, Sub, Plus, Times, Mul, Out, Gate, gate, gates}
+use Rattle.circuit.specs.Kind.{Class, Local, Owned, Opens, Output, shape, isLinear, factor}
+use Rattle.circuit.specs.Count.{unchecked}
+use Rattle.circuit.specs.Round.{Check, First, Second, Round, Own, Open, Commit, Reveal, isReveal, revealWords, words}
+use Rattle.protocol.specs.Part.{Part, partAt, plus, minus, scale, shift, product}
+use Rattle.protocol.specs.Scratch.{Layout, layout, wire, putWire, putOpened}
+use Rattle.protocol.specs.Position.{Point, aborted, follow}
+use Rattle.protocol.specs.Party.{Party, key, recordOf, maskAt, aAt, bAt, cAt}
+use Rattle.protocol.specs.Send.{masked}
+
+module _ (O : Ops) where
+  open Ops O using (mul)
+
+  -- the sum over n parties of the word t of each, where each sent k
+  unfoldable pub heardSum : ℕ → ℕ → ℕ → List ℕ → ℕ
+  heardSum n k t heard = sum O n (λ i. getD heard (i * k + t) 0)
+
+  -- "With e the owner's word: seat 0 adds e to its mask share, each seat adds key share × e to its MAC share."
+  unfoldable pub afterInput : ℕ → ℕ → Layout → List ℕ → ℕ → List ℕ → ℕ → List ℕ
+  afterInput i key y l j m e = putWire y l j (shift O i key (partAt m maskAt) e)
+
+  -- "Hearing sums them, and appends E then D with the seat's MAC shares of them to the opened list." The gate names x and z, its record starts
+  -- m, u entries are unchecked before it, and k values are opened, one or two
+  unfoldable pub putDifferences : Layout → List ℕ → ℕ → ℕ → List ℕ → ℕ → ℕ → ℕ → ℕ → List ℕ
+  putDifferences y l x z m k u e d =
+      cond (eqb k 2)
+      (putOpened y
+      (putOpened y l u e (masked O y l x m aAt .mac))
+      (u + 1) d (masked O y l z m (bAt k) .mac))
+      (putOpened y l u e (masked O y l x m aAt .mac))
+
+  -- and the product, which gate j is
+  unfoldable pub afterOpening : ℕ → ℕ → Layout → List ℕ → ℕ → ℕ → ℕ → List ℕ → ℕ → ℕ → ℕ → ℕ → List ℕ
+  afterOpening i key y l j x z m k u e d =
+      putWire y (putDifferences y l x z m k u e d) j
+      (product O i key (partAt m aAt) (partAt m (bAt k)) (partAt m (cAt k)) e d)
+
+  -- "hearing makes the sum and its MAC share the only opened entry, at index 0"
+  unfoldable pub afterOpenOutput : Layout → List ℕ → ℕ → ℕ → List ℕ
+  afterOpenOutput y l x s = putOpened y l 0 s (wire y l x .mac)
+
+  -- a gate that needs no round, of gates x and z and a constant k. "add; sub: first and second name earlier lines"; "plus; times: .. the
+  -- constant is added or multiplied"
+  unfoldable pub linear : ℕ → ℕ → Kind → Part → Part → ℕ → Part
+  linear i key In x z k = x
+  linear i key Add x z k = plus O x z
+  linear i key Sub x z k = minus O x z
+  linear i key Plus x z k = shift O i key x k
+  linear i key Times x z k = scale O k x
+  linear i key Mul x z k = x
+  linear i key Out x z k = x
+
+  -- what is written for gate j, which is g
+  unfoldable pub afterLinear : ℕ → ℕ → Layout → List ℕ → ℕ → Gate → List ℕ
+  afterLinear i key y l j g =
+      putWire y l j (linear i key (g .kind) (wire y l (g .first)) (wire y l (g .second)) (g .constant))
+
+  -- "hearing does all such lines up to the next stop": from gate j on, where left gates are left
+  unfoldable pub settle : ℕ → ℕ → List ℕ → Layout → ℕ → ℕ → List ℕ → List ℕ
+  settle i key c y zero j l = l
+  settle i key c y (suc left) j l =
+      cond (isLinear (gate c j)) (settle i key c y left (suc j) (afterLinear i key y l j (gate c j))) l
+
+  -- "A zero sum of the revealed words passes .. else the run is stopped." Other rounds stop no run
+  unfoldable pub passes : ℕ → Round → List ℕ → Bool
+  passes n r heard = cond (isReveal r) (eqb (heardSum n revealWords 0 heard) 0) true
+
+  -- the point after round r of gate j: it depends on the circuit and the words heard alone
+  unfoldable pub next : ℕ → List ℕ → ℕ → Round → List ℕ → Point
+  next n c j r heard = cond (passes n r heard) (follow c j r) (aborted j)
+
+  module _ (P : Party) where
+    -- the scratch once the gates after j are done up to the next stop
+    unfoldable pub onward : ℕ → List ℕ → List ℕ
+    onward j l =
+        settle (P .me) (key P) (P .circuit) (layout (P .circuit)) (gates (P .circuit) - suc j) (suc j) l
+
+    -- the scratch after gate j's own round, by its class. "With e the owner's word"; "Hearing sums them"
+    unfoldable pub ownReceived : List ℕ → ℕ → List ℕ → Class → List ℕ
+    ownReceived l j heard Local = l
+    ownReceived l j heard Owned =
+        onward j
+        (afterInput (P .me) (key P) (layout (P .circuit)) l j (recordOf P j)
+        (getD heard (gate (P .circuit) j .first * words (gate (P .circuit) j) Own) 0))
+    ownReceived l j heard Opens =
+        let g = gate (P .circuit) j in
+        let k = shape g .openings in
+        onward j
+        (afterOpening (P .me) (key P) (layout (P .circuit)) l j (g .first) (factor g) (recordOf P j) k
+        (unchecked (P .circuit) j)
+        (heardSum (P .parties) (words g Own) 0 heard)
+        (heardSum (P .parties) (words g Own) (k - 1) heard))
+    ownReceived l j heard Output = l
+
+    -- the scratch after a reveal
+    unfoldable pub revealed : List ℕ → ℕ → List ℕ → Check → List ℕ
+    revealed l j heard First = l
+    revealed l j heard Second = cond (passes (P .parties) (Reveal Second) heard) (onward j l) l
+
+    -- the scratch after round r of gate j. "A hearing that stops a run .. writes nothing in the scratch"
+    unfoldable pub received : List ℕ → ℕ → Round → List ℕ → List ℕ
+    received l j Own heard = ownReceived l j heard (shape (gate (P .circuit) j) .class)
+    received l j Open heard =
+        afterOpenOutput (layout (P .circuit)) l (gate (P .circuit) j .first)
+        (heardSum (P .parties) (words (gate (P .circuit) j) Open) 0 heard)
+    received l j (Commit k) heard = l
+    received l j (Reveal k) heard = revealed l j heard k

@@ -1,0 +1,64 @@
+-- `steps::receiving::put_differences` meets its contract: one difference or two are put, as the definition has it.
+-- Assumes nothing.
+use borrow.Author.Needs.{needs}
+use Rattle.field.specs.Words.{ops}
+use Rattle.steps.specs.Code.{partOf}
+use Rattle.protocol.proofs.Steps.{two-made, one-made}
+use Rattle.field.specs.Words.{ops}
+use Rattle.steps.proofs.receiving.put_differences.Statement.{statement}
+use Rattle.steps.proofs.receiving.put_differences.Tie as tie
+
+masked-requires : tie.Need-masked-requires
+masked-requires c κs = search needs
+
+mul-masked : tie.Need-mul-masked
+mul-masked c = search needs
+
+sub-masked : tie.Need-sub-masked
+sub-masked c = search needs
+
+masked-requires-2 : tie.Need-masked-requires-2
+masked-requires-2 c κs = search needs
+
+put-opened-requires : tie.Need-put-opened-requires
+put-opened-requires c κs = search needs
+
+add-put-opened : tie.Need-add-put-opened
+add-put-opened c = search needs
+
+put-opened-requires-2 : tie.Need-put-opened-requires-2
+put-opened-requires-2 c κs = search needs
+
+same-length : tie.Need-same-length
+same-length c = search needs
+
+returns : tie.Need-returns
+unfolding partOf
+returns c = two-made ops _ _ _ _ _ _ _ _ _ (c .before .before .before .before .before .before .before .before .before .before .if1 .taken) (c .before .before .before .before .before .before .before .before .before .before .before .masked .ensures .is) (c .before .before .before .before .before .before .before .before .masked2 .ensures .is) (c .before .before .before .before .before .before .put-opened .ensures) (c .before .before .put-opened2 .ensures)
+
+put-opened-requires-3 : tie.Need-put-opened-requires-3
+put-opened-requires-3 c κs = search needs
+
+same-length-2 : tie.Need-same-length-2
+same-length-2 c = search needs
+
+returns-2 : tie.Need-returns-2
+unfolding partOf
+returns-2 c = one-made ops _ _ _ _ _ _ _ _ _ (c .before .before .before .before .if1 .left) (c .before .before .before .before .before .masked .ensures .is) (c .before .before .put-opened3 .ensures)
+
+pub put-differences-spec : {M : Type 1} → statement M
+put-differences-spec =
+    tie.close
+    (tie.spec
+    masked-requires
+    mul-masked
+    sub-masked
+    masked-requires-2
+    put-opened-requires
+    add-put-opened
+    put-opened-requires-2
+    same-length
+    returns
+    put-opened-requires-3
+    same-length-2
+    returns-2)

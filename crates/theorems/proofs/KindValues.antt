@@ -1,0 +1,117 @@
+-- What each kind computes, and how many values it opens. The kinds are gone through here alone; the other proofs go by the class.
+-- Assumes nothing.
+use Prim.Native.Nat.{ℕ, _*_, _<_}
+use mathlib.Core.Path.{_≡_, refl, subst}
+use mathlib.Core.Logic.{_⊎_, inl, inr}
+use mathlib.Core.Bool.{cond}
+use mathlib.Core.List.{List}
+use native.Mathlib.Omega.{arith}
+use lib.Dec.{eqb}
+use Rattle.algebra.specs.Ops.{Ops}
+use Rattle.algebra.specs.Field.{Field}
+use Rattle.algebra.proofs.Ring.{norm-sub}
+use Rattle.circuit.specs.Gate.{Kind, In, Add, Sub, Plus, Times, Mul, Out, Gate, gate, gates}
+use Rattle.circuit.specs.Kind.{Class, Local, Owned, Opens, Output, Wire, Unused, kindShape, shape, classNumber, isClass, factor}
+use Rattle.circuit.specs.Valid.{Ref, Valid}
+use Rattle.circuit.proofs.Tests.{by-cases}
+use Rattle.circuit.proofs.KindLaws.{owned-no-out}
+use Rattle.circuit.proofs.Gates.{gate-zero, second-fits, local-named}
+use Rattle.protocol.specs.Part.{Part, plus, minus, scale, shift}
+use Rattle.protocol.specs.Receive.{linear}
+use Rattle.protocol.specs.Plain.{kindValue}
+use Rattle.protocol.proofs.Wires.{Carries, carries-plus, carries-minus, carries-scale, carries-shift}
+
+-- Document 01's M: of its kinds mul alone opens values, and it opens two.
+pub two-of : (k : Kind) → kindShape k .openings ≡ 2 * cond (isClass Opens (kindShape k .class)) 1 0
+unfolding kindShape isClass classNumber
+two-of In = refl
+two-of Add = refl
+two-of Sub = refl
+two-of Plus = refl
+two-of Times = refl
+two-of Mul = refl
+two-of Out = refl
+
+module _ {O : Ops} (F : Field O) where
+  open Ops O using (norm, mul)
+  open Field F using (norm-add, norm-mul, mul-comm)
+
+  -- a kind that needs no round: its second number names a gate or is unused; of parts that carry u and v it writes parts that carry its plain
+  -- value; and it writes elements
+  pub record Linear (k : Kind) : Type 0 where
+    pub second : (kindShape k .second ≡ Wire) ⊎ (kindShape k .second ≡ Unused)
+    pub carries : (n : ℕ) (key : ℕ → ℕ) (x z : ℕ → Part) (u v input constant : ℕ)
+        → 0 < n
+        → Carries F n key x u
+        → Carries F n key z v
+        → Carries F n key (λ i. linear O i (key i) k (x i) (z i) constant) (kindValue O k input u v constant)
+    pub low : (i key : ℕ) (x z : Part) (constant : ℕ) → norm (linear O i key k x z constant .share) ≡ linear O i key k x z constant .share
+
+  -- the plain value of a kind, by its class
+  abbrev pub Computes : Class → Kind → Type 0
+  Computes Local k = Linear k
+  Computes Owned k = (input x z constant : ℕ) → kindValue O k input x z constant ≡ input
+  Computes Opens k = (input x z constant : ℕ) → kindValue O k input x z constant ≡ mul x (cond (eqb (kindShape k .openings) 2) z x)
+  Computes Output k = (input x z constant : ℕ) → kindValue O k input x z constant ≡ 0
+
+  computes : (k : Kind) → Computes (kindShape k .class) k
+  unfolding kindShape kindValue linear plus minus scale shift
+  computes In = λ input x z k. refl
+  computes Add =
+      record {
+        second = inl refl;
+        carries = λ n key x z u v input k some p q. carries-plus F n key x z u v p q;
+        low = λ i key x z k. norm-add _ _;
+      }
+  computes Sub =
+      record {
+        second = inl refl;
+        carries = λ n key x z u v input k some p q. carries-minus F n key x z u v p q;
+        low = λ i key x z k. norm-sub F _ _;
+      }
+  computes Plus =
+      record {
+        second = inr refl;
+        carries = λ n key x z u v input k some p q. carries-shift F n key some x u k p;
+        low = λ i key x z k. norm-add _ _;
+      }
+  computes Times =
+      record {
+        second = inr refl;
+        carries = λ n key x z u v input k some p q. rw (mul-comm u k) (carries-scale F n key k x u p);
+        low = λ i key x z k. norm-mul _ _;
+      }
+  computes Mul = λ input x z k. refl
+  computes Out = λ input x z k. refl
+
+  module _ (g : Gate) where
+    gate-computes : {k : Class} → shape g .class ≡ k → Computes k (g .kind)
+    gate-computes e = subst (λ (k : Class). Computes k (g .kind)) e (computes (g .kind))
+
+    pub local-computes : shape g .class ≡ Local → Linear (g .kind)
+    local-computes = gate-computes
+
+    pub owned-value : shape g .class ≡ Owned → (input x z : ℕ) → kindValue O (g .kind) input x z (g .constant) ≡ input
+    owned-value e input x z = let f : Computes Owned (g .kind) = gate-computes e in f input x z (g .constant)
+
+    pub output-value : shape g .class ≡ Output → (input x z : ℕ) → kindValue O (g .kind) input x z (g .constant) ≡ 0
+    output-value e input x z = let f : Computes Output (g .kind) = gate-computes e in f input x z (g .constant)
+
+    -- a gate that opens values is the product of its first and of its second factor
+    pub opens-value : shape g .class ≡ Opens → (input : ℕ) (v : ℕ → ℕ)
+        → kindValue O (g .kind) input (v (g .first)) (v (g .second)) (g .constant) ≡ mul (v (g .first)) (v (factor g))
+    unfolding factor
+    opens-value e input v =
+        let f : Computes Opens (g .kind) = gate-computes e in
+        let p = f input (v (g .first)) (v (g .second)) (g .constant) in
+        by-cases (eqb (shape g .openings) 2) (λ h. rw h (rw h at p)) (λ h. rw h (rw h at p))
+
+-- What a gate that needs no round names second is there too: where it is unused it is 0, and gate 0 is an input.
+pub local-second : {O : Ops} (F : Field O) {n q : ℕ} {c : List ℕ} (v : Valid n q c) (j : ℕ) → j < gates c → shape (gate c j) .class ≡ Local → Ref c j (gate c j .second)
+local-second F {c = c} v j h e = go (local-computes F (gate c j) e .second)
+  where
+    go : (shape (gate c j) .second ≡ Wire) ⊎ (shape (gate c j) .second ≡ Unused) → Ref c j (gate c j .second)
+    go (inl w) = second-fits v j h w
+    go (inr w) =
+        let z : gate c j .second ≡ 0 = second-fits v j h w in
+        rw z (record { earlier = omega (arith, local-named v j h e .earlier); valued = rw (owned-no-out (gate-zero v)) })
