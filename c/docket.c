@@ -31,18 +31,27 @@ struct run {
     size_t rounds;
 };
 
-/* The name that is printed for a round, by the stage that sends it. */
-static const char *const names[] = {"in", "mul", "seal", "reveal", "show", "seal", "reveal"};
+/* The number of the kind mul, at which a gate's own round has two words. */
+enum { MUL = 6 };
+
+static bool is_mul(uint64_t gate) { return circuit[4 * gate] == MUL; }
+
+/* The name that is printed for a round. */
+static const char *name_of(uint64_t gate, uint64_t round)
+{
+    static const char *const names[] = {"in", "show", "seal", "reveal", "seal", "reveal"};
+    return round == SPDZ_OWN && is_mul(gate) ? "mul" : names[round];
+}
 
 /* The words of one party in a round. */
-static size_t words_of(uint64_t stage) { return stage == SPDZ_SEND_MULTIPLY ? 2 : 1; }
+static size_t words_of(uint64_t gate, uint64_t round) { return round == SPDZ_OWN && is_mul(gate) ? 2 : 1; }
 
 /* The coefficients that a round takes: the first check's two entries are the product's. */
-static size_t coefficients_of(uint64_t stage)
+static size_t coefficients_of(uint64_t round)
 {
-    switch (stage) {
-    case SPDZ_SEND_COMMIT_OPENED: return 2;
-    case SPDZ_SEND_COMMIT_OUTPUT: return 1;
+    switch (round) {
+    case SPDZ_COMMIT_FIRST: return 2;
+    case SPDZ_COMMIT_SECOND: return 1;
     default: return 0;
     }
 }
@@ -60,27 +69,28 @@ static bool aborted(const char *what, size_t party, const uint64_t *answer)
     return false;
 }
 
-/* One round of both parties, printed. Position and check share stand at 2 to 4 of each party's last answer. */
+/* One round of both parties, printed. The position stands at 2 to 5 of each party's last answer. */
 static bool round_of_both(struct run *run, uint64_t answers[PARTIES][SPDZ_PLACES], size_t *used, size_t *written)
 {
-    const uint64_t stage = answers[0][3];
-    const size_t words = words_of(stage), draws = coefficients_of(stage);
+    const uint64_t gate = answers[0][2], round = answers[0][4];
+    const size_t words = words_of(gate, round), draws = coefficients_of(round);
     uint32_t heard[PARTIES * MOST_WORDS];
     for (size_t i = 0; i < PARTIES; i++) {
         uint64_t *at = answers[i];
         struct spdz_refusal refusal =
             spdz_send(PARTIES, i, circuit, LENGTH(circuit), preps[i], PREP, &inputs[i], 1, run->scratch[i], SCRATCH,
-                      (size_t)at[2], (uint32_t)at[3], (uint32_t)at[4], &coefficients[*used], draws, &heard[i * words], words, at, SPDZ_PLACES);
+                      (size_t)at[2], (uint32_t)at[3], (uint32_t)at[4], (uint32_t)at[5], &coefficients[*used], draws, &heard[i * words], words,
+                      at, SPDZ_PLACES);
         if (refused(refusal, "sending", i)) return false;
     }
-    printf("%s", names[stage]);
+    printf("%s", name_of(gate, round));
     for (size_t k = 0; k < PARTIES * words; k++) printf(" %" PRIu32, heard[k]);
     printf("\n");
     for (size_t i = 0; i < PARTIES; i++) {
         uint64_t *at = answers[i];
         struct spdz_refusal refusal =
             spdz_receive(PARTIES, i, circuit, LENGTH(circuit), preps[i], PREP, &inputs[i], 1, run->scratch[i], SCRATCH,
-                         (size_t)at[2], (uint32_t)at[3], (uint32_t)at[4], heard, PARTIES * words, at, SPDZ_PLACES);
+                         (size_t)at[2], (uint32_t)at[3], (uint32_t)at[4], (uint32_t)at[5], heard, PARTIES * words, at, SPDZ_PLACES);
         if (refused(refusal, "receiving", i)) return false;
         if (at[0] == SPDZ_OUTPUT) run->outputs[0] = (uint32_t)at[1];
         else if (at[0] != SPDZ_NEXT) return aborted("receiving", i, at);

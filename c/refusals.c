@@ -16,7 +16,7 @@ struct lent {
     uint32_t heard[PARTIES], out[1], transcript[WORDS], outputs[OUTPUTS];
     uint64_t answer[SPDZ_PLACES];
     size_t parties, me, gate, prep_len, scratch_len, heard_len, out_len, outputs_len, answer_len, coefficients_len;
-    uint32_t stage, held;
+    uint32_t half, round, held;
 };
 
 static const struct lent docket = {
@@ -28,7 +28,7 @@ static const struct lent docket = {
     .out = {77},
     .transcript = {78, 79},
     .outputs = {80},
-    .answer = {91, 92, 93, 94, 95},
+    .answer = {91, 92, 93, 94, 95, 96},
     .parties = PARTIES, .prep_len = PREP, .scratch_len = SCRATCH, .heard_len = PARTIES, .out_len = 1, .outputs_len = OUTPUTS,
     .answer_len = SPDZ_PLACES, .coefficients_len = 3,
 };
@@ -44,13 +44,13 @@ static struct spdz_refusal open_run(struct lent *x)
 static struct spdz_refusal send(struct lent *x)
 {
     return spdz_send(x->parties, x->me, x->circuit, LENGTH(x->circuit), x->preps, x->prep_len, x->inputs, 1, x->scratch, x->scratch_len,
-                     x->gate, x->stage, x->held, x->coefficients, 0, x->out, x->out_len, x->answer, x->answer_len);
+                     x->gate, x->half, x->round, x->held, x->coefficients, 0, x->out, x->out_len, x->answer, x->answer_len);
 }
 
 static struct spdz_refusal receive(struct lent *x)
 {
     return spdz_receive(x->parties, x->me, x->circuit, LENGTH(x->circuit), x->preps, x->prep_len, x->inputs, 1, x->scratch, x->scratch_len,
-                        x->gate, x->stage, x->held, x->heard, x->heard_len, x->answer, x->answer_len);
+                        x->gate, x->half, x->round, x->held, x->heard, x->heard_len, x->answer, x->answer_len);
 }
 
 static struct spdz_refusal joint_run(struct lent *x)
@@ -108,24 +108,47 @@ static void alike(const char *name, entry *call, struct lent x)
     refused(name, call, y, ROOM, 0);
 }
 
+/* Numbers that name no half and no round, a round that the gate has not, and a round beside an end, at the gate that finishes the run. */
+static void nowhere(const char *name, entry *call, struct lent x)
+{
+    struct lent y = x;
+    y.half = SPDZ_ABORTED + 1;
+    refused(name, call, y, 13, 0);
+    y.answer_len = 0;
+    refused(name, call, y, 13, 0);
+    y = x;
+    y.round = SPDZ_REVEAL_SECOND + 1;
+    refused(name, call, y, 13, 0);
+    y.round = SPDZ_OPEN;
+    refused(name, call, y, 13, 0);
+    y = x;
+    y.gate = LENGTH(x.circuit) / 4 - 1;
+    y.half = SPDZ_FINISHED;
+    y.round = SPDZ_NO_ROUND;
+    refused(name, call, y, 14, 0);
+    y.round = SPDZ_OPEN;
+    refused(name, call, y, 13, 0);
+}
+
 int main(void)
 {
     struct lent x = docket;
     alike("open_run", open_run, x);
     accepted("open_run", open_run, x);
 
-    x.stage = SPDZ_SEND_INPUT;
+    x.half = SPDZ_SEND;
+    x.round = SPDZ_OWN;
     alike("send", send, x);
     accepted("send", send, x);
     x.out_len = 0;
     refused("send", send, x, ROOM, 0);
-    x.stage = SPDZ_ABORTED + 1;
-    refused("send", send, x, 13, 0);
-    x.answer_len = 0;
-    refused("send", send, x, 13, 0);
+    nowhere("send", send, x);
+    x.half = SPDZ_RECEIVE;
+    refused("send", send, x, 14, 0);
 
     x = docket;
-    x.stage = SPDZ_RECEIVE_INPUT;
+    x.half = SPDZ_RECEIVE;
+    x.round = SPDZ_OWN;
     alike("receive", receive, x);
     accepted("receive", receive, x);
     x.heard[1] = SPDZ_P;
@@ -134,6 +157,7 @@ int main(void)
     refused("receive", receive, x, 20, 1);
     x.heard_len = 1;
     refused("receive", receive, x, 19, 0);
+    nowhere("receive", receive, x);
 
     x = docket;
     alike("joint_run", joint_run, x);

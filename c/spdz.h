@@ -23,38 +23,36 @@ struct spdz_refusal {
 
 /* The answer of an accepted call is SPDZ_PLACES numbers, of which the first is its kind; a longer list stays as it was beyond them.
  *
- *   of a party's entry                       [0]               [1]     [2]    [3]    [4]
- *   the next position                        SPDZ_NEXT         0       gate   stage  held
- *   an output, and the next position         SPDZ_OUTPUT       output  gate   stage  held
- *   the run is aborted                       SPDZ_ABORT        0       gate   stage  held
+ *   of a party's entry                       [0]               [1]     [2]    [3]    [4]    [5]
+ *   the next position                        SPDZ_NEXT         0       gate   half   round  held
+ *   an output, and the next position         SPDZ_OUTPUT       output  gate   half   round  held
+ *   the run is aborted                       SPDZ_ABORT        0       gate   half   round  held
  *
  *   of the joint run
- *   the run is finished                      SPDZ_DONE         rounds  0      0      0
- *   the run is aborted at a gate             SPDZ_ABORTED_RUN  rounds  gate   0      0
+ *   the run is finished                      SPDZ_DONE         rounds  0      0      0      0
+ *   the run is aborted at a gate             SPDZ_ABORTED_RUN  rounds  gate   0      0      0
  */
-#define SPDZ_PLACES 5
+#define SPDZ_PLACES 6
 
 enum { SPDZ_NEXT = 1, SPDZ_OUTPUT = 2, SPDZ_ABORT = 3 };
 enum { SPDZ_DONE = 1, SPDZ_ABORTED_RUN = 2 };
 
-/* Stages. A number above SPDZ_ABORTED names none: the position cannot occur, and question 13 refuses it in its turn. */
+/* A position is four numbers: a gate, a half, a round, and the check share held. Numbers that name no half or no round, or a round beside
+ * SPDZ_FINISHED or SPDZ_ABORTED, name a position that cannot occur, and question 13 refuses it in its turn. A number keeps its meaning:
+ * a round that is added later gets the next one. */
+
+/* Halves: the sending or the receiving half of a round; the ends of a run, which have no round: theirs is SPDZ_NO_ROUND. */
+enum { SPDZ_SEND = 0, SPDZ_RECEIVE = 1, SPDZ_FINISHED = 2, SPDZ_ABORTED = 3 };
+
+/* Rounds. */
 enum {
-    SPDZ_SEND_INPUT = 0,
-    SPDZ_SEND_MULTIPLY = 1,
-    SPDZ_SEND_COMMIT_OPENED = 2,
-    SPDZ_SEND_REVEAL_OPENED = 3,
-    SPDZ_SEND_OPEN_OUTPUT = 4,
-    SPDZ_SEND_COMMIT_OUTPUT = 5,
-    SPDZ_SEND_REVEAL_OUTPUT = 6,
-    SPDZ_RECEIVE_INPUT = 7,
-    SPDZ_RECEIVE_MULTIPLY = 8,
-    SPDZ_RECEIVE_COMMIT_OPENED = 9,
-    SPDZ_RECEIVE_REVEAL_OPENED = 10,
-    SPDZ_RECEIVE_OPEN_OUTPUT = 11,
-    SPDZ_RECEIVE_COMMIT_OUTPUT = 12,
-    SPDZ_RECEIVE_REVEAL_OUTPUT = 13,
-    SPDZ_FINISHED = 14,
-    SPDZ_ABORTED = 15
+    SPDZ_NO_ROUND = 0,
+    SPDZ_OWN = 0,           /* an in or a mul gate's own */
+    SPDZ_OPEN = 1,          /* an output's opening */
+    SPDZ_COMMIT_FIRST = 2,  /* the check of what is opened and unchecked before an output */
+    SPDZ_REVEAL_FIRST = 3,
+    SPDZ_COMMIT_SECOND = 4, /* the check of the output's opening */
+    SPDZ_REVEAL_SECOND = 5
 };
 
 /* Opening a run: the position at which party `me` of `parties` starts. */
@@ -71,7 +69,7 @@ struct spdz_refusal spdz_send(size_t parties, size_t me,
                               const uint32_t *prep, size_t prep_len,
                               const uint32_t *inputs, size_t inputs_len,
                               const uint32_t *scratch, size_t scratch_len,
-                              size_t gate, uint32_t stage, uint32_t held,
+                              size_t gate, uint32_t half, uint32_t round, uint32_t held,
                               const uint32_t *coefficients, size_t coefficients_len,
                               uint32_t *out, size_t out_len,
                               uint64_t *answer, size_t answer_len);
@@ -82,7 +80,7 @@ struct spdz_refusal spdz_receive(size_t parties, size_t me,
                                  const uint32_t *prep, size_t prep_len,
                                  const uint32_t *inputs, size_t inputs_len,
                                  uint32_t *scratch, size_t scratch_len,
-                                 size_t gate, uint32_t stage, uint32_t held,
+                                 size_t gate, uint32_t half, uint32_t round, uint32_t held,
                                  const uint32_t *heard, size_t heard_len,
                                  uint64_t *answer, size_t answer_len);
 

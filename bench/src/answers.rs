@@ -1,34 +1,34 @@
-//! Answers of the Rust implementation, as the five numbers that the proved entries give; a refusal is 0, its number and its index.
+//! Answers of the Rust implementation, as the six numbers that the proved entries give; a refusal is 0, its number and its index.
 
-use reference::{Ending, JointResult, Position, Received, Refusal, Round, Stage};
+use reference::{Ending, JointResult, Position, Received, Refusal, Sort, Stage};
 
-pub const PLACES: usize = 5;
+pub const PLACES: usize = 6;
 
 pub type Answer = [u64; PLACES];
 
-fn round_number(round: Round) -> u32 {
-    match round {
-        Round::Input => 0,
-        Round::Multiply => 1,
-        Round::CommitOpened => 2,
-        Round::RevealOpened => 3,
-        Round::OpenOutput => 4,
-        Round::CommitOutput => 5,
-        Round::RevealOutput => 6,
+fn round_number(sort: Sort) -> u32 {
+    match sort {
+        Sort::Own => 0,
+        Sort::OpenOutput => 1,
+        Sort::CommitOpened => 2,
+        Sort::RevealOpened => 3,
+        Sort::CommitOutput => 4,
+        Sort::RevealOutput => 5,
     }
 }
 
-pub fn stage_number(stage: Stage) -> u32 {
+/// A stage's half and round.
+pub fn stage_numbers(stage: Stage) -> [u32; 2] {
     match stage {
-        Stage::Send(round) => round_number(round),
-        Stage::Receive(round) => 7 + round_number(round),
-        Stage::Finished => 14,
-        Stage::Aborted => 15,
+        Stage::Send(sort) => [0, round_number(sort)],
+        Stage::Receive(sort) => [1, round_number(sort)],
+        Stage::Finished => [2, 0],
+        Stage::Aborted => [3, 0],
     }
 }
 
 pub fn refused(number: u32, index: usize) -> Answer {
-    [0, number.into(), index as u64, 0, 0]
+    [0, number.into(), index as u64, 0, 0, 0]
 }
 
 fn refusal(refusal: Refusal) -> Answer {
@@ -36,12 +36,13 @@ fn refusal(refusal: Refusal) -> Answer {
 }
 
 fn at(kind: u64, output: u32, position: Position) -> Answer {
-    let stage = stage_number(position.stage);
+    let [half, round] = stage_numbers(position.stage);
     [
         kind,
         output.into(),
         position.gate.into(),
-        stage.into(),
+        half.into(),
+        round.into(),
         position.held.into(),
     ]
 }
@@ -63,8 +64,8 @@ pub fn joint(result: Result<JointResult, Refusal>) -> Answer {
     match result {
         Err(refused) => refusal(refused),
         Ok(run) => match run.ending {
-            Ending::Finished => [1, run.rounds as u64, 0, 0, 0],
-            Ending::Aborted { gate } => [2, run.rounds as u64, gate.into(), 0, 0],
+            Ending::Finished => [1, run.rounds as u64, 0, 0, 0, 0],
+            Ending::Aborted { gate } => [2, run.rounds as u64, gate.into(), 0, 0, 0],
         },
     }
 }

@@ -108,7 +108,8 @@ pub fn last_rounds(run: &Run, party: u32) -> Vec<Halves> {
         .collect();
     let mut coefficients = &run.coefficients[..];
     let mut last: Vec<Halves> = Vec::new();
-    while let Stage::Send(round) = positions[0].stage {
+    while let Stage::Send(_) = positions[0].stage {
+        let round = positions[0].round(&run.circuit).expect("a round");
         let gate = positions[0].gate as usize;
         let pending = circuit::before(&run.circuit, 0, gate).pending;
         let wanted = if round.is_commit() {

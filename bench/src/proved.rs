@@ -2,7 +2,7 @@
 
 use reference::{Party, Position};
 
-use crate::answers::{refused, stage_number, Answer, PLACES};
+use crate::answers::{refused, stage_numbers, Answer, PLACES};
 
 /// A refusal's number and index, or 0 and 0.
 #[repr(C)]
@@ -32,7 +32,8 @@ extern "C" {
         scratch: *const u32,
         scratch_len: usize,
         gate: usize,
-        stage: u32,
+        half: u32,
+        round: u32,
         held: u32,
         coefficients: *const u32,
         coefficients_len: usize,
@@ -54,7 +55,8 @@ extern "C" {
         scratch: *mut u32,
         scratch_len: usize,
         gate: usize,
-        stage: u32,
+        half: u32,
+        round: u32,
         held: u32,
         heard: *const u32,
         heard_len: usize,
@@ -92,6 +94,7 @@ pub fn send(
     coefficients: &[u32],
     out: &mut [u32],
 ) -> Answer {
+    let [half, round] = stage_numbers(at.stage);
     let mut answer = [0; PLACES];
     let refusal = unsafe {
         spdz_send(
@@ -106,7 +109,8 @@ pub fn send(
             scratch.as_ptr(),
             scratch.len(),
             at.gate as usize,
-            stage_number(at.stage),
+            half,
+            round,
             at.held,
             coefficients.as_ptr(),
             coefficients.len(),
@@ -120,6 +124,7 @@ pub fn send(
 }
 
 pub fn receive(lent: &Party<'_>, scratch: &mut [u32], at: Position, heard: &[u32]) -> Answer {
+    let [half, round] = stage_numbers(at.stage);
     let mut answer = [0; PLACES];
     let refusal = unsafe {
         spdz_receive(
@@ -134,7 +139,8 @@ pub fn receive(lent: &Party<'_>, scratch: &mut [u32], at: Position, heard: &[u32
             scratch.as_mut_ptr(),
             scratch.len(),
             at.gate as usize,
-            stage_number(at.stage),
+            half,
+            round,
             at.held,
             heard.as_ptr(),
             heard.len(),

@@ -8,8 +8,8 @@ use native.Mathlib.Omega.{arith}
 use lib.ListN.{length}
 use lib.Dec.{leb, eqb}
 use borrow.Author.Tests.{le-leb, lt-leb}
-use Rattle.field.specs.Ops.{Ops}
-use Rattle.field.specs.Prime.{p, prime}
+use Rattle.algebra.specs.Ops.{Ops}
+use Rattle.field.specs.Words.{size, ops}
 use Rattle.circuit.specs.Verdict.{Verdict, Accepted, Refused, ask, _then_, elements}
 use Rattle.circuit.specs.Gate.{gate, gates}
 use Rattle.circuit.specs.Kind.{isOut}
@@ -18,18 +18,18 @@ use Rattle.circuit.specs.Round.{Round, wordCount, coefficientCount}
 use Rattle.circuit.specs.Accept.{askCircuit}
 use Rattle.circuit.proofs.Valid.{valid}
 use Rattle.circuit.proofs.Verdicts.{ask-yes, ask-no}
-use Rattle.steps.specs.Scratch.{layout, scratchSize, Value, read}
-use Rattle.steps.specs.Position.{Position, Stage, Send, Receive, Finished, Aborted, whenReceiving}
-use Rattle.steps.specs.Send.{overwrite}
-use Rattle.steps.specs.Receive.{passes}
-use Rattle.steps.specs.Party.{Party}
-use Rattle.party.specs.Ask.{askParties, askLent, askSend, askReceive}
-use Rattle.party.specs.Entry as E
-use Rattle.party.specs.Entry.{leave, openAnswer, sendAnswer, sendOut, receiveAnswer, receiveScratch}
-use Rattle.joint.specs.Joint.{Joint}
-use Rattle.joint.specs.Ask.{askJoint}
-use Rattle.joint.specs.Entry as Whole
-use Rattle.joint.specs.Entry.{jointAnswer, jointScratch, jointTranscript, jointOutputs}
+use Rattle.protocol.specs.Scratch.{layout, scratchSize, Value, read}
+use Rattle.protocol.specs.Position.{Position, Stage, Send, Receive, Finished, Aborted, whenReceiving}
+use Rattle.protocol.specs.Send.{overwrite}
+use Rattle.protocol.specs.Receive.{passes}
+use Rattle.protocol.specs.Party.{Party}
+use Rattle.protocol.specs.Ask.{askParties, askLent, askSend, askReceive}
+use Rattle.protocol.specs.Entry as E
+use Rattle.protocol.specs.Entry.{leave, openAnswer, sendAnswer, sendOut, receiveAnswer, receiveScratch}
+use Rattle.protocol.specs.Joint.{Joint}
+use Rattle.protocol.specs.JointAsk.{askJoint}
+use Rattle.protocol.specs.JointEntry as Whole
+use Rattle.protocol.specs.JointEntry.{jointAnswer, jointScratch, jointTranscript, jointOutputs}
 use Rattle.capi.specs.Numbers.{places, answerNumbers, jointNumbers}
 use Rattle.capi.specs.Calls.{roomQuestion, called, returned, answerVerdict, jointVerdict}
 use Rattle.capi.specs.declared.Refusal.{Refusal}
@@ -186,10 +186,10 @@ some-output : (c : List ℕ) (j : ℕ) → isOut (gate c j) ≡ true → 0 < cou
 unfolding count total
 some-output c j e = rw e (omega arith)
 
-an-output : (n : ℕ) (c : List ℕ) → askCircuit n p c ≡ Accepted → 0 < outCount c
+an-output : (n : ℕ) (c : List ℕ) → askCircuit n size c ≡ Accepted → 0 < outCount c
 unfolding outCount
 an-output n c e =
-    let ok = valid n p c e in
+    let ok = valid n size c e in
     let last : suc (gates c - 1) ≡ gates c = omega (arith, ok .two) in
     subst (λ (j : ℕ). 0 < count isOut c j) last (some-output c (gates c - 1) (ok .last))
 
@@ -218,43 +218,43 @@ both-no false b e = refl
 abbrev endingIn : Joint → List ℕ → Verdict → Verdict
 endingIn W l last =
     ask 8 0 (eqb (length (W .preps)) (W .parties * prepSize (W .circuit)))
-    then elements 9 p (W .preps)
+    then elements 9 size (W .preps)
     then ask 10 0 (eqb (length (W .inputs)) (inCount (W .circuit)))
-    then elements 11 p (W .inputs)
+    then elements 11 size (W .inputs)
     then ask 12 0 (leb (W .parties * scratchSize (layout (W .circuit))) (length l))
     then ask 16 0 (eqb (length (W .coefficients)) (coefficientCount (W .circuit)))
-    then elements 17 p (W .coefficients)
+    then elements 17 size (W .coefficients)
     then last
 
 module _ (W : Joint) (l : List ℕ) (transcript : ℕ) where
   -- lent no outputs, the joint run is refused as one whose answer has no room
-  no-outputs : (outputs : ℕ) → askJoint p W l transcript 0 ≡ (askJoint p W l transcript outputs then Refused roomQuestion 0)
+  no-outputs : (outputs : ℕ) → askJoint size W l transcript 0 ≡ (askJoint size W l transcript outputs then Refused roomQuestion 0)
   unfolding askJoint
   no-outputs outputs =
       let enough = leb (W .parties * wordCount (W .circuit)) transcript in
-      let none : askJoint p W l transcript 0 ≡ (askParties (W .parties) then askCircuit (W .parties) p (W .circuit) then endingIn W l (Refused roomQuestion 0)) =
-      then-where (askParties (W .parties)) (askCircuit (W .parties) p (W .circuit)) {x = endingIn W l (ask 18 0 (enough && leb (outCount (W .circuit)) 0))} {y = endingIn W l (Refused 18 0)}
+      let none : askJoint size W l transcript 0 ≡ (askParties (W .parties) then askCircuit (W .parties) size (W .circuit) then endingIn W l (Refused roomQuestion 0)) =
+      then-where (askParties (W .parties)) (askCircuit (W .parties) size (W .circuit)) {x = endingIn W l (ask 18 0 (enough && leb (outCount (W .circuit)) 0))} {y = endingIn W l (Refused 18 0)}
       (λ e. ap (λ (last : Verdict). endingIn W l last) (ask-no 18 0 (both-no enough _ (lt-leb (outCount (W .circuit)) 0 (an-output (W .parties) (W .circuit) e))))) in
-      let all : (askJoint p W l transcript outputs then Refused roomQuestion 0) ≡ (askParties (W .parties) then askCircuit (W .parties) p (W .circuit) then endingIn W l (Refused roomQuestion 0)) =
+      let all : (askJoint size W l transcript outputs then Refused roomQuestion 0) ≡ (askParties (W .parties) then askCircuit (W .parties) size (W .circuit) then endingIn W l (Refused roomQuestion 0)) =
       simp (then-assoc, then-refuses) in
       none ∙ sym all
 
-  pub joint-short-returned : (outputs : ℕ) (answer : List ℕ) → length answer < places → {r : Refusal} {w : Verdict} → w ≡ askJoint p W l transcript 0 → r ≡ returned w
-      → r ≡ returned (called (askJoint p W l transcript outputs) answer)
-  joint-short-returned outputs answer short e f = f ∙ rw (e, no-outputs outputs, no-room (askJoint p W l transcript outputs) answer short)
+  pub joint-short-returned : (outputs : ℕ) (answer : List ℕ) → length answer < places → {r : Refusal} {w : Verdict} → w ≡ askJoint size W l transcript 0 → r ≡ returned w
+      → r ≡ returned (called (askJoint size W l transcript outputs) answer)
+  joint-short-returned outputs answer short e f = f ∙ rw (e, no-outputs outputs, no-room (askJoint size W l transcript outputs) answer short)
 
-  nothing-left : (x before : List ℕ) → leave (askJoint p W l transcript 0) x before ≡ before
-  nothing-left x before = rw (no-outputs 0) (kept (askJoint p W l transcript 0) roomQuestion 0 x before)
+  nothing-left : (x before : List ℕ) → leave (askJoint size W l transcript 0) x before ≡ before
+  nothing-left x before = rw (no-outputs 0) (kept (askJoint size W l transcript 0) roomQuestion 0 x before)
 
 module _ (W : Joint) (l transcript : List ℕ) where
-  pub scratch-kept : jointScratch prime W l transcript [] ≡ l
+  pub scratch-kept : jointScratch ops W l transcript [] ≡ l
   unfolding jointScratch Whole.verdict
   scratch-kept = nothing-left W l (length transcript) _ l
 
-  pub transcript-kept : jointTranscript prime W l transcript [] ≡ transcript
+  pub transcript-kept : jointTranscript ops W l transcript [] ≡ transcript
   unfolding jointTranscript Whole.verdict
   transcript-kept = nothing-left W l (length transcript) _ transcript
 
-  pub outputs-kept : jointOutputs prime W l transcript [] ≡ []
+  pub outputs-kept : jointOutputs ops W l transcript [] ≡ []
   unfolding jointOutputs Whole.verdict
   outputs-kept = nothing-left W l (length transcript) _ []

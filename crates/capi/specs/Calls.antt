@@ -4,15 +4,15 @@ use Prim.Native.Nat.{ℕ}
 use mathlib.Core.List.{List}
 use lib.ListN.{length}
 use lib.Dec.{leb}
-use Rattle.field.specs.Prime.{p}
+use Rattle.field.specs.Words.{size}
 use Rattle.circuit.specs.Verdict.{Verdict, Accepted, Refused, ask, _then_}
-use Rattle.steps.specs.Position.{Position}
-use Rattle.steps.specs.Party.{Party}
-use Rattle.party.specs.Ask.{askLent, askSend, askReceive}
-use Rattle.party.specs.Entry as E
-use Rattle.joint.specs.Joint.{Joint}
-use Rattle.joint.specs.Ask.{askJoint}
-use Rattle.joint.specs.Entry as J
+use Rattle.protocol.specs.Position.{Position}
+use Rattle.protocol.specs.Party.{Party}
+use Rattle.protocol.specs.Ask.{askLent, askSend, askReceive}
+use Rattle.protocol.specs.Entry as E
+use Rattle.protocol.specs.Joint.{Joint}
+use Rattle.protocol.specs.JointAsk.{askJoint}
+use Rattle.protocol.specs.JointEntry as J
 use Rattle.capi.specs.Numbers.{places}
 use Rattle.capi.specs.declared.Refusal.{Refusal}
 
@@ -24,16 +24,16 @@ unfoldable pub called : Verdict → List ℕ → Verdict
 called v answer = v then ask roomQuestion 0 (leb places (length answer))
 
 abbrev pub openCall : Party → List ℕ → List ℕ → Verdict
-openCall P l answer = called (askLent p P l) answer
+openCall P l answer = called (askLent size P l) answer
 
 abbrev pub sendCall : Party → List ℕ → Position → List ℕ → List ℕ → List ℕ → Verdict
-sendCall P l at coefficients out answer = called (askSend p P l at coefficients (length out)) answer
+sendCall P l at coefficients out answer = called (askSend size P l at coefficients (length out)) answer
 
 abbrev pub receiveCall : Party → List ℕ → Position → List ℕ → List ℕ → Verdict
-receiveCall P l at heard answer = called (askReceive p P l at heard) answer
+receiveCall P l at heard answer = called (askReceive size P l at heard) answer
 
 abbrev pub jointCall : Joint → List ℕ → List ℕ → List ℕ → List ℕ → Verdict
-jointCall J l transcript outputs answer = called (askJoint p J l (length transcript) (length outputs)) answer
+jointCall J l transcript outputs answer = called (askJoint size J l (length transcript) (length outputs)) answer
 
 -- "A refusal gives its number and an index": what a call returns, with 0 and 0 where it is accepted
 unfoldable pub returned : Verdict → Refusal

@@ -1,44 +1,68 @@
--- Stages as numbers.
+-- Stages as two numbers: a half and a round. A further round takes a further number and moves none.
 -- Assumes nothing.
-use Prim.Native.Nat.{ℕ, _+_, _-_}
+use Prim.Native.Nat.{ℕ}
 use mathlib.Core.Bool.{cond}
 use lib.Dec.{ltb, eqb}
-use Rattle.circuit.specs.Round.{Round, Input, Multiply, CommitOpened, RevealOpened, OpenOutput, CommitOutput, RevealOutput, roundNumber}
-use Rattle.steps.specs.Position.{Stage, Send, Receive, Finished, Aborted, Position}
+use Rattle.circuit.specs.Round.{First, Second, Round, Own, Open, Commit, Reveal, roundNumber}
+use Rattle.protocol.specs.Position.{Stage, Send, Receive, Finished, Aborted, Position}
 
--- 0 to 6 send the seven rounds, and 7 to 13 receive them
-abbrev pub receiving : ℕ
-receiving = 7
+-- the halves of a round, and the ends of a run, which have no round
+abbrev pub sendHalf : ℕ
+sendHalf = 0
 
-abbrev pub finishedStage : ℕ
-finishedStage = 14
+abbrev pub receiveHalf : ℕ
+receiveHalf = 1
 
-abbrev pub abortedStage : ℕ
-abortedStage = 15
+abbrev pub finishedHalf : ℕ
+finishedHalf = 2
 
-unfoldable pub stageNumber : Stage → ℕ
-stageNumber (Send r) = roundNumber r
-stageNumber (Receive r) = receiving + roundNumber r
-stageNumber Finished = finishedStage
-stageNumber Aborted = abortedStage
+abbrev pub abortedHalf : ℕ
+abortedHalf = 3
 
--- the round of a number below receiving
+unfoldable pub halfNumber : Stage → ℕ
+halfNumber (Send r) = sendHalf
+halfNumber (Receive r) = receiveHalf
+halfNumber Finished = finishedHalf
+halfNumber Aborted = abortedHalf
+
+-- the number that stands for a round where there is none
+abbrev pub noRound : ℕ
+noRound = 0
+
+unfoldable pub stageRound : Stage → ℕ
+stageRound (Send r) = roundNumber r
+stageRound (Receive r) = roundNumber r
+stageRound Finished = noRound
+stageRound Aborted = noRound
+
+-- the numbers below this name rounds
+abbrev pub roundNumbers : ℕ
+roundNumbers = 6
+
 unfoldable pub roundAt : ℕ → Round
 roundAt k =
-    cond (eqb k 0) Input
-    (cond (eqb k 1) Multiply
-    (cond (eqb k 2) CommitOpened
-    (cond (eqb k 3) RevealOpened
-    (cond (eqb k 4) OpenOutput
-    (cond (eqb k 5) CommitOutput RevealOutput)))))
+    cond (eqb k 0) Own
+    (cond (eqb k 1) Open
+    (cond (eqb k 2) (Commit First)
+    (cond (eqb k 3) (Reveal First)
+    (cond (eqb k 4) (Commit Second) (Reveal Second)))))
 
 unfoldable pub position : ℕ → Stage → ℕ → Position
 position gate stage held = record { gate = gate; stage = stage; held = held }
 
--- the position that three numbers name. A number that names no stage gives one that cannot occur, since a finished position holds 0
-unfoldable pub positionAt : ℕ → ℕ → ℕ → Position
-positionAt gate k held =
-    cond (ltb k receiving) (position gate (Send (roundAt k)) held)
-    (cond (ltb k finishedStage) (position gate (Receive (roundAt (k - receiving))) held)
-    (cond (eqb k finishedStage) (position gate Finished held)
-    (cond (eqb k abortedStage) (position gate Aborted held) (position gate Finished 1))))
+-- a position that cannot occur, since a finished position holds 0
+unfoldable pub nowhere : ℕ → Position
+nowhere gate = position gate Finished 1
+
+-- a half of a round
+unfoldable pub halfAt : ℕ → Round → Stage
+halfAt half r = cond (eqb half sendHalf) (Send r) (Receive r)
+
+-- the position that four numbers name: a gate, a half, a round and a check share. Numbers that name no half, no round, or a round
+-- where there is none give one that cannot occur
+unfoldable pub positionAt : ℕ → ℕ → ℕ → ℕ → Position
+positionAt gate half round held =
+    cond (ltb half finishedHalf) (cond (ltb round roundNumbers) (position gate (halfAt half (roundAt round)) held) (nowhere gate))
+    (cond (ltb noRound round) (nowhere gate)
+    (cond (eqb half finishedHalf) (position gate Finished held)
+    (cond (eqb half abortedHalf) (position gate Aborted held) (nowhere gate))))

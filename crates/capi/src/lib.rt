@@ -1,27 +1,29 @@
 // The entries for callers in C: numbers and lists of numbers only. A call returns its refusal; an accepted one writes its answer into a lent list.
+use circuit::Check;
 use circuit::Round;
 use circuit::Verdict;
+use field::Word;
 use joint::JointAnswer;
 use party::Answer;
 use party::Asked;
 use party::Position;
-use steps::Stage;
+use protocol::Stage;
 ghost use mathlib.Core.Path.{_≡_};
 ghost use mathlib.Core.List.{[], _∷_};
-ghost use Prim.Native.Nat.{_≤_, _<_};
+ghost use Prim.Native.Nat.{_≤_};
 ghost use lib.ListN.{length};
-ghost use Rattle.field.specs.Prime.{prime};
+ghost use Rattle.field.specs.Words.{ops};
 ghost use Rattle.circuit.specs.Verdict.{Refused, _then_};
 ghost use Rattle.circuit.specs.Round.{roundNumber};
 ghost use Rattle.circuit.specs.Code.{roundOf, verdictOf};
-ghost use Rattle.steps.specs.Party.{partyOf};
-ghost use Rattle.steps.specs.Code.{stageOf};
-ghost use Rattle.steps.specs.Send.{overwrite};
-ghost use Rattle.party.specs.Entry.{leave, openAnswer, sendAnswer, sendOut, receiveAnswer, receiveScratch};
+ghost use Rattle.protocol.specs.Party.{partyOf};
+ghost use Rattle.protocol.specs.Code.{stageOf};
+ghost use Rattle.protocol.specs.Send.{overwrite};
+ghost use Rattle.protocol.specs.Entry.{leave, openAnswer, sendAnswer, sendOut, receiveAnswer, receiveScratch};
 ghost use Rattle.party.specs.Code.{positionOf, answerOf, askedOf};
-ghost use Rattle.joint.specs.Entry.{jointAnswer, jointScratch, jointTranscript, jointOutputs};
+ghost use Rattle.protocol.specs.JointEntry.{jointAnswer, jointScratch, jointTranscript, jointOutputs};
 ghost use Rattle.joint.specs.Code.{jointAnswerOf, jointOf};
-ghost use Rattle.capi.specs.Stages.{stageNumber, roundAt, positionAt};
+ghost use Rattle.capi.specs.Stages.{halfNumber, stageRound, roundAt, halfAt, nowhere, positionAt};
 ghost use Rattle.capi.specs.Numbers.{places, answerNumbers, jointNumbers, positionNumbers};
 ghost use Rattle.capi.specs.Calls.{roomQuestion, answerVerdict, jointVerdict, returned, openCall, sendCall, receiveCall, jointCall};
 
@@ -33,7 +35,7 @@ pub struct Refusal {
 }
 
 // How many numbers an answer takes.
-const PLACES: usize = 5;
+const PLACES: usize = 6;
 
 // The question that is asked last, of the list for the answer.
 const ROOM_QUESTION: u32 = 18;
@@ -49,86 +51,71 @@ const DONE: u64 = 1;
 
 const ABORTED_RUN: u64 = 2;
 
-// The rounds' numbers. A stage that sends has its round's; one that receives has it after those.
-const INPUT: u32 = 0;
+// The numbers of halves, and of the ends of a run.
+const SEND: u32 = 0;
 
-const MULTIPLY: u32 = 1;
+const RECEIVE: u32 = 1;
 
-const COMMIT_OPENED: u32 = 2;
+const FINISHED: u32 = 2;
 
-const REVEAL_OPENED: u32 = 3;
+const ABORTED_HALF: u32 = 3;
 
-const OPEN_OUTPUT: u32 = 4;
+// The numbers of rounds. Where there is none stands NO_ROUND.
+const OWN: u32 = 0;
 
-const COMMIT_OUTPUT: u32 = 5;
+const OPEN: u32 = 1;
 
-const REVEAL_OUTPUT: u32 = 6;
+const COMMIT_FIRST: u32 = 2;
 
-const RECEIVING: u32 = 7;
+const REVEAL_FIRST: u32 = 3;
 
-const FINISHED_STAGE: u32 = 14;
+const COMMIT_SECOND: u32 = 4;
 
-const ABORTED_STAGE: u32 = 15;
+const REVEAL_SECOND: u32 = 5;
+
+const ROUND_NUMBERS: u32 = 6;
+
+const NO_ROUND: u32 = 0;
 
 // A check share that no finished position holds.
-const NEVER_HELD: u32 = 1;
+const NEVER_HELD: Word = 1;
 
+// The round of a number below ROUND_NUMBERS.
 fn round_at(k: u32) -> Round
     ensures { λ r. ⌜ roundOf r ≡ roundAt k ⌝ }
 {
-    if k == INPUT {
-        return Round::Input;
+    if k == OWN {
+        return Round::Own;
     }
-    if k == MULTIPLY {
-        return Round::Multiply;
+    if k == OPEN {
+        return Round::Open;
     }
-    if k == COMMIT_OPENED {
-        return Round::CommitOpened;
+    if k == COMMIT_FIRST {
+        return Round::Commit(Check::First);
     }
-    if k == REVEAL_OPENED {
-        return Round::RevealOpened;
+    if k == REVEAL_FIRST {
+        return Round::Reveal(Check::First);
     }
-    if k == OPEN_OUTPUT {
-        return Round::OpenOutput;
+    if k == COMMIT_SECOND {
+        return Round::Commit(Check::Second);
     }
-    if k == COMMIT_OUTPUT {
-        return Round::CommitOutput;
-    }
-    Round::RevealOutput
+    Round::Reveal(Check::Second)
 }
 
-// The position that three numbers name. A number that names no stage gives a position that cannot occur, which question 13 refuses.
-fn position_at(gate: usize, stage: u32, held: u32) -> Position
-    ensures { λ r. ⌜ positionOf r ≡ positionAt gate stage held ⌝ }
+// A half of a round.
+fn half_at(half: u32, r: Round) -> Stage
+    ensures { λ s. ⌜ stageOf s ≡ halfAt half (roundOf r) ⌝ }
 {
-    if stage < RECEIVING {
-        return Position {
-            gate,
-            stage: Stage::Send(round_at(stage)),
-            held,
-        };
+    if half == SEND {
+        return Stage::Send(r);
     }
-    if stage < FINISHED_STAGE {
-        return Position {
-            gate,
-            stage: Stage::Receive(round_at(stage - RECEIVING)),
-            held,
-        };
-    }
-    if stage == FINISHED_STAGE {
-        return Position {
-            gate,
-            stage: Stage::Finished,
-            held,
-        };
-    }
-    if stage == ABORTED_STAGE {
-        return Position {
-            gate,
-            stage: Stage::Aborted,
-            held,
-        };
-    }
+    Stage::Receive(r)
+}
+
+// A position that cannot occur, which question 13 refuses.
+fn nowhere(gate: usize) -> Position
+    ensures { λ r. ⌜ positionOf r ≡ nowhere gate ⌝ }
+{
     Position {
         gate,
         stage: Stage::Finished,
@@ -136,41 +123,89 @@ fn position_at(gate: usize, stage: u32, held: u32) -> Position
     }
 }
 
+// The position that four numbers name. Numbers that name no half, no round, or a round where there is none give one that cannot occur.
+fn position_at(gate: usize, half: u32, round: u32, held: Word) -> Position
+    ensures { λ r. ⌜ positionOf r ≡ positionAt gate half round held ⌝ }
+{
+    if half < FINISHED {
+        if round < ROUND_NUMBERS {
+            return Position {
+                gate,
+                stage: half_at(half, round_at(round)),
+                held,
+            };
+        }
+        return nowhere(gate);
+    }
+    if NO_ROUND < round {
+        return nowhere(gate);
+    }
+    if half == FINISHED {
+        return Position {
+            gate,
+            stage: Stage::Finished,
+            held,
+        };
+    }
+    if half == ABORTED_HALF {
+        return Position {
+            gate,
+            stage: Stage::Aborted,
+            held,
+        };
+    }
+    nowhere(gate)
+}
+
 fn round_number(r: Round) -> u32
-    ensures within { λ k. ⌜ k < 7 ⌝ }
-    ensures is { λ k. ⌜ k ≡ roundNumber (roundOf r) ⌝ }
+    ensures { λ k. ⌜ k ≡ roundNumber (roundOf r) ⌝ }
 {
     match r {
-        Round::Input => INPUT,
-        Round::Multiply => MULTIPLY,
-        Round::CommitOpened => COMMIT_OPENED,
-        Round::RevealOpened => REVEAL_OPENED,
-        Round::OpenOutput => OPEN_OUTPUT,
-        Round::CommitOutput => COMMIT_OUTPUT,
-        Round::RevealOutput => REVEAL_OUTPUT,
+        Round::Own => OWN,
+        Round::Open => OPEN,
+        Round::Commit(check) => match check {
+            Check::First => COMMIT_FIRST,
+            Check::Second => COMMIT_SECOND,
+        },
+        Round::Reveal(check) => match check {
+            Check::First => REVEAL_FIRST,
+            Check::Second => REVEAL_SECOND,
+        },
     }
 }
 
-fn stage_number(s: Stage) -> u32
-    ensures { λ k. ⌜ k ≡ stageNumber (stageOf s) ⌝ }
+fn half_number(s: Stage) -> u32
+    ensures { λ k. ⌜ k ≡ halfNumber (stageOf s) ⌝ }
+{
+    match s {
+        Stage::Send(_) => SEND,
+        Stage::Receive(_) => RECEIVE,
+        Stage::Finished => FINISHED,
+        Stage::Aborted => ABORTED_HALF,
+    }
+}
+
+fn stage_round(s: Stage) -> u32
+    ensures { λ k. ⌜ k ≡ stageRound (stageOf s) ⌝ }
 {
     match s {
         Stage::Send(r) => round_number(r),
-        Stage::Receive(r) => RECEIVING + round_number(r),
-        Stage::Finished => FINISHED_STAGE,
-        Stage::Aborted => ABORTED_STAGE,
+        Stage::Receive(r) => round_number(r),
+        Stage::Finished => NO_ROUND,
+        Stage::Aborted => NO_ROUND,
     }
 }
 
-fn put(answer: &mut [u64], kind: u64, value: u64, third: u64, fourth: u64, fifth: u64)
+fn put(answer: &mut [u64], kind: u64, value: u64, gate: u64, half: u64, round: u64, held: u64)
     requires { ⌜ places ≤ length (now answer) ⌝ }
-    ensures { λ r. ⌜ now (answer .exit) ≡ overwrite (kind ∷ value ∷ third ∷ fourth ∷ fifth ∷ []) (now (answer .entry)) ⌝ }
+    ensures { λ r. ⌜ now (answer .exit) ≡ overwrite (kind ∷ value ∷ gate ∷ half ∷ round ∷ held ∷ []) (now (answer .entry)) ⌝ }
 {
     answer[0] = kind;
     answer[1] = value;
-    answer[2] = third;
-    answer[3] = fourth;
-    answer[4] = fifth;
+    answer[2] = gate;
+    answer[3] = half;
+    answer[4] = round;
+    answer[5] = held;
 }
 
 fn put_position(answer: &mut [u64], kind: u64, value: u64, at: Position)
@@ -185,7 +220,8 @@ fn put_position(answer: &mut [u64], kind: u64, value: u64, at: Position)
         kind,
         value,
         gate as u64,
-        stage_number(stage) as u64,
+        half_number(stage) as u64,
+        stage_round(stage) as u64,
         held as u64,
     );
 }
@@ -222,10 +258,10 @@ fn put_joint(answer: &mut [u64], a: JointAnswer)
             index: _,
         } => {}
         JointAnswer::Done(rounds) => {
-            put(answer, DONE, rounds as u64, 0, 0, 0);
+            put(answer, DONE, rounds as u64, 0, 0, 0, 0);
         }
         JointAnswer::Aborted { gate, rounds } => {
-            put(answer, ABORTED_RUN, rounds as u64, gate as u64, 0, 0);
+            put(answer, ABORTED_RUN, rounds as u64, gate as u64, 0, 0, 0);
         }
     }
 }
@@ -291,10 +327,10 @@ fn without_room(v: Verdict) -> Refusal
 pub extern "C" fn spdz_open_run(
     parties: usize,
     me: usize,
-    c: &[u32],
-    prep: &[u32],
-    inputs: &[u32],
-    l: &[u32],
+    c: &[Word],
+    prep: &[Word],
+    inputs: &[Word],
+    l: &[Word],
     answer: &mut [u64],
 ) -> Refusal
     ensures returned { λ r. ⌜ r
@@ -302,7 +338,7 @@ pub extern "C" fn spdz_open_run(
         (now (l .entry)) (now (answer .entry))) ⌝ }
     ensures answer { λ r. ⌜ now (answer .exit)
         ≡ leave (openCall (partyOf parties me (now (c .entry)) (now (prep .entry)) (now (inputs .entry))) (now (l .entry)) (now (answer .entry)))
-        (overwrite (answerNumbers (openAnswer prime (partyOf parties me (now (c .entry)) (now (prep .entry)) (now (inputs .entry)))
+        (overwrite (answerNumbers (openAnswer ops (partyOf parties me (now (c .entry)) (now (prep .entry)) (now (inputs .entry)))
         (now (l .entry)))) (now (answer .entry)))
         (now (answer .entry)) ⌝ }
 {
@@ -319,34 +355,35 @@ pub extern "C" fn spdz_open_run(
 pub extern "C" fn spdz_send(
     parties: usize,
     me: usize,
-    c: &[u32],
-    prep: &[u32],
-    inputs: &[u32],
-    l: &[u32],
+    c: &[Word],
+    prep: &[Word],
+    inputs: &[Word],
+    l: &[Word],
     gate: usize,
-    stage: u32,
-    held: u32,
-    coefficients: &[u32],
-    out: &mut [u32],
+    half: u32,
+    round: u32,
+    held: Word,
+    coefficients: &[Word],
+    out: &mut [Word],
     answer: &mut [u64],
 ) -> Refusal
     ensures returned { λ r. ⌜ r
         ≡ returned (sendCall (partyOf parties me (now (c .entry)) (now (prep .entry)) (now (inputs .entry)))
-        (now (l .entry)) (positionAt gate stage held) (now (coefficients .entry)) (now (out .entry)) (now (answer .entry))) ⌝ }
+        (now (l .entry)) (positionAt gate half round held) (now (coefficients .entry)) (now (out .entry)) (now (answer .entry))) ⌝ }
     ensures answer { λ r. ⌜ now (answer .exit)
         ≡ leave (sendCall (partyOf parties me (now (c .entry)) (now (prep .entry)) (now (inputs .entry)))
-        (now (l .entry)) (positionAt gate stage held) (now (coefficients .entry)) (now (out .entry)) (now (answer .entry)))
-        (overwrite (answerNumbers (sendAnswer prime (partyOf parties me (now (c .entry)) (now (prep .entry)) (now (inputs .entry)))
-        (now (l .entry)) (positionAt gate stage held) (now (coefficients .entry)) (length (now (out .entry))))) (now (answer .entry)))
+        (now (l .entry)) (positionAt gate half round held) (now (coefficients .entry)) (now (out .entry)) (now (answer .entry)))
+        (overwrite (answerNumbers (sendAnswer ops (partyOf parties me (now (c .entry)) (now (prep .entry)) (now (inputs .entry)))
+        (now (l .entry)) (positionAt gate half round held) (now (coefficients .entry)) (length (now (out .entry))))) (now (answer .entry)))
         (now (answer .entry)) ⌝ }
     ensures out { λ r. ⌜ now (out .exit)
         ≡ leave (sendCall (partyOf parties me (now (c .entry)) (now (prep .entry)) (now (inputs .entry)))
-        (now (l .entry)) (positionAt gate stage held) (now (coefficients .entry)) (now (out .entry)) (now (answer .entry)))
-        (sendOut prime (partyOf parties me (now (c .entry)) (now (prep .entry)) (now (inputs .entry)))
-        (now (l .entry)) (positionAt gate stage held) (now (coefficients .entry)) (now (out .entry)))
+        (now (l .entry)) (positionAt gate half round held) (now (coefficients .entry)) (now (out .entry)) (now (answer .entry)))
+        (sendOut ops (partyOf parties me (now (c .entry)) (now (prep .entry)) (now (inputs .entry)))
+        (now (l .entry)) (positionAt gate half round held) (now (coefficients .entry)) (now (out .entry)))
         (now (out .entry)) ⌝ }
 {
-    let at = position_at(gate, stage, held);
+    let at = position_at(gate, half, round, held);
     if answer.len() < PLACES {
         let room = out.len();
         return without_room(asked_verdict(party::asking::ask_send(
@@ -371,33 +408,34 @@ pub extern "C" fn spdz_send(
 pub extern "C" fn spdz_receive(
     parties: usize,
     me: usize,
-    c: &[u32],
-    prep: &[u32],
-    inputs: &[u32],
-    l: &mut [u32],
+    c: &[Word],
+    prep: &[Word],
+    inputs: &[Word],
+    l: &mut [Word],
     gate: usize,
-    stage: u32,
-    held: u32,
-    heard: &[u32],
+    half: u32,
+    round: u32,
+    held: Word,
+    heard: &[Word],
     answer: &mut [u64],
 ) -> Refusal
     ensures returned { λ r. ⌜ r
         ≡ returned (receiveCall (partyOf parties me (now (c .entry)) (now (prep .entry)) (now (inputs .entry)))
-        (now (l .entry)) (positionAt gate stage held) (now (heard .entry)) (now (answer .entry))) ⌝ }
+        (now (l .entry)) (positionAt gate half round held) (now (heard .entry)) (now (answer .entry))) ⌝ }
     ensures answer { λ r. ⌜ now (answer .exit)
         ≡ leave (receiveCall (partyOf parties me (now (c .entry)) (now (prep .entry)) (now (inputs .entry)))
-        (now (l .entry)) (positionAt gate stage held) (now (heard .entry)) (now (answer .entry)))
-        (overwrite (answerNumbers (receiveAnswer prime (partyOf parties me (now (c .entry)) (now (prep .entry)) (now (inputs .entry)))
-        (now (l .entry)) (positionAt gate stage held) (now (heard .entry)))) (now (answer .entry)))
+        (now (l .entry)) (positionAt gate half round held) (now (heard .entry)) (now (answer .entry)))
+        (overwrite (answerNumbers (receiveAnswer ops (partyOf parties me (now (c .entry)) (now (prep .entry)) (now (inputs .entry)))
+        (now (l .entry)) (positionAt gate half round held) (now (heard .entry)))) (now (answer .entry)))
         (now (answer .entry)) ⌝ }
     ensures scratch { λ r. ⌜ now (l .exit)
         ≡ leave (receiveCall (partyOf parties me (now (c .entry)) (now (prep .entry)) (now (inputs .entry)))
-        (now (l .entry)) (positionAt gate stage held) (now (heard .entry)) (now (answer .entry)))
-        (receiveScratch prime (partyOf parties me (now (c .entry)) (now (prep .entry)) (now (inputs .entry)))
-        (now (l .entry)) (positionAt gate stage held) (now (heard .entry)))
+        (now (l .entry)) (positionAt gate half round held) (now (heard .entry)) (now (answer .entry)))
+        (receiveScratch ops (partyOf parties me (now (c .entry)) (now (prep .entry)) (now (inputs .entry)))
+        (now (l .entry)) (positionAt gate half round held) (now (heard .entry)))
         (now (l .entry)) ⌝ }
 {
-    let at = position_at(gate, stage, held);
+    let at = position_at(gate, half, round, held);
     if answer.len() < PLACES {
         return without_room(asked_verdict(party::asking::ask_receive(
             parties,
@@ -419,13 +457,13 @@ pub extern "C" fn spdz_receive(
 #[no_mangle]
 pub extern "C" fn spdz_joint_run(
     parties: usize,
-    c: &[u32],
-    preps: &[u32],
-    inputs: &[u32],
-    l: &mut [u32],
-    coefficients: &[u32],
-    transcript: &mut [u32],
-    outputs: &mut [u32],
+    c: &[Word],
+    preps: &[Word],
+    inputs: &[Word],
+    l: &mut [Word],
+    coefficients: &[Word],
+    transcript: &mut [Word],
+    outputs: &mut [Word],
     answer: &mut [u64],
 ) -> Refusal
     ensures returned { λ r. ⌜ r
@@ -434,25 +472,25 @@ pub extern "C" fn spdz_joint_run(
     ensures answer { λ r. ⌜ now (answer .exit)
         ≡ leave (jointCall (jointOf parties (now (c .entry)) (now (preps .entry)) (now (inputs .entry)) (now (coefficients .entry)))
         (now (l .entry)) (now (transcript .entry)) (now (outputs .entry)) (now (answer .entry)))
-        (overwrite (jointNumbers (jointAnswer prime (jointOf parties (now (c .entry)) (now (preps .entry)) (now (inputs .entry)) (now (coefficients .entry)))
+        (overwrite (jointNumbers (jointAnswer ops (jointOf parties (now (c .entry)) (now (preps .entry)) (now (inputs .entry)) (now (coefficients .entry)))
         (now (l .entry)) (now (transcript .entry)) (now (outputs .entry)))) (now (answer .entry)))
         (now (answer .entry)) ⌝ }
     ensures scratch { λ r. ⌜ now (l .exit)
         ≡ leave (jointCall (jointOf parties (now (c .entry)) (now (preps .entry)) (now (inputs .entry)) (now (coefficients .entry)))
         (now (l .entry)) (now (transcript .entry)) (now (outputs .entry)) (now (answer .entry)))
-        (jointScratch prime (jointOf parties (now (c .entry)) (now (preps .entry)) (now (inputs .entry)) (now (coefficients .entry)))
+        (jointScratch ops (jointOf parties (now (c .entry)) (now (preps .entry)) (now (inputs .entry)) (now (coefficients .entry)))
         (now (l .entry)) (now (transcript .entry)) (now (outputs .entry)))
         (now (l .entry)) ⌝ }
     ensures transcript { λ r. ⌜ now (transcript .exit)
         ≡ leave (jointCall (jointOf parties (now (c .entry)) (now (preps .entry)) (now (inputs .entry)) (now (coefficients .entry)))
         (now (l .entry)) (now (transcript .entry)) (now (outputs .entry)) (now (answer .entry)))
-        (jointTranscript prime (jointOf parties (now (c .entry)) (now (preps .entry)) (now (inputs .entry)) (now (coefficients .entry)))
+        (jointTranscript ops (jointOf parties (now (c .entry)) (now (preps .entry)) (now (inputs .entry)) (now (coefficients .entry)))
         (now (l .entry)) (now (transcript .entry)) (now (outputs .entry)))
         (now (transcript .entry)) ⌝ }
     ensures outputs { λ r. ⌜ now (outputs .exit)
         ≡ leave (jointCall (jointOf parties (now (c .entry)) (now (preps .entry)) (now (inputs .entry)) (now (coefficients .entry)))
         (now (l .entry)) (now (transcript .entry)) (now (outputs .entry)) (now (answer .entry)))
-        (jointOutputs prime (jointOf parties (now (c .entry)) (now (preps .entry)) (now (inputs .entry)) (now (coefficients .entry)))
+        (jointOutputs ops (jointOf parties (now (c .entry)) (now (preps .entry)) (now (inputs .entry)) (now (coefficients .entry)))
         (now (l .entry)) (now (transcript .entry)) (now (outputs .entry)))
         (now (outputs .entry)) ⌝ }
 {

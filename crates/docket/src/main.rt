@@ -1,11 +1,12 @@
 // Runs document 01's docket and prints it: for each round its kind and the words of all parties, then the outputs.
+use field::Word;
 use joint::JointAnswer;
 
 const PARTIES: u32 = 2;
 
 fn main() {
-    let circuit: [u32; 16] = [1, 0, 0, 0, 1, 1, 0, 0, 6, 0, 1, 0, 7, 2, 0, 0];
-    let preps: [u32; 26] = [
+    let circuit: [Word; 16] = [1, 0, 0, 0, 1, 1, 0, 0, 6, 0, 1, 0, 7, 2, 0, 0];
+    let preps: [Word; 26] = [
         3,
         1,
         10,
@@ -33,11 +34,11 @@ fn main() {
         7,
         40,
     ];
-    let inputs: [u32; 2] = [5, 6];
-    let coefficients: [u32; 3] = [1, 2, 5];
-    let mut scratch = [0u32; 28];
-    let mut transcript = [0u32; 18];
-    let mut outputs = [0u32; 1];
+    let inputs: [Word; 2] = [5, 6];
+    let coefficients: [Word; 3] = [1, 2, 5];
+    let mut scratch: [Word; 28] = [0; 28];
+    let mut transcript: [Word; 18] = [0; 18];
+    let mut outputs: [Word; 1] = [0; 1];
     match joint::joint_run(
         PARTIES as usize,
         &circuit,

@@ -1,9 +1,17 @@
 // Printing numbers, lists and the rounds of a joint run on standard output.
-use circuit::Gate;
+use circuit::Check;
+use circuit::Kind;
 use circuit::Round;
+use circuit::counting;
+use circuit::rounds;
+use circuit::shapes;
+use field::Word;
+use gates::reading;
 use libc::STDOUT_FILENO;
-ghost use Prim.Native.Nat.{_+_, _≤_};
+ghost use Prim.Native.Nat.{_+_, _*_, _≤_};
 ghost use lib.ListN.{length};
+ghost use Rattle.circuit.specs.Gate.{gateSize};
+ghost use Rattle.circuit.specs.Accept.{mostGates};
 
 // The digits of the largest number, and with a space before them.
 const DIGITS: usize = 10;
@@ -13,6 +21,9 @@ const WIDTH: usize = 11;
 const SPACE: u8 = 32;
 
 const ZERO: u8 = 48;
+
+// No accepted circuit has more gates.
+const MOST_GATES: usize = 256;
 
 // Where a joint run's rounds stand in its transcript, and how many of them are still to print.
 pub struct Place {
@@ -30,7 +41,7 @@ pub fn print_number(n: u64) {
 }
 
 // How many digits a number has: ten at most.
-fn places(n: u32) -> usize
+fn places(n: Word) -> usize
     ensures { λ r. ⌜ r ≤ 10 ⌝ }
 {
     let mut k = 1;
@@ -46,7 +57,7 @@ fn places(n: u32) -> usize
 }
 
 // Puts a space and a number's digits at a place of a text. Where they end.
-fn put_number(text: &mut [u8], at: usize, n: u32) -> usize
+fn put_number(text: &mut [u8], at: usize, n: Word) -> usize
     requires { ⌜ at + 11 ≤ length (now text) ⌝ }
     ensures { λ r. ⌜ r ≤ length (now (text .exit)) ⌝ }
 {
@@ -75,7 +86,7 @@ fn with_room(text: &[u8], at: usize) -> usize
 }
 
 // Prints a list in as few writes as the text has room for.
-fn print_through(words: &[u32], text: &mut [u8])
+fn print_through(words: &[Word], text: &mut [u8])
     requires { ⌜ 11 ≤ length (now text) ⌝ }
 {
     let mut at = 0;
@@ -89,30 +100,39 @@ fn print_through(words: &[u32], text: &mut [u8])
 }
 
 // A list's numbers, each after a space, and the end of the line.
-pub fn print_words(words: &[u32]) {
+pub fn print_words(words: &[Word]) {
     let mut text = io::buffer();
     print_through(words, &mut text);
     print(b"\n");
 }
 
 // A list on a line that begins with its name.
-pub fn print_list(name: &[u8], words: &[u32]) {
+pub fn print_list(name: &[u8], words: &[Word]) {
     print(name);
     print_words(words);
 }
 
-// How many words all parties have in a round.
-fn words_of(parties: u32, g: Gate, r: Round) -> usize {
-    (parties as usize) * circuit::words_in(g, r)
+// How many words all parties have in a round of a gate of that kind.
+fn words_of(parties: u32, kind: Kind, r: Round) -> usize {
+    let s = shapes::shape_of(kind);
+    (parties as usize) * rounds::words_in(s, r)
 }
 
-// A round of the transcript.
+// Is it a round of a gate of that kind, before which that many entries are unchecked?
+fn has_round(kind: Kind, unchecked: usize, r: Round) -> bool {
+    let s = shapes::shape_of(kind);
+    let class = s.class;
+    rounds::has_round(class, unchecked, r)
+}
+
+// A round of the transcript, where the gate has it.
 fn print_round(
-    kind: &[u8],
+    name: &[u8],
     parties: u32,
-    g: Gate,
+    kind: Kind,
+    unchecked: usize,
     r: Round,
-    transcript: &[u32],
+    transcript: &[Word],
     place: Place,
 ) -> Place
     requires { ⌜ place .at ≤ length (now transcript) ⌝ }
@@ -120,7 +140,10 @@ fn print_round(
 {
     let at = place.at;
     let left = place.left;
-    let words = words_of(parties, g, r);
+    let words = words_of(parties, kind, r);
+    if !has_round(kind, unchecked, r) {
+        return place;
+    }
     if left == 0 {
         return place;
     }
@@ -128,92 +151,115 @@ fn print_round(
         return place;
     }
     let end = at + words;
-    print_list(kind, &transcript[at..end]);
+    print_list(name, &transcript[at..end]);
     Place {
         at: end,
         left: left - 1,
     }
 }
 
-// A commitment and its reveal.
+// A gate's own round, by the word for its kind. A local kind has none, nor has an output.
+fn print_own(parties: u32, kind: Kind, transcript: &[Word], place: Place) -> Place
+    requires { ⌜ place .at ≤ length (now transcript) ⌝ }
+    ensures { λ e. ⌜ e .at ≤ length (now (transcript .entry)) ⌝ }
+{
+    match kind {
+        Kind::In => print_round(b"in", parties, kind, 0, Round::Own, transcript, place),
+        Kind::Add => place,
+        Kind::Sub => place,
+        Kind::Plus => place,
+        Kind::Times => place,
+        Kind::Mul => print_round(b"mul", parties, kind, 0, Round::Own, transcript, place),
+        Kind::Out => place,
+    }
+}
+
+// A commitment and its reveal, where the gate has that check.
 fn print_check(
     parties: u32,
-    g: Gate,
-    commit: Round,
-    reveal: Round,
-    transcript: &[u32],
+    kind: Kind,
+    unchecked: usize,
+    check: Check,
+    transcript: &[Word],
     place: Place,
 ) -> Place
     requires { ⌜ place .at ≤ length (now transcript) ⌝ }
     ensures { λ e. ⌜ e .at ≤ length (now (transcript .entry)) ⌝ }
 {
-    let next = print_round(b"seal", parties, g, commit, transcript, place);
-    print_round(b"reveal", parties, g, reveal, transcript, next)
-}
-
-// The shown value, and its check.
-fn print_shown(parties: u32, g: Gate, transcript: &[u32], place: Place) -> Place
-    requires { ⌜ place .at ≤ length (now transcript) ⌝ }
-    ensures { λ e. ⌜ e .at ≤ length (now (transcript .entry)) ⌝ }
-{
-    let next = print_round(b"show", parties, g, Round::OpenOutput, transcript, place);
-    print_check(
+    let commit = Round::Commit(check);
+    let reveal = Round::Reveal(check);
+    let next = print_round(b"seal", parties, kind, unchecked, commit, transcript, place);
+    print_round(
+        b"reveal",
         parties,
-        g,
-        Round::CommitOutput,
-        Round::RevealOutput,
+        kind,
+        unchecked,
+        reveal,
         transcript,
         next,
     )
 }
 
-// The rounds of an output; waiting says whether anything is opened and unchecked.
-fn print_output(parties: u32, g: Gate, waiting: bool, transcript: &[u32], place: Place) -> Place
+// The rounds of a gate before which that many entries are unchecked.
+fn print_gate(
+    parties: u32,
+    kind: Kind,
+    unchecked: usize,
+    transcript: &[Word],
+    place: Place,
+) -> Place
     requires { ⌜ place .at ≤ length (now transcript) ⌝ }
     ensures { λ e. ⌜ e .at ≤ length (now (transcript .entry)) ⌝ }
 {
-    if waiting {
-        let next = print_check(
-            parties,
-            g,
-            Round::CommitOpened,
-            Round::RevealOpened,
-            transcript,
-            place,
-        );
-        return print_shown(parties, g, transcript, next);
-    }
-    print_shown(parties, g, transcript, place)
+    let own = print_own(parties, kind, transcript, place);
+    let first = print_check(parties, kind, unchecked, Check::First, transcript, own);
+    let open = print_round(
+        b"show",
+        parties,
+        kind,
+        unchecked,
+        Round::Open,
+        transcript,
+        first,
+    );
+    print_check(parties, kind, unchecked, Check::Second, transcript, open)
 }
 
-fn print_gate(parties: u32, g: Gate, waiting: bool, transcript: &[u32], place: Place) -> Place
-    requires { ⌜ place .at ≤ length (now transcript) ⌝ }
-    ensures { λ e. ⌜ e .at ≤ length (now (transcript .entry)) ⌝ }
+// How many gates of a circuit are printed: all, where it is accepted.
+fn gates_of(c: &[Word]) -> usize
+    ensures { λ r. ⌜ (gateSize * r ≤ length (now (c .entry))) × (r ≤ mostGates) ⌝ }
 {
-    match g {
-        Gate::In(_) => print_round(b"in", parties, g, Round::Input, transcript, place),
-        Gate::Add(_, _) => place,
-        Gate::Sub(_, _) => place,
-        Gate::Plus(_, _) => place,
-        Gate::Times(_, _) => place,
-        Gate::Mul(_, _) => print_round(b"mul", parties, g, Round::Multiply, transcript, place),
-        Gate::Out(_) => print_output(parties, g, waiting, transcript, place),
+    let count = c.len() / reading::GATE_SIZE;
+    if MOST_GATES < count {
+        return MOST_GATES;
     }
+    count
 }
 
-// How many outputs a gate has.
-fn outputs_of(g: Gate) -> usize
+// How many entries are unchecked after a gate of that kind.
+fn unchecked_after(kind: Kind, unchecked: usize) -> usize
+    requires { ⌜ unchecked + 2 ≤ 2 * mostGates ⌝ }
+    ensures { λ r. ⌜ r ≤ unchecked + 2 ⌝ }
+{
+    let s = shapes::shape_of(kind);
+    counting::unchecked_after(s, unchecked)
+}
+
+// How many outputs a gate of that kind has.
+fn outputs_of(kind: Kind) -> usize
     ensures { λ r. ⌜ r ≤ 1 ⌝ }
 {
-    if circuit::is_out(g) { 1 } else { 0 }
+    let s = shapes::shape_of(kind);
+    let class = s.class;
+    counting::one_if(shapes::is_out(class))
 }
 
-// Prints the rounds made, in their order: the kind of each, and the words of all parties. How many outputs the circuit has.
-pub fn print_rounds(parties: u32, c: &[u32], rounds: usize, transcript: &[u32]) -> usize
+// Prints the rounds made, in their order: the word for each, and the words of all parties. How many outputs the circuit has.
+pub fn print_rounds(parties: u32, c: &[Word], rounds: usize, transcript: &[Word]) -> usize
     ensures { λ r. ⌜ r ≤ length (now (c .entry)) ⌝ }
 {
-    let count = c.len() / circuit::GATE_SIZE;
-    let mut waiting = false;
+    let count = gates_of(c);
+    let mut unchecked = 0;
     let mut place = Place {
         at: 0,
         left: rounds,
@@ -221,15 +267,10 @@ pub fn print_rounds(parties: u32, c: &[u32], rounds: usize, transcript: &[u32]) 
     let mut outs = 0;
     let mut j = 0;
     while j < count {
-        let g = circuit::gate_at(c, j);
-        place = print_gate(parties, g, waiting, transcript, place);
-        if circuit::is_mul(g) {
-            waiting = true;
-        }
-        if circuit::is_out(g) {
-            waiting = false;
-        }
-        outs += outputs_of(g);
+        let kind = reading::kind_at(c, j);
+        place = print_gate(parties, kind, unchecked, transcript, place);
+        unchecked = unchecked_after(kind, unchecked);
+        outs += outputs_of(kind);
         j += 1;
     }
     outs

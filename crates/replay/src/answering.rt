@@ -1,16 +1,29 @@
 // Calling the entry of a request and printing its answer.
+use field::Word;
 use joint::JointAnswer;
 use requests::entries::answer_open;
 use requests::entries::answer_receive;
 use requests::entries::answer_send;
 use requests::entries::print_named;
 use requests::entries::print_refusal;
-use requests::naming::Entry;
-use requests::request::CIRCUIT;
-use requests::request::INPUTS;
-use requests::request::PREP;
+use requests::naming::CIRCUIT;
+use requests::naming::INPUTS;
+use requests::naming::JOINT;
+use requests::naming::OPEN;
+use requests::naming::OUT;
+use requests::naming::OUTPUTS;
+use requests::naming::PARTIES;
+use requests::naming::PREP;
+use requests::naming::RECEIVE;
+use requests::naming::SCRATCH;
+use requests::naming::SEND;
+use requests::naming::SHOW;
+use requests::naming::WORDS;
+use requests::request::CIRCUIT_ROOM;
+use requests::request::INPUTS_ROOM;
+use requests::request::PREP_ROOM;
 use requests::request::Request;
-use requests::request::WORDS;
+use requests::request::WORDS_ROOM;
 use requests::request::part;
 use requests::request::within;
 ghost use Prim.Native.Nat.{_≤_};
@@ -33,17 +46,18 @@ fn print_joint(answer: JointAnswer) {
 
 fn answer_joint(
     request: Request,
-    c: &[u32],
-    preps: &[u32],
-    inputs: &[u32],
-    scratch: &mut [u32],
-    coefficients: &[u32],
-    transcript: &mut [u32],
-    outputs: &mut [u32],
+    c: &[Word],
+    preps: &[Word],
+    inputs: &[Word],
+    scratch: &mut [Word],
+    coefficients: &[Word],
+    transcript: &mut [Word],
+    outputs: &mut [Word],
 ) {
-    let lent = request.lent;
+    let read = request.read;
+    let parties = read[PARTIES];
     let answer = joint::joint_run(
-        lent.parties as usize,
+        parties as usize,
         c,
         preps,
         inputs,
@@ -53,22 +67,28 @@ fn answer_joint(
         outputs,
     );
     print_joint(answer);
-    let entry = request.entry;
-    match entry {
-        Entry::Show => print_shown(lent.parties, c, answer, transcript, outputs),
-        _ => print_lists(scratch, transcript, outputs),
+    if request.entry == SHOW {
+        print_shown(parties, c, answer, transcript, outputs);
+    } else {
+        print_lists(scratch, transcript, outputs);
     }
 }
 
 // The lists that a joint run may write.
-fn print_lists(scratch: &[u32], transcript: &[u32], outputs: &[u32]) {
+fn print_lists(scratch: &[Word], transcript: &[Word], outputs: &[Word]) {
     printing::print_list(b"scratch", scratch);
     printing::print_list(b"transcript", transcript);
     printing::print_list(b"outputs", outputs);
 }
 
 // A joint run for a reader: the rounds made, and the outputs of a finished run.
-fn print_shown(parties: u32, c: &[u32], answer: JointAnswer, transcript: &[u32], outputs: &[u32]) {
+fn print_shown(
+    parties: u32,
+    c: &[Word],
+    answer: JointAnswer,
+    transcript: &[Word],
+    outputs: &[Word],
+) {
     match answer {
         JointAnswer::Refusal {
             number: _,
@@ -90,48 +110,46 @@ fn print_shown(parties: u32, c: &[u32], answer: JointAnswer, transcript: &[u32],
 // Calls the entry of a request on what it is lent.
 fn call(
     request: Request,
-    c: &[u32],
-    prep: &[u32],
-    inputs: &[u32],
-    scratch: &mut [u32],
-    words: &[u32],
-    out: &mut [u32],
-    outputs: &mut [u32],
+    c: &[Word],
+    prep: &[Word],
+    inputs: &[Word],
+    scratch: &mut [Word],
+    words: &[Word],
+    out: &mut [Word],
+    outputs: &mut [Word],
 ) {
     let entry = request.entry;
     match entry {
-        Entry::Open => answer_open(request, c, prep, inputs, scratch),
-        Entry::Send => answer_send(request, c, prep, inputs, scratch, words, out),
-        Entry::Receive => answer_receive(request, c, prep, inputs, scratch, words),
-        Entry::Joint | Entry::Show => {
-            answer_joint(request, c, prep, inputs, scratch, words, out, outputs)
-        }
-        Entry::None => {}
+        OPEN => answer_open(request, c, prep, inputs, scratch),
+        SEND => answer_send(request, c, prep, inputs, scratch, words, out),
+        RECEIVE => answer_receive(request, c, prep, inputs, scratch, words),
+        JOINT | SHOW => { answer_joint(request, c, prep, inputs, scratch, words, out, outputs) }
+        _ => {}
     }
 }
 
 // Calls the entry on the part that was read of each list that it only reads.
 fn call_given(
     request: Request,
-    given: &[u32],
-    scratch: &mut [u32],
-    out: &mut [u32],
-    outputs: &mut [u32],
+    given: &[Word],
+    scratch: &mut [Word],
+    out: &mut [Word],
+    outputs: &mut [Word],
 )
     requires { ⌜ 65536 ≤ length (now given) ⌝ }
 {
-    let lent = request.lent;
-    let c = CIRCUIT + within(lent.circuit);
-    let p = PREP + within(lent.prep);
-    let i = INPUTS + within(lent.inputs);
-    let w = WORDS + within(lent.words);
+    let read = request.read;
+    let c = CIRCUIT_ROOM + within(read[CIRCUIT] as usize);
+    let p = PREP_ROOM + within(read[PREP] as usize);
+    let i = INPUTS_ROOM + within(read[INPUTS] as usize);
+    let w = WORDS_ROOM + within(read[WORDS] as usize);
     call(
         request,
-        &given[CIRCUIT..c],
-        &given[PREP..p],
-        &given[INPUTS..i],
+        &given[CIRCUIT_ROOM..c],
+        &given[PREP_ROOM..p],
+        &given[INPUTS_ROOM..i],
         scratch,
-        &given[WORDS..w],
+        &given[WORDS_ROOM..w],
         out,
         outputs,
     );
@@ -140,17 +158,17 @@ fn call_given(
 // The answer to a whole request. Each list is the part of its room that was read.
 pub fn answer(
     request: Request,
-    given: &[u32],
-    scratch: &mut [u32],
-    out: &mut [u32],
-    outputs: &mut [u32],
+    given: &[Word],
+    scratch: &mut [Word],
+    out: &mut [Word],
+    outputs: &mut [Word],
 )
     requires { ⌜ 65536 ≤ length (now given) ⌝ }
 {
-    let lent = request.lent;
-    let s = part(lent.scratch, scratch);
-    let o = part(lent.out, out);
-    let q = part(lent.outputs, outputs);
+    let read = request.read;
+    let s = part(read[SCRATCH] as usize, scratch);
+    let o = part(read[OUT] as usize, out);
+    let q = part(read[OUTPUTS] as usize, outputs);
     call_given(
         request,
         given,

@@ -1,15 +1,15 @@
 // Reads requests as text from standard input, and prints their answers, as docs/REPLAY.md says.
 mod answering;
 
+use field::Word;
 use libc::STDIN_FILENO;
-use requests::naming::Entry;
-use requests::naming::Field;
+use requests::naming::COMPLETE;
+use requests::naming::NO_ENTRY;
+use requests::naming::OUTSIDE;
 use requests::reading;
 use requests::reading::shorter;
 use requests::request::Request;
 use requests::request::dropped;
-use requests::request::is_complete;
-use requests::request::moved_on;
 use requests::request::started;
 use requests::storing;
 ghost use Prim.Native.Nat.{_<_, _≤_};
@@ -31,14 +31,14 @@ pub struct Course {
 }
 
 // Room for a list that is written to, with its length.
-fn list_room() -> [u32; 16384]
+fn list_room() -> [Word; 16384]
     ensures { λ r. ⌜ 16384 ≡ length r ⌝ }
 {
     [0; 16384]
 }
 
 // Room for the four lists that are only read.
-fn given_room() -> [u32; 65536]
+fn given_room() -> [Word; 65536]
     ensures { λ r. ⌜ 65536 ≡ length r ⌝ }
 {
     [0; 65536]
@@ -79,18 +79,17 @@ fn take_line(
     number: u64,
     line: &[u8],
     request: Request,
-    given: &mut [u32],
-    scratch: &mut [u32],
-    out: &mut [u32],
-    outputs: &mut [u32],
+    given: &mut [Word],
+    scratch: &mut [Word],
+    out: &mut [Word],
+    outputs: &mut [Word],
 ) -> Request
     requires { ⌜ 65536 ≤ length (now given) ⌝ }
 {
     let read = storing::read_line(number, line, request, given, scratch, out, outputs);
-    let wanted = read.wanted;
-    if is_complete(wanted) {
+    if read.wanted == COMPLETE {
         answering::answer(read, given, scratch, out, outputs);
-        return moved_on(read);
+        return started(NO_ENTRY, OUTSIDE);
     }
     read
 }
@@ -99,10 +98,10 @@ fn take_line(
 fn end_line(
     line: &[u8],
     course: Course,
-    given: &mut [u32],
-    scratch: &mut [u32],
-    out: &mut [u32],
-    outputs: &mut [u32],
+    given: &mut [Word],
+    scratch: &mut [Word],
+    out: &mut [Word],
+    outputs: &mut [Word],
 ) -> Course
     requires { ⌜ 65536 ≤ length (now given) ⌝ }
 {
@@ -122,10 +121,10 @@ fn take_byte(
     b: u8,
     line: &mut [u8],
     course: Course,
-    given: &mut [u32],
-    scratch: &mut [u32],
-    out: &mut [u32],
-    outputs: &mut [u32],
+    given: &mut [Word],
+    scratch: &mut [Word],
+    out: &mut [Word],
+    outputs: &mut [Word],
 ) -> Course
     requires { ⌜ 65536 ≤ length (now given) ⌝ }
 {
@@ -140,10 +139,10 @@ fn feed(
     piece: &[u8],
     line: &mut [u8],
     course: Course,
-    given: &mut [u32],
-    scratch: &mut [u32],
-    out: &mut [u32],
-    outputs: &mut [u32],
+    given: &mut [Word],
+    scratch: &mut [Word],
+    out: &mut [Word],
+    outputs: &mut [Word],
 ) -> Course
     requires { ⌜ 65536 ≤ length (now given) ⌝ }
 {
@@ -160,10 +159,10 @@ fn feed(
 fn finish(
     line: &[u8],
     course: Course,
-    given: &mut [u32],
-    scratch: &mut [u32],
-    out: &mut [u32],
-    outputs: &mut [u32],
+    given: &mut [Word],
+    scratch: &mut [Word],
+    out: &mut [Word],
+    outputs: &mut [Word],
 )
     requires { ⌜ 65536 ≤ length (now given) ⌝ }
 {
@@ -196,14 +195,14 @@ fn turns_left(left: u64, count: usize) -> u64
 fn replay(
     piece: &mut [u8],
     line: &mut [u8],
-    given: &mut [u32],
-    scratch: &mut [u32],
-    out: &mut [u32],
-    outputs: &mut [u32],
+    given: &mut [Word],
+    scratch: &mut [Word],
+    out: &mut [Word],
+    outputs: &mut [Word],
 )
     requires { ⌜ 65536 ≤ length (now given) ⌝ }
 {
-    let mut course = next_line(0, started(Entry::None, Field::Start));
+    let mut course = next_line(0, started(NO_ENTRY, OUTSIDE));
     let mut left = MOST;
     while 0 < left {
         let count = read_piece(piece);

@@ -1,11 +1,12 @@
 -- One number, and the words of a position, as the code finds them.
 -- Assumes nothing.
-use Prim.Native.Nat.{ℕ, suc, _-_, _<_, _≤_}
+use Prim.Native.Nat.{ℕ, suc, _+_, _-_, _<_, _≤_}
 use mathlib.Core.Path.{_≡_, refl, sym, ap, _∙_}
 use mathlib.Core.Bool.{Bool, true, false, false≢true}
 use mathlib.Core.Logic.{_≢_}
 use mathlib.Core.List.{List, [], _∷_}
 use native.Mathlib.Omega.{arith}
+use native.Mathlib.Numerals.{add-one}
 use lib.ListN.{length, getD, take, drop}
 use borrow.Author.Tests.{lt-ltb, le-ltb}
 use Rattle.text.specs.Text as X
@@ -21,7 +22,8 @@ use Rattle.requests.specs.declared.reading.Placed.{Placed}
 use Rattle.requests.specs.declared.reading.Placed.the-variants as L
 use Rattle.requests.specs.Names.{stageNamed}
 use Rattle.requests.specs.Order.{placed}
-use Rattle.requests.specs.Lines.{oneOf, oneIn, startFrom, endFrom, wordFrom, ends, positionIn}
+use Rattle.requests.specs.Words.{startFrom, endFrom, wordFrom, ends, nth}
+use Rattle.requests.specs.Lines.{oneOf, oneIn, positionIn}
 
 one-of : (e : X.Ending) (ns : List ℕ) {n : ℕ} → told (length ns) e ≡ Count n → n ≡ 1 → Number (getD (atStart ns (0 ∷ [])) 0 0) ≡ oneOf e ns
 unfolding told oneOf atStart
@@ -83,28 +85,25 @@ module _ {line : List ℕ} {from : ℕ} {w : Span} (found : Word line from w) wh
   unfolding wordFrom
   word-text = rw (word-start, word-end)
 
-module _ {text : List ℕ} {a b c d : Span} (first : Word text 0 a) (second : Word text (a .end) b) (third : Word text (b .end) c) (last : Word text (c .end) d) where
-  end-one : a .end ≡ ends 1 text
-  unfolding ends
-  end-one = word-end first
+-- a word that is found by its number
+module _ {text : List ℕ} (k : ℕ) {w : Span} (found : Word text (ends k text) w) where
+  pub nth-text : take (w .end - w .start) (drop (w .start) text) ≡ nth k text
+  unfolding nth
+  nth-text = word-text found
 
-  end-two : b .end ≡ ends 2 text
+  pub next-word : {v : Span} → Word text (w .end) v → Word text (ends (k + 1) text) v
   unfolding ends
-  end-two = word-end second ∙ ap (endFrom text) end-one
+  next-word next = rw (add-one k, ← word-end found) next
 
-  end-three : c .end ≡ ends 3 text
-  unfolding ends
-  end-three = word-end third ∙ ap (endFrom text) end-two
-
+module _ {text : List ℕ} {a b c d : Span} (first : Word text (ends 0 text) a) (second : Word text (ends 1 text) b) (third : Word text (ends 2 text) c) (last : Word text (ends 3 text) d) where
   pub followed : d .start < d .end → L.Fault ≡ positionIn text
   unfolding positionIn
-  followed h = rw (← end-three, ← word-start last, ← word-end last, lt-ltb (d .start) (d .end) h)
+  followed h = rw (← word-start last, ← word-end last, lt-ltb (d .start) (d .end) h)
 
   pub position-read : {g h : One} {s : Named} {p : Placed} → d .end ≤ d .start
       → g ≡ oneIn (take (a .end - a .start) (drop (a .start) text))
       → s ≡ stageNamed (take (b .end - b .start) (drop (b .start) text))
       → h ≡ oneIn (take (c .end - c .start) (drop (c .start) text))
       → p ≡ placed g s h → p ≡ positionIn text
-  unfolding positionIn ends
-  position-read n e f k q =
-      rw (q, e, f, k, word-text first, word-text second, word-text third, ← end-three, ← end-two, ← end-one, ← word-start last, ← word-end last, le-ltb (d .start) (d .end) n)
+  unfolding positionIn
+  position-read n e f k q = rw (q, e, f, k, nth-text 0 first, nth-text 1 second, nth-text 2 third, ← word-start last, ← word-end last, le-ltb (d .start) (d .end) n)

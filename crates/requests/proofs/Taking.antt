@@ -1,103 +1,104 @@
 -- What a line comes to, by the cases in which the code answers.
 -- Assumes nothing.
-use Prim.Native.Nat.{ℕ, _-_}
+use Prim.Native.Nat.{ℕ, _-_, _<_, _≤_}
 use mathlib.Core.Path.{_≡_, ap, _∙_}
 use mathlib.Core.Bool.{Bool, true, false, not}
 use mathlib.Core.Logic.{_≢_}
 use mathlib.Core.List.{List}
 use lib.ListN.{length, getD, take, drop}
 use lib.Dec.{eqb}
-use borrow.Author.Tests.{eq-eqb, ne-eqb}
+use borrow.Author.Tests.{lt-ltb, le-ltb, le-leb, lt-leb, eq-eqb, ne-eqb}
 use Rattle.text.specs.Code.{Word}
 use Rattle.text.specs.declared.Span.{Span}
 use Rattle.text.proofs.Laws.{denied, granted}
-use Rattle.steps.proofs.Readiness.{tail-part}
-use Rattle.requests.specs.declared.naming.Entry.{Entry}
-use Rattle.requests.specs.declared.naming.Field.the-variants.{Dropped, Parties}
+use Rattle.protocol.proofs.Readiness.{tail-part}
 use Rattle.requests.specs.declared.reading.One.{One}
 use Rattle.requests.specs.declared.reading.One.the-variants.{Number, Fault}
 use Rattle.requests.specs.declared.reading.Placed.{Placed}
 use Rattle.requests.specs.declared.reading.Placed.the-variants as L
 use Rattle.requests.specs.declared.reading.Step.{Step}
-use Rattle.requests.specs.declared.reading.Step.the-variants.{Goes}
 use Rattle.requests.specs.declared.request.Request.{Request}
-use Rattle.requests.specs.Names.{fieldName, spelled, entryNamed}
-use Rattle.requests.specs.Order.{isEntry, started, wanting, movedOn, standing}
-use Rattle.requests.specs.declared.request.Kind.the-variants.{ANumber, APosition}
-use Rattle.requests.specs.Lines.{oneIn, positionIn, kind, lost, withNumber, dropped, withOne, takeNumber, withPlace, takePosition, takeKind, takeWanted, takeField, begin, empty, takeNamed, takeLine}
+use Rattle.requests.specs.Names.{noEntry, fieldName, spelled, entryNamed}
+use Rattle.requests.specs.Order.{parties, party, position, lost, started, movedOn, dropped, withNumber, standing}
+use Rattle.requests.specs.Lines.{oneIn, positionIn, withOne, takeNumber, withPlace, takePosition, goes, lists, takeWanted, takeField, begin, empty, takeNamed, takeLine}
 use Rattle.requests.proofs.Lines.{word-start, word-end, word-text}
 
 module _ (text : List ℕ) (q : Request) {r : Request} where
   module _ {o : One} (read : o ≡ oneIn text) where
-    pub number-taken : {n : ℕ} → o ≡ Number n → r ≡ withNumber q n → r ≡ takeNumber text q
+    pub number-taken : {n : ℕ} {t : Request} → o ≡ Number n → t ≡ withNumber q n → r ≡ movedOn t → r ≡ takeNumber text q
     unfolding takeNumber withOne
-    number-taken e made = rw (← read, e) made
+    number-taken e taken made = rw (← read, e) (made ∙ ap movedOn taken)
 
-    pub number-refused : {f : _} → o ≡ Fault f → r ≡ wanting q Dropped → r ≡ takeNumber text q
-    unfolding takeNumber withOne dropped
+    pub number-refused : {f : _} → o ≡ Fault f → r ≡ dropped q → r ≡ takeNumber text q
+    unfolding takeNumber withOne
     number-refused e made = rw (← read, e) made
 
   module _ {o : Placed} (read : o ≡ positionIn text) where
-    pub position-taken : {at : _} → o ≡ L.Position at → r ≡ standing q at → r ≡ takePosition text q
+    pub position-taken : {at : _} {t : Request} → o ≡ L.Position at → t ≡ standing q at → r ≡ movedOn t → r ≡ takePosition text q
     unfolding takePosition withPlace
-    position-taken e made = rw (← read, e) made
+    position-taken e taken made = rw (← read, e) (made ∙ ap movedOn taken)
 
-    pub position-refused : o ≡ L.Fault → r ≡ wanting q Dropped → r ≡ takePosition text q
-    unfolding takePosition withPlace dropped
+    pub position-refused : o ≡ L.Fault → r ≡ dropped q → r ≡ takePosition text q
+    unfolding takePosition withPlace
     position-refused e made = rw (← read, e) made
 
-module _ (entry : Entry) (bare : Bool) (q : Request) {r : Request} where
-  pub begun-bare : not bare ≡ false → r ≡ started entry Parties → r ≡ begin entry bare q
+module _ (entry : ℕ) (bare : Bool) (q : Request) {r : Request} where
+  pub begun-bare : not bare ≡ false → r ≡ started entry parties → r ≡ begin entry bare q
   unfolding begin
   begun-bare e made = rw (granted bare e) made
 
-  pub begun-more : not bare ≡ true → r ≡ wanting q Dropped → r ≡ begin entry bare q
-  unfolding begin dropped
+  pub begun-more : not bare ≡ true → r ≡ dropped q → r ≡ begin entry bare q
+  unfolding begin
   begun-more e made = rw (denied bare e) made
 
-module _ (rest : List ℕ) (place : ℕ) (q : Request) {t m : Request} where
-  pub number-goes : kind (q .wanted) ≡ ANumber → t ≡ takeNumber rest q → m ≡ movedOn t → Goes m ≡ takeWanted rest place q
-  unfolding takeWanted takeKind
-  number-goes k taken made = rw k (ap Goes (made ∙ ap movedOn taken))
+module _ (rest : List ℕ) (place : ℕ) (q : Request) where
+  pub number-goes : {t : Request} {r : Step} → q .wanted ≤ party → t ≡ takeNumber rest q → r ≡ goes t → r ≡ takeWanted rest place q
+  unfolding takeWanted
+  number-goes h taken made = rw (le-leb (q .wanted) party h) (made ∙ ap goes taken)
 
-  pub position-goes : kind (q .wanted) ≡ APosition → t ≡ takePosition rest q → m ≡ movedOn t → Goes m ≡ takeWanted rest place q
-  unfolding takeWanted takeKind
-  position-goes k taken made = rw k (ap Goes (made ∙ ap movedOn taken))
+  module _ (h : party < q .wanted) where
+    pub position-goes : {t : Request} {r : Step} → q .wanted ≡ position → t ≡ takePosition rest q → r ≡ goes t → r ≡ takeWanted rest place q
+    unfolding takeWanted
+    position-goes e taken made = rw (lt-leb (q .wanted) party h, eq-eqb (q .wanted) position e) (made ∙ ap goes taken)
 
-module _ (name rest : List ℕ) (place : ℕ) (q : Request) {b : Bool} (is : b ≡ lost (kind (q .wanted))) where
-  pub field-lost : b ≡ true → Goes q ≡ takeField name rest place q
+    pub list-wanted : q .wanted ≢ position → lists q place ≡ takeWanted rest place q
+    unfolding takeWanted
+    list-wanted e = rw (lt-leb (q .wanted) party h, ne-eqb (q .wanted) position e)
+
+module _ (name rest : List ℕ) (place : ℕ) (q : Request) {r : Step} where
+  pub field-lost : q .wanted ≡ lost → r ≡ goes q → r ≡ takeField name rest place q
   unfolding takeField
-  field-lost e = rw (← is, e)
+  field-lost e made = rw (eq-eqb (q .wanted) lost e) made
 
-  module _ (e : b ≡ false) {k : Bool} (spelt : k ≡ spelled false name (fieldName (q .wanted))) where
-    pub field-other : {d : Request} → not k ≡ true → d ≡ wanting q Dropped → Goes d ≡ takeField name rest place q
-    unfolding takeField spelled dropped
-    field-other f made = rw (← is, e, ← spelt, denied k f) (ap Goes made)
-
-    pub field-wanted : {r : Step} → not k ≡ false → r ≡ takeWanted rest place q → r ≡ takeField name rest place q
+  module _ (e : q .wanted ≢ lost) {k : Bool} (spelt : k ≡ spelled false name (fieldName (q .entry) (q .wanted))) where
+    pub field-other : {d : Request} → not k ≡ true → d ≡ dropped q → r ≡ goes d → r ≡ takeField name rest place q
     unfolding takeField spelled
-    field-wanted f made = rw (← is, e, ← spelt, granted k f) made
+    field-other f drops made = rw (ne-eqb (q .wanted) lost e, ← spelt, denied k f) (made ∙ ap goes drops)
+
+    pub field-wanted : not k ≡ false → r ≡ takeWanted rest place q → r ≡ takeField name rest place q
+    unfolding takeField spelled
+    field-wanted f made = rw (ne-eqb (q .wanted) lost e, ← spelt, granted k f) made
 
 module _ (line : List ℕ) (q : Request) {w : Span} (first : Word line 0 w) where
-  pub line-empty : w .start ≡ w .end → Goes q ≡ takeLine line q
+  pub line-empty : {r : Step} → w .start ≡ w .end → r ≡ goes q → r ≡ takeLine line q
   unfolding takeLine empty
-  line-empty e = rw (← word-start first, ← word-end first, eq-eqb (w .start) (w .end) e)
+  line-empty e made = rw (← word-start first, ← word-end first, eq-eqb (w .start) (w .end) e) made
 
   module _ (some : w .start ≢ w .end) where
-    pub line-comment : getD line 0 0 ≡ 35 → Goes q ≡ takeLine line q
+    pub line-comment : {r : Step} → getD line 0 0 ≡ 35 → r ≡ goes q → r ≡ takeLine line q
     unfolding takeLine empty
-    line-comment e = rw (← word-start first, ← word-end first, ne-eqb (w .start) (w .end) some, eq-eqb (getD line 0 0) 35 e)
+    line-comment e made = rw (← word-start first, ← word-end first, ne-eqb (w .start) (w .end) some, eq-eqb (getD line 0 0) 35 e) made
 
-    module _ (plain : getD line 0 0 ≢ 35) {entry : Entry} {b : Bool} (named : entry ≡ entryNamed (take (w .end - w .start) (drop (w .start) line))) (is : b ≡ isEntry entry) where
+    module _ (plain : getD line 0 0 ≢ 35) {entry : ℕ} (named : entry ≡ entryNamed (take (w .end - w .start) (drop (w .start) line))) where
       named-line : takeLine line q ≡ takeNamed entry line q
       unfolding takeLine empty
       named-line = rw (named, word-text first, ← word-start first, ← word-end first, ne-eqb (w .start) (w .end) some, ne-eqb (getD line 0 0) 35 plain)
 
-      pub line-entry : b ≡ true → {v : Span} → Word line (w .end) v → {r : Request} → r ≡ begin entry (eqb (v .start) (v .end)) q → Goes r ≡ takeLine line q
+      pub line-entry : {r : Step} → entry < noEntry → {v : Span} → Word line (w .end) v → {d : Request} → d ≡ begin entry (eqb (v .start) (v .end)) q → r ≡ goes d → r ≡ takeLine line q
       unfolding takeNamed empty
-      line-entry e after made = rw (named-line, ← is, e, ← word-end first, ← word-start after, ← word-end after) (ap Goes made)
+      line-entry e after begun made = rw (named-line, lt-ltb entry noEntry e, ← word-end first, ← word-start after, ← word-end after) (made ∙ ap goes begun)
 
-      pub line-field : b ≡ false → {r : Step}
+      pub line-field : {r : Step} → noEntry ≤ entry
           → r ≡ takeField (take (w .end - w .start) (drop (w .start) line)) (take (length line - w .end) (drop (w .end) line)) (w .end) q → r ≡ takeLine line q
       unfolding takeNamed
-      line-field e made = made ∙ rw (named-line, ← is, e, tail-part (w .end) line, word-text first, ← word-end first)
+      line-field e made = made ∙ rw (named-line, le-ltb entry noEntry e, tail-part (w .end) line, word-text first, ← word-end first)

@@ -2,9 +2,11 @@
 -- Assumes nothing.
 use Prim.Native.Nat.{ℕ}
 use mathlib.Core.List.{List}
-use Rattle.steps.specs.Party.{Party}
+use lib.ListN.{getD}
+use Rattle.protocol.specs.Party.{Party}
 use Rattle.requests.specs.declared.request.Request.{Request}
+use Rattle.requests.specs.Order.{parties, party}
 
 -- the party of a request, with the lists that it lends
-unfoldable pub partyIn : Request → List ℕ → List ℕ → List ℕ → Party
-partyIn q c prep inputs = record { parties = q .lent .parties; me = q .lent .me; circuit = c; prep = prep; inputs = inputs }
+abbrev pub partyIn : Request → List ℕ → List ℕ → List ℕ → Party
+partyIn q c prep inputs = record { parties = getD (q .read) parties 0; me = getD (q .read) party 0; circuit = c; prep = prep; inputs = inputs }

@@ -1,8 +1,13 @@
 -- What comes next in a request, as the table of docs/REPLAY.md has it, and what a request holds then.
 -- Assumes nothing.
-use mathlib.Core.Bool.{Bool, true, false}
-use Rattle.circuit.specs.declared.Round.the-variants.{Input}
-use Rattle.steps.specs.declared.Stage.the-variants.{Send}
+use Prim.Native.Nat.{ℕ, _+_, _-_}
+use mathlib.Core.Bool.{Bool, not, cond}
+use mathlib.Core.List.{[], _∷_}
+use lib.ListN.{set}
+use lib.Dec.{ltb}
+use Rattle.text.specs.Text.{alike}
+use Rattle.circuit.specs.declared.Round.the-variants.{Own}
+use Rattle.protocol.specs.declared.Stage.the-variants.{Send}
 use Rattle.requests.specs.declared.request.Request.{Request}
 use Rattle.party.specs.declared.Position as At
 use Rattle.requests.specs.declared.naming.Named.{Named}
@@ -11,81 +16,66 @@ use Rattle.requests.specs.declared.reading.One.{One}
 use Rattle.requests.specs.declared.reading.One.the-variants.{Number, Fault}
 use Rattle.requests.specs.declared.reading.Placed.{Placed}
 use Rattle.requests.specs.declared.reading.Placed.the-variants as L
-use Rattle.requests.specs.declared.naming.Entry.{Entry}
-use Rattle.requests.specs.declared.naming.Entry.the-variants as E
-use Rattle.requests.specs.declared.naming.Field.{Field}
-use Rattle.requests.specs.declared.naming.Field.the-variants.{Start, Dropped, Parties, Party, Circuit, Prep, Preps, Inputs, Scratch, Position, Coefficients, Heard, Out, Transcript, Outputs, Complete}
+use Rattle.requests.specs.Words.{firstFrom}
+use Rattle.requests.specs.Names.{bytes, fieldName}
 
-unfoldable pub isEntry : Entry → Bool
-isEntry E.Open = true
-isEntry E.Send = true
-isEntry E.Receive = true
-isEntry E.Joint = true
-isEntry E.Show = true
-isEntry E.None = false
+-- the fields whose lines have a number, and the one whose line has a position; the others are lists
+abbrev pub parties : ℕ
+parties = 0
 
--- the one for an entry that one party calls, or the one for joint runs
-unfoldable pub either : Entry → Field → Field → Field
-either E.Open single joint = single
-either E.Send single joint = single
-either E.Receive single joint = single
-either E.Joint single joint = joint
-either E.Show single joint = joint
-either E.None single joint = joint
+abbrev pub party : ℕ
+party = 1
 
-unfoldable pub afterScratch : Entry → Field
-afterScratch E.Open = Complete
-afterScratch E.Send = Position
-afterScratch E.Receive = Position
-afterScratch E.Joint = Coefficients
-afterScratch E.Show = Coefficients
-afterScratch E.None = Coefficients
+abbrev pub position : ℕ
+position = 6
 
-unfoldable pub afterPosition : Entry → Field
-afterPosition E.Open = Coefficients
-afterPosition E.Send = Coefficients
-afterPosition E.Receive = Heard
-afterPosition E.Joint = Coefficients
-afterPosition E.Show = Coefficients
-afterPosition E.None = Coefficients
+-- no field: a request is complete, or is dropped
+abbrev pub complete : ℕ
+complete = 10
 
-unfoldable pub following : Entry → Field → Field
-following entry Start = Parties
-following entry Dropped = Dropped
-following entry Parties = either entry Party Circuit
-following entry Party = Circuit
-following entry Circuit = either entry Prep Preps
-following entry Prep = Inputs
-following entry Preps = Inputs
-following entry Inputs = Scratch
-following entry Scratch = afterScratch entry
-following entry Position = afterPosition entry
-following entry Coefficients = either entry Out Transcript
-following entry Heard = Complete
-following entry Out = Complete
-following entry Transcript = Outputs
-following entry Outputs = Complete
-following entry Complete = Start
+abbrev pub lost : ℕ
+lost = 12
+
+-- whether an entry is lent a field, and the first after one that it is lent; a request is complete where there is none
+unfoldable pub has : ℕ → ℕ → Bool
+has entry field = not (alike (bytes "-") (fieldName entry field))
+
+unfoldable pub following : ℕ → ℕ → ℕ
+following entry field = firstFrom (has entry) complete (complete - (field + 1)) (field + 1)
 
 -- a request of which only the entry is known
-unfoldable pub started : Entry → Field → Request
+abbrev pub started : ℕ → ℕ → Request
 started entry wanted =
     record {
       entry = entry;
       wanted = wanted;
-      at = record { gate = 0; stage = Send Input; held = 0 };
-      lent = record { parties = 0; me = 0; circuit = 0; prep = 0; inputs = 0; scratch = 0; words = 0; out = 0; outputs = 0 };
+      at = record { gate = 0; stage = Send Own; held = 0 };
+      read = 0 ∷ 0 ∷ 0 ∷ 0 ∷ 0 ∷ 0 ∷ 0 ∷ 0 ∷ 0 ∷ 0 ∷ [];
     }
 
-unfoldable pub wanting : Request → Field → Request
-wanting q wanted = record { entry = q .entry; wanted = wanted; at = q .at; lent = q .lent }
+abbrev pub wanting : Request → ℕ → Request
+wanting q wanted = record { entry = q .entry; wanted = wanted; at = q .at; read = q .read }
 
-unfoldable pub movedOn : Request → Request
+abbrev pub movedOn : Request → Request
 movedOn q = wanting q (following (q .entry) (q .wanted))
 
+-- "The request is dropped": nothing is wanted until the next begins.
+abbrev pub dropped : Request → Request
+dropped q = wanting q lost
+
+-- a request with the number that was wanted, or the length of the list that was
+unfoldable pub withNumber : Request → ℕ → Request
+withNumber q n =
+    record {
+      entry = q .entry;
+      wanted = q .wanted;
+      at = q .at;
+      read = cond (ltb (q .wanted) complete) (set (q .read) (q .wanted) n) (q .read);
+    }
+
 -- a request at a position
-unfoldable pub standing : Request → At.Position → Request
-standing q at = record { entry = q .entry; wanted = q .wanted; at = at; lent = q .lent }
+abbrev pub standing : Request → At.Position → Request
+standing q at = record { entry = q .entry; wanted = q .wanted; at = at; read = q .read }
 
 -- a position of a gate, a stage and a check share, where each is read
 unfoldable pub placed : One → Named → One → Placed

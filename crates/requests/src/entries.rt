@@ -1,11 +1,14 @@
 // The entries that one party calls, and their answers.
+use crate::naming::PARTIES;
+use crate::naming::PARTY;
 use crate::naming::print_stage;
 use crate::request::Request;
+use field::Word;
 use party::Answer;
 use party::Position;
 ghost use mathlib.Core.Path.{_≡_};
-ghost use Rattle.field.specs.Prime.{prime};
-ghost use Rattle.party.specs.Entry.{sendOut, receiveScratch};
+ghost use Rattle.field.specs.Words.{ops};
+ghost use Rattle.protocol.specs.Entry.{sendOut, receiveScratch};
 ghost use Rattle.party.specs.Code.{positionOf};
 ghost use Rattle.requests.specs.Calls.{partyIn};
 
@@ -48,11 +51,11 @@ fn print_answer(answer: Answer) {
     }
 }
 
-pub fn answer_open(request: Request, c: &[u32], prep: &[u32], inputs: &[u32], scratch: &[u32]) {
-    let lent = request.lent;
+pub fn answer_open(request: Request, c: &[Word], prep: &[Word], inputs: &[Word], scratch: &[Word]) {
+    let read = request.read;
     print_answer(party::open_run(
-        lent.parties as usize,
-        lent.me as usize,
+        read[PARTIES] as usize,
+        read[PARTY] as usize,
         c,
         prep,
         inputs,
@@ -62,20 +65,20 @@ pub fn answer_open(request: Request, c: &[u32], prep: &[u32], inputs: &[u32], sc
 
 pub fn answer_send(
     request: Request,
-    c: &[u32],
-    prep: &[u32],
-    inputs: &[u32],
-    scratch: &[u32],
-    coefficients: &[u32],
-    out: &mut [u32],
+    c: &[Word],
+    prep: &[Word],
+    inputs: &[Word],
+    scratch: &[Word],
+    coefficients: &[Word],
+    out: &mut [Word],
 )
-    ensures out { λ r. ⌜ now (out .exit) ≡ sendOut prime (partyIn request (now (c .entry)) (now (prep .entry)) (now (inputs .entry))) (now (scratch .entry)) (positionOf (request .at)) (now (coefficients .entry)) (now (out .entry)) ⌝ }
+    ensures out { λ r. ⌜ now (out .exit) ≡ sendOut ops (partyIn request (now (c .entry)) (now (prep .entry)) (now (inputs .entry))) (now (scratch .entry)) (positionOf (request .at)) (now (coefficients .entry)) (now (out .entry)) ⌝ }
 {
-    let lent = request.lent;
+    let read = request.read;
     let at = request.at;
     print_answer(party::send(
-        lent.parties as usize,
-        lent.me as usize,
+        read[PARTIES] as usize,
+        read[PARTY] as usize,
         c,
         prep,
         inputs,
@@ -89,19 +92,19 @@ pub fn answer_send(
 
 pub fn answer_receive(
     request: Request,
-    c: &[u32],
-    prep: &[u32],
-    inputs: &[u32],
-    scratch: &mut [u32],
-    heard: &[u32],
+    c: &[Word],
+    prep: &[Word],
+    inputs: &[Word],
+    scratch: &mut [Word],
+    heard: &[Word],
 )
-    ensures scratch { λ r. ⌜ now (scratch .exit) ≡ receiveScratch prime (partyIn request (now (c .entry)) (now (prep .entry)) (now (inputs .entry))) (now (scratch .entry)) (positionOf (request .at)) (now (heard .entry)) ⌝ }
+    ensures scratch { λ r. ⌜ now (scratch .exit) ≡ receiveScratch ops (partyIn request (now (c .entry)) (now (prep .entry)) (now (inputs .entry))) (now (scratch .entry)) (positionOf (request .at)) (now (heard .entry)) ⌝ }
 {
-    let lent = request.lent;
+    let read = request.read;
     let at = request.at;
     print_answer(party::receive(
-        lent.parties as usize,
-        lent.me as usize,
+        read[PARTIES] as usize,
+        read[PARTY] as usize,
         c,
         prep,
         inputs,

@@ -1,40 +1,55 @@
 // The names of entries, of what they are lent, and of stages.
+use circuit::Check;
 use circuit::Round;
-use steps::Stage;
+use protocol::Stage;
+use text::Span;
 ghost use mathlib.Core.Path.{_≡_};
-ghost use Rattle.steps.specs.declared.Stage.the-variants.{Send, Receive};
-ghost use Rattle.requests.specs.Names.{fieldName, stageName, spelled, tryStage, tryRound, entryNamed, stageNamed};
-ghost use Rattle.requests.specs.Order.{isEntry};
+ghost use mathlib.Core.List.{_++_};
+ghost use Rattle.text.specs.Code.{Word};
+ghost use Rattle.requests.specs.Words.{ends, nth};
+ghost use Rattle.requests.specs.Names.{fieldName, roundName, stageName, spelled, tryStage, tryRound, entryNamed, stageNamed};
 
-// None where a word names no entry.
-pub enum Entry {
-    Open,
-    Send,
-    Receive,
-    Joint,
-    Show,
-    None,
-}
+// An entry is the number of its name; NO_ENTRY is none.
+pub const OPEN: usize = 0;
 
-// What comes next in a request. Start: the request itself; Dropped: nothing, for a fault is found; Complete: its answer.
-pub enum Field {
-    Start,
-    Dropped,
-    Parties,
-    Party,
-    Circuit,
-    Prep,
-    Preps,
-    Inputs,
-    Scratch,
-    Position,
-    Coefficients,
-    Heard,
-    Out,
-    Transcript,
-    Outputs,
-    Complete,
-}
+pub const SEND: usize = 1;
+
+pub const RECEIVE: usize = 2;
+
+pub const JOINT: usize = 3;
+
+pub const SHOW: usize = 4;
+
+pub const NO_ENTRY: usize = 5;
+
+// What an entry is lent is a field, the number of its name in the entry's row. Preprocessing is one party's or that of all; words are the
+// coefficients or the words received; out is a party's list or the transcript.
+pub const PARTIES: usize = 0;
+
+pub const PARTY: usize = 1;
+
+pub const CIRCUIT: usize = 2;
+
+pub const PREP: usize = 3;
+
+pub const INPUTS: usize = 4;
+
+pub const SCRATCH: usize = 5;
+
+pub const POSITION: usize = 6;
+
+pub const WORDS: usize = 7;
+
+pub const OUT: usize = 8;
+
+pub const OUTPUTS: usize = 9;
+
+// No field: the request is complete; it has not begun; it is dropped.
+pub const COMPLETE: usize = 10;
+
+pub const OUTSIDE: usize = 11;
+
+pub const LOST: usize = 12;
 
 pub enum Named {
     Stage(Stage),
@@ -52,90 +67,114 @@ fn spell(name: &[u8], printed: bool, word: &[u8]) -> bool
     text::same(word, name)
 }
 
-pub fn entry_named(word: &[u8]) -> Entry
+// The word of a number, counted from 0.
+pub fn nth_word(words: &[u8], k: usize) -> Span
+    ensures { λ r. ⌜ Word (now (words .entry)) (ends k (now (words .entry))) r ⌝ }
+{
+    let mut found = text::word_from(words, 0);
+    let mut i = 0;
+    while i < k {
+        let end = found.end;
+        found = text::word_from(words, end);
+        i += 1;
+    }
+    found
+}
+
+// Prints the name of a number; or tells whether a word is it.
+fn spell_nth(names: &[u8], k: usize, printed: bool, word: &[u8]) -> bool
+    ensures { λ r. ⌜ r ≡ spelled printed (now (word .entry)) (nth k (now (names .entry))) ⌝ }
+{
+    let name = nth_word(names, k);
+    let start = name.start;
+    let end = name.end;
+    spell(&names[start..end], printed, word)
+}
+
+// The entry whose name a word is.
+pub fn entry_named(word: &[u8]) -> usize
     ensures { λ r. ⌜ r ≡ entryNamed (now (word .entry)) ⌝ }
 {
-    if text::same(word, b"open") {
-        return Entry::Open;
+    let mut entry = OPEN;
+    while entry < NO_ENTRY {
+        if spell_nth(b"open send receive joint show", entry, false, word) {
+            return entry;
+        }
+        entry += 1;
     }
-    if text::same(word, b"send") {
-        return Entry::Send;
-    }
-    if text::same(word, b"receive") {
-        return Entry::Receive;
-    }
-    if text::same(word, b"joint") {
-        return Entry::Joint;
-    }
-    if text::same(word, b"show") {
-        return Entry::Show;
-    }
-    Entry::None
+    NO_ENTRY
 }
 
-pub fn is_entry(entry: Entry) -> bool
-    ensures { λ r. ⌜ r ≡ isEntry entry ⌝ }
+// Prints the name of an entry's field; or tells whether a word is it. A row has - where the entry lacks the field.
+pub fn spell_field(entry: usize, field: usize, printed: bool, word: &[u8]) -> bool
+    ensures { λ r. ⌜ r ≡ spelled printed (now (word .entry)) (fieldName entry field) ⌝ }
 {
-    match entry {
-        Entry::Open => true,
-        Entry::Send => true,
-        Entry::Receive => true,
-        Entry::Joint => true,
-        Entry::Show => true,
-        Entry::None => false,
+    if entry == OPEN {
+        return spell_nth(
+            b"parties party circuit prep inputs scratch - - - -",
+            field,
+            printed,
+            word,
+        );
     }
+    if entry == SEND {
+        return spell_nth(
+            b"parties party circuit prep inputs scratch position coefficients out -",
+            field,
+            printed,
+            word,
+        );
+    }
+    if entry == RECEIVE {
+        return spell_nth(
+            b"parties party circuit prep inputs scratch position heard - -",
+            field,
+            printed,
+            word,
+        );
+    }
+    spell_nth(
+        b"parties - circuit preps inputs scratch - coefficients transcript outputs",
+        field,
+        printed,
+        word,
+    )
 }
 
-// Prints the name of what is wanted; or tells whether a word is it.
-pub fn spell_field(field: Field, printed: bool, word: &[u8]) -> bool
-    ensures { λ r. ⌜ r ≡ spelled printed (now (word .entry)) (fieldName field) ⌝ }
-{
-    match field {
-        Field::Start => spell(b"the name of an entry", printed, word),
-        Field::Dropped => spell(b"", printed, word),
-        Field::Parties => spell(b"parties", printed, word),
-        Field::Party => spell(b"party", printed, word),
-        Field::Circuit => spell(b"circuit", printed, word),
-        Field::Prep => spell(b"prep", printed, word),
-        Field::Preps => spell(b"preps", printed, word),
-        Field::Inputs => spell(b"inputs", printed, word),
-        Field::Scratch => spell(b"scratch", printed, word),
-        Field::Position => spell(b"position", printed, word),
-        Field::Coefficients => spell(b"coefficients", printed, word),
-        Field::Heard => spell(b"heard", printed, word),
-        Field::Out => spell(b"out", printed, word),
-        Field::Transcript => spell(b"transcript", printed, word),
-        Field::Outputs => spell(b"outputs", printed, word),
-        Field::Complete => spell(b"", printed, word),
-    }
-}
-
-fn spell_send(r: Round, printed: bool, word: &[u8]) -> bool
-    ensures { λ k. ⌜ k ≡ spelled printed (now (word .entry)) (stageName (Send r)) ⌝ }
+// Prints the name of a round; or tells whether a word is it.
+fn spell_round(r: Round, printed: bool, word: &[u8]) -> bool
+    ensures { λ k. ⌜ k ≡ spelled printed (now (word .entry)) (roundName r) ⌝ }
 {
     match r {
-        Round::Input => spell(b"send-in", printed, word),
-        Round::Multiply => spell(b"send-mul", printed, word),
-        Round::CommitOpened => spell(b"send-seal", printed, word),
-        Round::RevealOpened => spell(b"send-reveal", printed, word),
-        Round::OpenOutput => spell(b"send-show", printed, word),
-        Round::CommitOutput => spell(b"send-output-seal", printed, word),
-        Round::RevealOutput => spell(b"send-output-reveal", printed, word),
+        Round::Own => spell(b"own", printed, word),
+        Round::Open => spell(b"show", printed, word),
+        Round::Commit(check) => match check {
+            Check::First => spell(b"seal", printed, word),
+            Check::Second => spell(b"output-seal", printed, word),
+        },
+        Round::Reveal(check) => match check {
+            Check::First => spell(b"reveal", printed, word),
+            Check::Second => spell(b"output-reveal", printed, word),
+        },
     }
 }
 
-fn spell_receive(r: Round, printed: bool, word: &[u8]) -> bool
-    ensures { λ k. ⌜ k ≡ spelled printed (now (word .entry)) (stageName (Receive r)) ⌝ }
+// The same of one half of a round, whose name is the half's and then the round's.
+fn spell_half(half: &[u8], r: Round, printed: bool, word: &[u8]) -> bool
+    ensures { λ k. ⌜ k ≡ spelled printed (now (word .entry)) (now (half .entry) ++ roundName r) ⌝ }
 {
-    match r {
-        Round::Input => spell(b"receive-in", printed, word),
-        Round::Multiply => spell(b"receive-mul", printed, word),
-        Round::CommitOpened => spell(b"receive-seal", printed, word),
-        Round::RevealOpened => spell(b"receive-reveal", printed, word),
-        Round::OpenOutput => spell(b"receive-show", printed, word),
-        Round::CommitOutput => spell(b"receive-output-seal", printed, word),
-        Round::RevealOutput => spell(b"receive-output-reveal", printed, word),
+    if printed {
+        printing::print(half);
+        return spell_round(r, printed, word);
     }
+    let n = half.len();
+    if word.len() < n {
+        return false;
+    }
+    if !text::same(&word[..n], half) {
+        return false;
+    }
+    spell_round(r, printed, &word[n..])
 }
 
 // Prints the name of a stage; or tells whether a word is it.
@@ -143,8 +182,8 @@ fn spell_stage(stage: Stage, printed: bool, word: &[u8]) -> bool
     ensures { λ r. ⌜ r ≡ spelled printed (now (word .entry)) (stageName stage) ⌝ }
 {
     match stage {
-        Stage::Send(r) => spell_send(r, printed, word),
-        Stage::Receive(r) => spell_receive(r, printed, word),
+        Stage::Send(r) => spell_half(b"send-", r, printed, word),
+        Stage::Receive(r) => spell_half(b"receive-", r, printed, word),
         Stage::Finished => spell(b"finished", printed, word),
         Stage::Aborted => spell(b"aborted", printed, word),
     }
@@ -180,11 +219,10 @@ pub fn stage_named(word: &[u8]) -> Named
     let mut found = Named::None;
     found = try_stage(Stage::Aborted, word, found);
     found = try_stage(Stage::Finished, word, found);
-    found = try_round(Round::RevealOutput, word, found);
-    found = try_round(Round::CommitOutput, word, found);
-    found = try_round(Round::OpenOutput, word, found);
-    found = try_round(Round::RevealOpened, word, found);
-    found = try_round(Round::CommitOpened, word, found);
-    found = try_round(Round::Multiply, word, found);
-    try_round(Round::Input, word, found)
+    found = try_round(Round::Reveal(Check::Second), word, found);
+    found = try_round(Round::Commit(Check::Second), word, found);
+    found = try_round(Round::Reveal(Check::First), word, found);
+    found = try_round(Round::Commit(Check::First), word, found);
+    found = try_round(Round::Open, word, found);
+    try_round(Round::Own, word, found)
 }

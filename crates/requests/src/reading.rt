@@ -1,17 +1,18 @@
 // Reading a line of a request.
-use crate::naming::Entry;
-use crate::naming::Field;
+use crate::naming::COMPLETE;
+use crate::naming::LOST;
+use crate::naming::NO_ENTRY;
 use crate::naming::Named;
+use crate::naming::OUTSIDE;
+use crate::naming::PARTIES;
+use crate::naming::PARTY;
+use crate::naming::POSITION;
 use crate::naming::entry_named;
-use crate::naming::is_entry;
+use crate::naming::nth_word;
 use crate::naming::spell_field;
 use crate::naming::stage_named;
-use crate::request::Kind;
 use crate::request::Request;
 use crate::request::dropped;
-use crate::request::is_begun;
-use crate::request::is_dropped;
-use crate::request::kind_of;
 use crate::request::moved_on;
 use crate::request::started;
 use crate::request::with_number;
@@ -22,7 +23,7 @@ ghost use Prim.Native.Nat.{_≤_};
 ghost use mathlib.Core.Path.{_≡_};
 ghost use Rattle.requests.specs.Order.{placed};
 ghost use Rattle.requests.specs.Lines as W;
-ghost use Rattle.requests.specs.Lines.{oneIn, positionIn, takeNumber, takePosition, takeWanted, takeField, takeLine};
+ghost use Rattle.requests.specs.Lines.{oneIn, positionIn, goes, takeNumber, takePosition, takeWanted, takeField, takeLine};
 
 const HASH: u8 = 35;
 
@@ -32,10 +33,11 @@ pub enum One {
     Fault(Numbers),
 }
 
-// What a line leads to: the request goes on; or the list that it wants begins at a place of the line.
-pub enum Step {
-    Goes(Request),
-    List(Request, usize),
+// What a line leads to: the request goes on; or it wants a list, which begins at a place of the line.
+pub struct Step {
+    pub request: Request,
+    pub listed: bool,
+    pub from: usize,
 }
 
 // A position, or that there is none.
@@ -56,9 +58,14 @@ pub fn complain(number: u64, message: &[u8]) {
     printing::print(b"\n");
 }
 
-fn complain_wanted(number: u64, wanted: Field) {
+// What was to come in a request, or outside of one.
+fn complain_wanted(number: u64, request: Request) {
     print_line(number);
-    spell_field(wanted, true, b"");
+    if request.wanted == OUTSIDE {
+        printing::print(b"the name of an entry");
+    } else {
+        spell_field(request.entry, request.wanted, true, b"");
+    }
     printing::print(b" is wanted\n");
 }
 
@@ -103,7 +110,7 @@ fn take_number(number: u64, rest: &[u8], request: Request) -> Request
     ensures { λ r. ⌜ r ≡ takeNumber (now (rest .entry)) request ⌝ }
 {
     match one_number(rest) {
-        One::Number(n) => with_number(request, n),
+        One::Number(n) => moved_on(with_number(request, n)),
         One::Fault(read) => {
             complain_one(number, read);
             dropped(request)
@@ -115,16 +122,16 @@ fn take_number(number: u64, rest: &[u8], request: Request) -> Request
 fn position_in(rest: &[u8]) -> Placed
     ensures { λ r. ⌜ r ≡ positionIn (now (rest .entry)) ⌝ }
 {
-    let first = text::word_from(rest, 0);
+    let first = nth_word(rest, 0);
     let first_start = first.start;
     let first_end = first.end;
-    let second = text::word_from(rest, first_end);
+    let second = nth_word(rest, 1);
     let second_start = second.start;
     let second_end = second.end;
-    let third = text::word_from(rest, second_end);
+    let third = nth_word(rest, 2);
     let third_start = third.start;
     let third_end = third.end;
-    let last = text::word_from(rest, third_end);
+    let last = nth_word(rest, 3);
     if last.start < last.end {
         return Placed::Fault;
     }
@@ -158,11 +165,21 @@ fn take_position(number: u64, rest: &[u8], request: Request) -> Request
     ensures { λ r. ⌜ r ≡ takePosition (now (rest .entry)) request ⌝ }
 {
     match position_in(rest) {
-        Placed::Position(at) => with_position(request, at),
+        Placed::Position(at) => moved_on(with_position(request, at)),
         Placed::Fault => {
             complain(number, b"a gate, a stage and a check share are wanted");
             dropped(request)
         }
+    }
+}
+
+fn goes(request: Request) -> Step
+    ensures { λ r. ⌜ r ≡ goes request ⌝ }
+{
+    Step {
+        request,
+        listed: false,
+        from: 0,
     }
 }
 
@@ -171,13 +188,16 @@ fn take_wanted(number: u64, rest: &[u8], start: usize, request: Request) -> Step
     ensures { λ r. ⌜ r ≡ takeWanted (now (rest .entry)) start request ⌝ }
 {
     let wanted = request.wanted;
-    match kind_of(wanted) {
-        Kind::Outside => Step::List(request, start),
-        Kind::Lost => Step::List(request, start),
-        Kind::Ended => Step::List(request, start),
-        Kind::ANumber => Step::Goes(moved_on(take_number(number, rest, request))),
-        Kind::APosition => Step::Goes(moved_on(take_position(number, rest, request))),
-        Kind::AList => Step::List(request, start),
+    if wanted <= PARTY {
+        return goes(take_number(number, rest, request));
+    }
+    if wanted == POSITION {
+        return goes(take_position(number, rest, request));
+    }
+    Step {
+        request,
+        listed: true,
+        from: start,
     }
 }
 
@@ -185,30 +205,28 @@ fn take_wanted(number: u64, rest: &[u8], start: usize, request: Request) -> Step
 fn take_field(number: u64, name: &[u8], rest: &[u8], start: usize, request: Request) -> Step
     ensures { λ r. ⌜ r ≡ takeField (now (name .entry)) (now (rest .entry)) start request ⌝ }
 {
-    let wanted = request.wanted;
-    if is_dropped(wanted) {
-        return Step::Goes(request);
+    if request.wanted == LOST {
+        return goes(request);
     }
-    if !spell_field(wanted, false, name) {
-        complain_wanted(number, wanted);
-        return Step::Goes(dropped(request));
+    if !spell_field(request.entry, request.wanted, false, name) {
+        complain_wanted(number, request);
+        return goes(dropped(request));
     }
     take_wanted(number, rest, start, request)
 }
 
 // A line that begins with an entry's name; bare says that nothing else is there.
-fn begin(number: u64, entry: Entry, bare: bool, request: Request) -> Request
+fn begin(number: u64, entry: usize, bare: bool, request: Request) -> Request
     ensures { λ r. ⌜ r ≡ W.begin entry bare request ⌝ }
 {
-    let wanted = request.wanted;
-    if is_begun(wanted) {
-        complain_wanted(number, wanted);
+    if request.wanted < COMPLETE {
+        complain_wanted(number, request);
     }
     if !bare {
         complain(number, b"nothing may follow the name of an entry");
         return dropped(request);
     }
-    started(entry, Field::Parties)
+    started(entry, PARTIES)
 }
 
 // The lesser of two counts.
@@ -226,23 +244,22 @@ pub fn take_line(number: u64, line: &[u8], request: Request) -> Step
     let start = word.start;
     let end = word.end;
     if start == end {
-        return Step::Goes(request);
+        return goes(request);
     }
     if line[0] == HASH {
-        return Step::Goes(request);
+        return goes(request);
     }
     let entry = entry_named(&line[start..end]);
-    if is_entry(entry) {
+    if entry < NO_ENTRY {
         let after = text::word_from(line, end);
-        return Step::Goes(begin(number, entry, after.start == after.end, request));
+        return goes(begin(number, entry, after.start == after.end, request));
     }
     take_field(number, &line[start..end], &line[end..], end, request)
 }
 
 // The end of the input.
 pub fn take_end(number: u64, request: Request) {
-    let wanted = request.wanted;
-    if is_begun(wanted) {
-        complain_wanted(number, wanted);
+    if request.wanted < COMPLETE {
+        complain_wanted(number, request);
     }
 }

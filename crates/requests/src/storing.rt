@@ -1,47 +1,66 @@
 // Reading a line of a request, and storing its list.
-use crate::naming::Field;
-use crate::reading::Step;
+use crate::naming::CIRCUIT;
+use crate::naming::INPUTS;
+use crate::naming::OUT;
+use crate::naming::OUTPUTS;
+use crate::naming::PREP;
+use crate::naming::SCRATCH;
+use crate::naming::WORDS;
 use crate::reading::complain_numbers;
 use crate::reading::shorter;
 use crate::reading::take_line;
-use crate::request::CIRCUIT;
-use crate::request::INPUTS;
-use crate::request::PREP;
+use crate::request::CIRCUIT_ROOM;
+use crate::request::INPUTS_ROOM;
+use crate::request::PREP_ROOM;
 use crate::request::ROOM;
 use crate::request::Request;
-use crate::request::WORDS;
+use crate::request::WORDS_ROOM;
 use crate::request::dropped;
 use crate::request::moved_on;
-use crate::request::with_length;
+use crate::request::with_number;
+use crate::request::within;
+use field::Word;
 use text::Numbers;
 ghost use Prim.Native.Nat.{_≤_};
 ghost use lib.ListN.{length};
 
 // Reads the list that is wanted, which begins at a place of the line, into its room.
-fn take_list(number: u64, line: &[u8], from: usize, request: Request, list: &mut [u32]) -> Request {
+fn take_list(
+    number: u64,
+    line: &[u8],
+    from: usize,
+    request: Request,
+    list: &mut [Word],
+) -> Request {
     let start = shorter(from, line.len());
     let read = text::read_numbers(&line[start..], list);
     complain_numbers(number, read);
     match read {
-        Numbers::Count(n) => moved_on(with_length(request, n)),
+        Numbers::Count(n) => moved_on(with_number(request, within(n) as u32)),
         _ => dropped(request),
     }
 }
 
 // Where the room of a list that is only read begins.
-fn place_of(wanted: Field) -> usize
+fn place_of(wanted: usize) -> usize
     ensures { λ r. ⌜ r ≤ 49152 ⌝ }
 {
     match wanted {
-        Field::Circuit => CIRCUIT,
-        Field::Prep | Field::Preps => PREP,
-        Field::Inputs => INPUTS,
-        _ => WORDS,
+        CIRCUIT => CIRCUIT_ROOM,
+        PREP => PREP_ROOM,
+        INPUTS => INPUTS_ROOM,
+        _ => WORDS_ROOM,
     }
 }
 
 // Reads a list that an entry only reads.
-fn take_given(number: u64, line: &[u8], from: usize, request: Request, given: &mut [u32]) -> Request
+fn take_given(
+    number: u64,
+    line: &[u8],
+    from: usize,
+    request: Request,
+    given: &mut [Word],
+) -> Request
     requires { ⌜ 65536 ≤ length (now given) ⌝ }
 {
     let wanted = request.wanted;
@@ -50,48 +69,30 @@ fn take_given(number: u64, line: &[u8], from: usize, request: Request, given: &m
     take_list(number, line, from, request, &mut given[place..end])
 }
 
-// Reads the list that is wanted, whichever it is.
-fn fill(
-    number: u64,
-    line: &[u8],
-    from: usize,
-    request: Request,
-    given: &mut [u32],
-    scratch: &mut [u32],
-    out: &mut [u32],
-    outputs: &mut [u32],
-) -> Request
-    requires { ⌜ 65536 ≤ length (now given) ⌝ }
-{
-    let wanted = request.wanted;
-    match wanted {
-        Field::Circuit
-        | Field::Prep
-        | Field::Preps
-        | Field::Inputs
-        | Field::Coefficients
-        | Field::Heard => take_given(number, line, from, request, given),
-        Field::Scratch => take_list(number, line, from, request, scratch),
-        Field::Out | Field::Transcript => take_list(number, line, from, request, out),
-        Field::Outputs => take_list(number, line, from, request, outputs),
-        _ => request,
-    }
-}
-
 // Reads a line. The list that it has is stored in its room.
 pub fn read_line(
     number: u64,
     line: &[u8],
     request: Request,
-    given: &mut [u32],
-    scratch: &mut [u32],
-    out: &mut [u32],
-    outputs: &mut [u32],
+    given: &mut [Word],
+    scratch: &mut [Word],
+    out: &mut [Word],
+    outputs: &mut [Word],
 ) -> Request
     requires { ⌜ 65536 ≤ length (now given) ⌝ }
 {
-    match take_line(number, line, request) {
-        Step::Goes(next) => next,
-        Step::List(next, from) => fill(number, line, from, next, given, scratch, out, outputs),
+    let step = take_line(number, line, request);
+    let next = step.request;
+    if !step.listed {
+        return next;
+    }
+    let from = step.from;
+    let wanted = next.wanted;
+    match wanted {
+        CIRCUIT | PREP | INPUTS | WORDS => take_given(number, line, from, next, given),
+        SCRATCH => take_list(number, line, from, next, scratch),
+        OUT => take_list(number, line, from, next, out),
+        OUTPUTS => take_list(number, line, from, next, outputs),
+        _ => next,
     }
 }

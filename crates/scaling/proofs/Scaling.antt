@@ -6,12 +6,13 @@ use mathlib.Core.List.{List, [], _∷_}
 use native.Mathlib.Numerals.{add-one}
 use native.Mathlib.Omega.{arith}
 use lib.ListN.{length, getD, set, length-set}
-use Rattle.field.specs.Prime.{p, mul}
+use Rattle.field.specs.Words.{size}
+use Rattle.field.specs.Prime.{mul}
 use Rattle.field.specs.Prime.Laws.{mul-lt}
 use borrow.Author.Tests.{lt-ltb, le-ltb}
 use Rattle.circuit.specs.Verdict.{Accepted, Refused, elements}
 use Rattle.circuit.proofs.Verdicts.{ask-yes, ask-no, then-refused, then-passed}
-use Rattle.steps.specs.Code.{Below}
+use Rattle.protocol.specs.Holding.{Below}
 use Rattle.scaling.specs.Scale.{scaled, askScale}
 
 -- the numbers from i on scaled
@@ -33,7 +34,7 @@ from-end by zero (x ∷ xs) h = absurd (omega arith)
 from-end by (suc i) [] h = refl
 from-end by (suc i) (x ∷ xs) h = ap (λ ys. x ∷ ys) (from-end by i xs (omega arith))
 
-below-set : (xs : List ℕ) (i v : ℕ) → v < p → Below xs → Below (set xs i v)
+below-set : (xs : List ℕ) (i v : ℕ) → v < size → Below size xs → Below size (set xs i v)
 below-set [] i v lv low k = low k
 below-set (x ∷ xs) zero v lv low zero = lv
 below-set (x ∷ xs) zero v lv low (suc k) = low (suc k)
@@ -45,10 +46,10 @@ pub record Scaling (by : ℕ) (xs₀ xs : List ℕ) (i : ℕ) : Type 0 where
   pub upto : i ≤ length xs
   pub long : length xs ≡ length xs₀
   pub rest : scaledFrom by i xs ≡ scaled by xs₀
-  pub low : Below xs
+  pub low : Below size xs
 
 module _ (by : ℕ) (xs₀ : List ℕ) where
-  pub scaling-starts : Below xs₀ → Scaling by xs₀ xs₀ 0
+  pub scaling-starts : Below size xs₀ → Scaling by xs₀ xs₀ 0
   unfolding scaledFrom
   scaling-starts low = record { upto = omega arith; long = refl; rest = refl; low = low }
 
@@ -67,15 +68,15 @@ module _ (by : ℕ) (xs₀ : List ℕ) where
 
 -- what the questions come to
 module _ (by : ℕ) (xs : List ℕ) where
-  pub factor-refused : p ≤ by → askScale by xs ≡ Refused 1 0
+  pub factor-refused : size ≤ by → askScale by xs ≡ Refused 1 0
   unfolding askScale
-  factor-refused h = then-refused _ (ask-no 1 0 (le-ltb by p h))
+  factor-refused h = then-refused _ (ask-no 1 0 (le-ltb by size h))
 
-  module _ (h : by < p) where
-    pub numbers-refused : {number index : ℕ} → elements 2 p xs ≡ Refused number index → askScale by xs ≡ Refused number index
+  module _ (h : by < size) where
+    pub numbers-refused : {number index : ℕ} → elements 2 size xs ≡ Refused number index → askScale by xs ≡ Refused number index
     unfolding askScale
-    numbers-refused e = then-passed _ (ask-yes 1 0 (lt-ltb by p h)) ∙ e
+    numbers-refused e = then-passed _ (ask-yes 1 0 (lt-ltb by size h)) ∙ e
 
-    pub numbers-accepted : elements 2 p xs ≡ Accepted → askScale by xs ≡ Accepted
+    pub numbers-accepted : elements 2 size xs ≡ Accepted → askScale by xs ≡ Accepted
     unfolding askScale
-    numbers-accepted e = then-passed _ (ask-yes 1 0 (lt-ltb by p h)) ∙ e
+    numbers-accepted e = then-passed _ (ask-yes 1 0 (lt-ltb by size h)) ∙ e

@@ -1,9 +1,9 @@
--- `capi::put` meets its contract: five numbers are written one after another at the start.
+-- `capi::put` meets its contract: six numbers are written one after another at the start.
 -- Assumes nothing.
 use native.Mathlib.Omega.{arith}
 use lib.ListN.{length-set}
-use Rattle.capi.proofs.Writing.{overwrite-five}
 use borrow.Author.Needs.{needs}
+use Rattle.capi.proofs.Writing.{overwrite-six}
 use Rattle.capi.proofs.put.Statement.{statement}
 use Rattle.capi.proofs.put.Tie as tie
 
@@ -20,13 +20,16 @@ slice-write-answer-4 : tie.Need-slice-write-answer-4
 slice-write-answer-4 c = simp length-set (omega arith)
 
 slice-write-answer-5 : tie.Need-slice-write-answer-5
-slice-write-answer-5 c = search needs
+slice-write-answer-5 c = simp length-set (omega arith)
+
+slice-write-answer-6 : tie.Need-slice-write-answer-6
+slice-write-answer-6 c = search needs
 
 same-length : tie.Need-same-length
 same-length c = search needs
 
 returns : tie.Need-returns
-returns c = overwrite-five _ _ _ _ _ _ (omega arith)
+returns c = overwrite-six _ _ _ _ _ _ _ (omega arith)
 
 pub put-spec : {M : Type 1} → statement M
 put-spec =
@@ -37,5 +40,6 @@ put-spec =
     slice-write-answer-3
     slice-write-answer-4
     slice-write-answer-5
+    slice-write-answer-6
     same-length
     returns)

@@ -1,6 +1,6 @@
 -- `capi::put_answer` meets its contract: each case writes its own numbers.
 -- Assumes nothing.
-use Rattle.steps.specs.Send.{overwrite}
+use Rattle.protocol.specs.Send.{overwrite}
 use Rattle.party.specs.Code.{answerOf}
 use Rattle.capi.specs.Numbers.{answerNumbers}
 use borrow.Author.Needs.{needs}

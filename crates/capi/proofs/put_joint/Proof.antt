@@ -1,6 +1,6 @@
 -- `capi::put_joint` meets its contract: each case writes its own numbers.
 -- Assumes nothing.
-use Rattle.steps.specs.Send.{overwrite}
+use Rattle.protocol.specs.Send.{overwrite}
 use Rattle.joint.specs.Code.{jointAnswerOf}
 use Rattle.capi.specs.Numbers.{jointNumbers}
 use borrow.Author.Needs.{needs}

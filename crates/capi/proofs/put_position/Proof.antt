@@ -1,20 +1,26 @@
 -- `capi::put_position` meets its contract: the numbers that it writes are those of the position.
 -- Assumes nothing.
 use mathlib.Core.Path.{sym}
+use borrow.Author.Needs.{needs}
 use Rattle.party.specs.Code.{positionOf}
 use Rattle.capi.specs.Numbers.{positionNumbers}
-use borrow.Author.Needs.{needs}
 use Rattle.capi.proofs.put_position.Statement.{statement}
 use Rattle.capi.proofs.put_position.Tie as tie
 
-stage-number-requires : tie.Need-stage-number-requires
-stage-number-requires c κs = search needs
+half-number-requires : tie.Need-half-number-requires
+half-number-requires c κs = search needs
 
 cast-put : tie.Need-cast-put
 cast-put c = search needs
 
+stage-round-requires : tie.Need-stage-round-requires
+stage-round-requires c κs = search needs
+
 cast-put-2 : tie.Need-cast-put-2
 cast-put-2 c = search needs
+
+cast-put-3 : tie.Need-cast-put-3
+cast-put-3 c = search needs
 
 put-requires : tie.Need-put-requires
 put-requires c κs = search needs
@@ -24,8 +30,17 @@ same-length c = search needs
 
 returns : tie.Need-returns
 unfolding positionOf positionNumbers
-returns c = rw (sym (c .before .before .before .stage-number .ensures)) (c .before .before .put .ensures)
+returns c = rw (sym (c .before .before .before .before .half-number .ensures), sym (c .before .before .before .stage-round .ensures)) (c .before .before .put .ensures)
 
 pub put-position-spec : {M : Type 1} → statement M
 put-position-spec =
-    tie.close (tie.spec stage-number-requires cast-put cast-put-2 put-requires same-length returns)
+    tie.close
+    (tie.spec
+    half-number-requires
+    cast-put
+    stage-round-requires
+    cast-put-2
+    cast-put-3
+    put-requires
+    same-length
+    returns)

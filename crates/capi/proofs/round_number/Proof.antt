@@ -1,9 +1,8 @@
 -- `capi::round_number` meets its contract: one number for each round.
 -- Assumes nothing.
-use native.Mathlib.Omega.{arith}
-use Rattle.circuit.specs.Round.{roundNumber}
-use Rattle.circuit.specs.Code.{roundOf}
 use borrow.Author.Needs.{needs}
+use Rattle.circuit.specs.Round.{roundNumber}
+use Rattle.circuit.specs.Code.{checkOf, roundOf}
 use Rattle.capi.proofs.round_number.Statement.{statement}
 use Rattle.capi.proofs.round_number.Tie as tie
 
@@ -13,11 +12,17 @@ enum-told c = search needs
 enum-told-2 : tie.Need-enum-told-2
 enum-told-2 c = search needs
 
+enum-known-r : tie.Need-enum-known-r
+enum-known-r c = search needs
+
 enum-told-3 : tie.Need-enum-told-3
 enum-told-3 c = search needs
 
 enum-told-4 : tie.Need-enum-told-4
 enum-told-4 c = search needs
+
+enum-known-r-2 : tie.Need-enum-known-r-2
+enum-known-r-2 c = search needs
 
 enum-told-5 : tie.Need-enum-told-5
 enum-told-5 c = search needs
@@ -25,36 +30,29 @@ enum-told-5 c = search needs
 enum-told-6 : tie.Need-enum-told-6
 enum-told-6 c = search needs
 
-enum-told-7 : tie.Need-enum-told-7
-enum-told-7 c = search needs
-
 returns : tie.Need-returns
-unfolding roundNumber roundOf
-returns c = (omega arith, rw (c .enum-told .given .1))
+unfolding roundNumber roundOf checkOf
+returns c = rw (c .enum-told .given .1)
 
 returns-2 : tie.Need-returns-2
-unfolding roundNumber roundOf
-returns-2 c = (omega arith, rw (c .enum-told2 .given .1))
+unfolding roundNumber roundOf checkOf
+returns-2 c = rw (c .enum-told2 .given .1)
 
 returns-3 : tie.Need-returns-3
-unfolding roundNumber roundOf
-returns-3 c = (omega arith, rw (c .enum-told3 .given .1))
+unfolding roundNumber roundOf checkOf
+returns-3 c = rw (c .before .before .before .r .given .1, c .enum-told3 .given .1)
 
 returns-4 : tie.Need-returns-4
-unfolding roundNumber roundOf
-returns-4 c = (omega arith, rw (c .enum-told4 .given .1))
+unfolding roundNumber roundOf checkOf
+returns-4 c = rw (c .before .before .before .r .given .1, c .enum-told4 .given .1)
 
 returns-5 : tie.Need-returns-5
-unfolding roundNumber roundOf
-returns-5 c = (omega arith, rw (c .enum-told5 .given .1))
+unfolding roundNumber roundOf checkOf
+returns-5 c = rw (c .before .before .before .r2 .given .1, c .enum-told5 .given .1)
 
 returns-6 : tie.Need-returns-6
-unfolding roundNumber roundOf
-returns-6 c = (omega arith, rw (c .enum-told6 .given .1))
-
-returns-7 : tie.Need-returns-7
-unfolding roundNumber roundOf
-returns-7 c = (omega arith, rw (c .enum-told7 .given .1))
+unfolding roundNumber roundOf checkOf
+returns-6 c = rw (c .before .before .before .r2 .given .1, c .enum-told6 .given .1)
 
 pub round-number-spec : {M : Type 1} → statement M
 round-number-spec =
@@ -62,15 +60,15 @@ round-number-spec =
     (tie.spec
     enum-told
     enum-told-2
+    enum-known-r
     enum-told-3
     enum-told-4
+    enum-known-r-2
     enum-told-5
     enum-told-6
-    enum-told-7
     returns
     returns-2
     returns-3
     returns-4
     returns-5
-    returns-6
-    returns-7)
+    returns-6)

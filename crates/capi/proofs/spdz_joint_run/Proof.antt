@@ -4,10 +4,10 @@ use mathlib.Core.Path.{ap, _∙_}
 use Prim.Native.Nat.{_≤_}
 use native.Mathlib.Omega.{arith}
 use lib.ListN.{length}
-use Rattle.steps.specs.Send.{overwrite}
-use Rattle.joint.specs.Entry.{JointAnswer}
+use Rattle.protocol.specs.Send.{overwrite}
+use Rattle.protocol.specs.JointEntry.{JointAnswer}
 use Rattle.capi.specs.Numbers.{places, jointNumbers}
-use Rattle.field.specs.Prime.{prime}
+use Rattle.field.specs.Words.{ops}
 use Rattle.capi.specs.Calls.{jointVerdict}
 use Rattle.capi.proofs.Calling.{joint-short-returned, short-kept, long-returned, long-left, joint-verdict-is, joint-answer-left, joint-scratch-left, joint-transcript-left, joint-outputs-left, scratch-kept, transcript-kept, outputs-kept}
 use borrow.Author.Needs.{needs}
@@ -39,7 +39,7 @@ same-length-3 : tie.Need-same-length-3
 same-length-3 c = search needs
 
 returns : tie.Need-returns
-returns c = (joint-short-returned _ _ _ _ _ (omega arith) (c .before .joint-verdict .ensures ∙ ap jointVerdict (c .before .before .before .before .before .before .before .before .joint-run .ensures .0) ∙ joint-verdict-is prime _ _ _ _) (c .returned-of .ensures), (short-kept _ _ (omega arith) _ _, (c .before .before .before .before .before .before .before .before .joint-run .ensures .1 .0 ∙ scratch-kept _ _ _ ∙ short-kept _ _ (omega arith) _ _, (c .before .before .before .before .before .before .before .before .joint-run .ensures .1 .1 .0 ∙ transcript-kept _ _ _ ∙ short-kept _ _ (omega arith) _ _, rw (c .before .before .before .before .before .before .before .before .joint-run .ensures .1 .1 .1 ∙ outputs-kept _ _ _) (short-kept _ _ (omega arith) _ _)))))
+returns c = (joint-short-returned _ _ _ _ _ (omega arith) (c .before .joint-verdict .ensures ∙ ap jointVerdict (c .before .before .before .before .before .before .before .before .joint-run .ensures .0) ∙ joint-verdict-is ops _ _ _ _) (c .returned-of .ensures), (short-kept _ _ (omega arith) _ _, (c .before .before .before .before .before .before .before .before .joint-run .ensures .1 .0 ∙ scratch-kept _ _ _ ∙ short-kept _ _ (omega arith) _ _, (c .before .before .before .before .before .before .before .before .joint-run .ensures .1 .1 .0 ∙ transcript-kept _ _ _ ∙ short-kept _ _ (omega arith) _ _, rw (c .before .before .before .before .before .before .before .before .joint-run .ensures .1 .1 .1 ∙ outputs-kept _ _ _) (short-kept _ _ (omega arith) _ _)))))
 
 joint-run-requires-2 : tie.Need-joint-run-requires-2
 joint-run-requires-2 c κs = search needs
@@ -68,7 +68,7 @@ same-length-7 c = search needs
 returns-2 : tie.Need-returns-2
 returns-2 c =
     let long : places ≤ length (c .before .before .before .before .before .before .before .before .before .before .before .before .before .before .before .before .before .before .before .before .before .before .before .before .before .args .answer .now) = omega arith in
-    (long-returned _ _ long (c .before .joint-verdict2 .ensures ∙ ap jointVerdict (c .before .before .before .before .before .before .before .before .before .before .before .before .joint-run2 .ensures .0) ∙ joint-verdict-is prime _ _ _ _) (c .returned-of2 .ensures), (long-left _ _ long _ _ (joint-answer-left prime _ _ _ _ _) (c .before .before .before .before .put-joint .ensures ∙ ap (λ (a : JointAnswer). overwrite (jointNumbers a) (c .before .before .before .before .before .before .before .before .before .before .before .before .before .before .before .before .before .before .before .before .before .before .before .before .before .args .answer .now)) (c .before .before .before .before .before .before .before .before .before .before .before .before .joint-run2 .ensures .0)), (long-left _ _ long _ _ (joint-scratch-left prime _ _ _ _) (c .before .before .before .before .before .before .before .before .before .before .before .before .joint-run2 .ensures .1 .0), (long-left _ _ long _ _ (joint-transcript-left prime _ _ _ _) (c .before .before .before .before .before .before .before .before .before .before .before .before .joint-run2 .ensures .1 .1 .0), long-left _ _ long _ _ (joint-outputs-left prime _ _ _ _) (c .before .before .before .before .before .before .before .before .before .before .before .before .joint-run2 .ensures .1 .1 .1)))))
+    (long-returned _ _ long (c .before .joint-verdict2 .ensures ∙ ap jointVerdict (c .before .before .before .before .before .before .before .before .before .before .before .before .joint-run2 .ensures .0) ∙ joint-verdict-is ops _ _ _ _) (c .returned-of2 .ensures), (long-left _ _ long _ _ (joint-answer-left ops _ _ _ _ _) (c .before .before .before .before .put-joint .ensures ∙ ap (λ (a : JointAnswer). overwrite (jointNumbers a) (c .before .before .before .before .before .before .before .before .before .before .before .before .before .before .before .before .before .before .before .before .before .before .before .before .before .args .answer .now)) (c .before .before .before .before .before .before .before .before .before .before .before .before .joint-run2 .ensures .0)), (long-left _ _ long _ _ (joint-scratch-left ops _ _ _ _) (c .before .before .before .before .before .before .before .before .before .before .before .before .joint-run2 .ensures .1 .0), (long-left _ _ long _ _ (joint-transcript-left ops _ _ _ _) (c .before .before .before .before .before .before .before .before .before .before .before .before .joint-run2 .ensures .1 .1 .0), long-left _ _ long _ _ (joint-outputs-left ops _ _ _ _) (c .before .before .before .before .before .before .before .before .before .before .before .before .joint-run2 .ensures .1 .1 .1)))))
 
 pub spdz-joint-run-spec : {M : Type 1} → statement M
 spdz-joint-run-spec =

@@ -2,7 +2,7 @@
 -- Assumes nothing.
 use mathlib.Core.Path.{sym, ap, _∙_}
 use native.Mathlib.Omega.{arith}
-use Rattle.field.specs.Prime.{prime}
+use Rattle.field.specs.Words.{ops}
 use Rattle.capi.specs.Calls.{answerVerdict}
 use Rattle.capi.proofs.Calling.{short-returned, short-kept, long-returned, long-left, open-verdict, open-left}
 use borrow.Author.Needs.{needs}
@@ -19,7 +19,7 @@ without-room-requires : tie.Need-without-room-requires
 without-room-requires c κs = search needs
 
 returns : tie.Need-returns
-returns c = (short-returned _ _ (omega arith) (c .before .answer-verdict .ensures ∙ ap answerVerdict (c .before .before .before .open-run .ensures) ∙ open-verdict prime _ _) (c .without-room .ensures), short-kept _ _ (omega arith) _ _)
+returns c = (short-returned _ _ (omega arith) (c .before .answer-verdict .ensures ∙ ap answerVerdict (c .before .before .before .open-run .ensures) ∙ open-verdict ops _ _) (c .without-room .ensures), short-kept _ _ (omega arith) _ _)
 
 put-answer-requires : tie.Need-put-answer-requires
 put-answer-requires c κs = search needs
@@ -34,7 +34,7 @@ same-length : tie.Need-same-length
 same-length c = search needs
 
 returns-2 : tie.Need-returns-2
-returns-2 c = (long-returned _ _ (omega arith) (c .before .answer-verdict2 .ensures ∙ ap answerVerdict (c .before .before .before .before .before .before .before .open-run .ensures) ∙ open-verdict prime _ _) (c .returned-of .ensures), long-left _ _ (omega arith) _ _ (open-left prime _ _ _) (rw (sym (c .before .before .before .before .before .before .before .open-run .ensures)) (c .before .before .before .before .put-answer .ensures)))
+returns-2 c = (long-returned _ _ (omega arith) (c .before .answer-verdict2 .ensures ∙ ap answerVerdict (c .before .before .before .before .before .before .before .open-run .ensures) ∙ open-verdict ops _ _) (c .returned-of .ensures), long-left _ _ (omega arith) _ _ (open-left ops _ _ _) (rw (sym (c .before .before .before .before .before .before .before .open-run .ensures)) (c .before .before .before .before .put-answer .ensures)))
 
 pub spdz-open-run-spec : {M : Type 1} → statement M
 spdz-open-run-spec =

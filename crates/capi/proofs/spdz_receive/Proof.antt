@@ -2,7 +2,7 @@
 -- Assumes nothing.
 use mathlib.Core.Path.{sym, ap, _∙_}
 use native.Mathlib.Omega.{arith}
-use Rattle.field.specs.Prime.{prime}
+use Rattle.field.specs.Words.{ops}
 use Rattle.capi.specs.Calls.{answerVerdict}
 use Rattle.capi.proofs.Calling.{short-returned, short-kept, long-returned, long-left, receive-verdict, receive-left, scratch-left}
 use borrow.Author.Needs.{needs}
@@ -46,7 +46,7 @@ same-length-3 : tie.Need-same-length-3
 same-length-3 c = search needs
 
 returns-2 : tie.Need-returns-2
-returns-2 c = rw (sym (c .before .before .before .before .before .before .before .before .before .before .before .position-at .ensures)) (long-returned _ _ (omega arith) (c .before .answer-verdict .ensures ∙ ap answerVerdict (c .before .before .before .before .before .before .before .before .receive .ensures .0) ∙ receive-verdict prime _ _ _ _) (c .returned-of .ensures), (long-left _ _ (omega arith) _ _ (receive-left prime _ _ _ _ _) (rw (sym (c .before .before .before .before .before .before .before .before .receive .ensures .0)) (c .before .before .before .before .put-answer .ensures)), long-left _ _ (omega arith) _ _ (scratch-left prime _ _ _ _) (c .before .before .before .before .before .before .before .before .receive .ensures .1)))
+returns-2 c = rw (sym (c .before .before .before .before .before .before .before .before .before .before .before .position-at .ensures)) (long-returned _ _ (omega arith) (c .before .answer-verdict .ensures ∙ ap answerVerdict (c .before .before .before .before .before .before .before .before .receive .ensures .0) ∙ receive-verdict ops _ _ _ _) (c .returned-of .ensures), (long-left _ _ (omega arith) _ _ (receive-left ops _ _ _ _ _) (rw (sym (c .before .before .before .before .before .before .before .before .receive .ensures .0)) (c .before .before .before .before .put-answer .ensures)), long-left _ _ (omega arith) _ _ (scratch-left ops _ _ _ _) (c .before .before .before .before .before .before .before .before .receive .ensures .1)))
 
 pub spdz-receive-spec : {M : Type 1} → statement M
 spdz-receive-spec =

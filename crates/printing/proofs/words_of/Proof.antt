@@ -1,20 +1,26 @@
 -- `printing::words_of` meets its contract: a round has two words a party at most.
 -- Assumes nothing.
 use native.Mathlib.Omega.{arith}
-use borrow.Author.Needs.{needs}
-use Rattle.printing.proofs.Few.{words-of-few}
 use native.Mathlib.Nat.{mul-le-mul-left}
+use Prim.Native.Nat.{_≤_}
+use borrow.Author.Needs.{needs}
+use Rattle.circuit.proofs.RoundLaws.{few-words}
 use Rattle.printing.proofs.words_of.Statement.{statement}
 use Rattle.printing.proofs.words_of.Tie as tie
+
+shape-of-requires : tie.Need-shape-of-requires
+shape-of-requires c κs = search needs
 
 words-in-requires : tie.Need-words-in-requires
 words-in-requires c κs = search needs
 
 mul-result : tie.Need-mul-result
-mul-result c = omega (arith, mul-le-mul-left (c .before .args .parties) (words-of-few _ _ (c .words-in .ensures)))
+mul-result c =
+    let few : c .words-in .result ≤ 2 = rw (c .words-in .ensures, c .before .shape-of .ensures) (few-words _ _) in
+    omega (arith, mul-le-mul-left (c .before .before .args .parties) few)
 
 returns : tie.Need-returns
 returns c = search needs
 
 pub words-of-spec : {M : Type 1} → statement M
-words-of-spec = tie.close (tie.spec words-in-requires mul-result returns)
+words-of-spec = tie.close (tie.spec shape-of-requires words-in-requires mul-result returns)

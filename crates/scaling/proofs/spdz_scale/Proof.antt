@@ -3,10 +3,10 @@
 use native.Mathlib.Omega.{arith}
 use mathlib.Core.Path.{sym, ap, _∙_}
 use denote.Ref.{now}
-use Rattle.field.specs.Prime.{p}
+use Rattle.field.specs.Words.{size}
 use Rattle.circuit.specs.Code.{verdictOf}
 use Rattle.circuit.proofs.Verdicts.{elements-below}
-use Rattle.party.specs.Entry.{leave}
+use Rattle.protocol.specs.Entry.{leave}
 use Rattle.scaling.specs.Scale.{refusalNumber}
 use Rattle.scaling.proofs.Scaling.{factor-refused, numbers-refused, numbers-accepted}
 use borrow.Author.Needs.{needs}
@@ -35,7 +35,7 @@ enum-told c = search needs
 
 scale-requires : tie.Need-scale-requires
 unfolding verdictOf
-scale-requires c κs = (omega arith, elements-below 2 p _ (omega arith) (sym (c .before .before .before .ask-elements .ensures) ∙ ap verdictOf (c .before .enum-told .given .1)))
+scale-requires c κs = (omega arith, elements-below 2 size _ (omega arith) (sym (c .before .before .before .ask-elements .ensures) ∙ ap verdictOf (c .before .enum-told .given .1)))
 
 same-length-2 : tie.Need-same-length-2
 same-length-2 c = search needs

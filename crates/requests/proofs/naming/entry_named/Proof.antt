@@ -1,82 +1,59 @@
--- `requests::naming::entry_named` meets its contract: the word is compared with each name, in the definition's order.
+-- `requests::naming::entry_named` meets its contract: the names that are passed are not the word.
 -- Assumes nothing.
-use mathlib.Core.Path.{sym, _∙_}
-use Rattle.requests.specs.Names.{bytes, entryName, tryEntry, entryNamed}
+use Prim.Native.Nat.{_-_}
+use mathlib.Core.Path.{_≡_, refl, sym, _∙_}
 use borrow.Author.Needs.{needs}
+use Rattle.text.specs.Text.{alike}
+use Rattle.requests.specs.Words.{firstFrom}
+use Rattle.requests.specs.Names.{bytes, noEntry, entryName, spelled, entryNamed}
+use Rattle.requests.proofs.Order.{first-here, first-later, first-none}
 use Rattle.requests.proofs.naming.entry_named.Statement.{statement}
 use Rattle.requests.proofs.naming.entry_named.Tie as tie
 
-slice-aggregate-same : tie.Need-slice-aggregate-same
-slice-aggregate-same c = search needs
+abbrev Inv-loop : tie.InvT-loop
+Inv-loop word entry₀ t3 entry = firstFrom (λ e. alike word (entryName e)) noEntry (noEntry - entry) entry ≡ entryNamed word
 
-same-requires : tie.Need-same-requires
-same-requires c κs = search needs
+abbrev μ-loop : tie.MeasureT-loop
+μ-loop word entry₀ t3 entry = noEntry - entry
 
-returns : tie.Need-returns
-unfolding bytes entryName tryEntry entryNamed
-returns c = rw (sym (c .before .same .ensures) ∙ c .if1 .taken)
+loop-holds : tie.Need-loop-holds Inv-loop μ-loop
+unfolding entryNamed
+loop-holds c = refl
 
-slice-aggregate-same-2 : tie.Need-slice-aggregate-same-2
-slice-aggregate-same-2 c = search needs
+slice-aggregate-spell-nth : tie.Need-slice-aggregate-spell-nth Inv-loop μ-loop
+slice-aggregate-spell-nth c = search needs
 
-same-requires-2 : tie.Need-same-requires-2
-same-requires-2 c κs = search needs
+spell-nth-requires : tie.Need-spell-nth-requires Inv-loop μ-loop
+spell-nth-requires c κs = search needs
 
-returns-2 : tie.Need-returns-2
-unfolding bytes entryName tryEntry entryNamed
-returns-2 c = rw (sym (c .before .before .before .before .same .ensures) ∙ c .before .before .before .if1 .left, sym (c .before .same2 .ensures) ∙ c .if2 .taken)
+returns : tie.Need-returns Inv-loop μ-loop
+unfolding bytes entryName spelled
+returns c = first-here (λ entry. alike (c .before .before .before .before .before .before .args .word .now) (entryName entry)) _ _ _ (c .before .before .before .loop-test .taken) (sym (c .before .spell-nth .ensures) ∙ c .if1 .taken) ∙ c .before .before .before .before .loop .inv
 
-slice-aggregate-same-3 : tie.Need-slice-aggregate-same-3
-slice-aggregate-same-3 c = search needs
+add-entry : tie.Need-add-entry Inv-loop μ-loop
+add-entry c = search needs
 
-same-requires-3 : tie.Need-same-requires-3
-same-requires-3 c κs = search needs
+loop-less : tie.Need-loop-less Inv-loop μ-loop
+loop-less c = search needs
 
-returns-3 : tie.Need-returns-3
-unfolding bytes entryName tryEntry entryNamed
-returns-3 c = rw (sym (c .before .before .before .before .before .before .before .same .ensures) ∙ c .before .before .before .before .before .before .if1 .left, sym (c .before .before .before .before .same2 .ensures) ∙ c .before .before .before .if2 .left, sym (c .before .same3 .ensures) ∙ c .if3 .taken)
+loop-again : tie.Need-loop-again Inv-loop μ-loop
+unfolding bytes entryName spelled
+loop-again c = first-later (λ entry. alike (c .before .before .before .before .before .before .args .word .now) (entryName entry)) _ _ _ (c .before .before .before .loop-test .taken) (sym (c .before .spell-nth .ensures) ∙ c .if1 .left) ∙ c .before .before .before .before .loop .inv
 
-slice-aggregate-same-4 : tie.Need-slice-aggregate-same-4
-slice-aggregate-same-4 c = search needs
-
-same-requires-4 : tie.Need-same-requires-4
-same-requires-4 c κs = search needs
-
-returns-4 : tie.Need-returns-4
-unfolding bytes entryName tryEntry entryNamed
-returns-4 c = rw (sym (c .before .before .before .before .before .before .before .before .before .before .same .ensures) ∙ c .before .before .before .before .before .before .before .before .before .if1 .left, sym (c .before .before .before .before .before .before .before .same2 .ensures) ∙ c .before .before .before .before .before .before .if2 .left, sym (c .before .before .before .before .same3 .ensures) ∙ c .before .before .before .if3 .left, sym (c .before .same4 .ensures) ∙ c .if4 .taken)
-
-slice-aggregate-same-5 : tie.Need-slice-aggregate-same-5
-slice-aggregate-same-5 c = search needs
-
-same-requires-5 : tie.Need-same-requires-5
-same-requires-5 c κs = search needs
-
-returns-5 : tie.Need-returns-5
-unfolding bytes entryName tryEntry entryNamed
-returns-5 c = rw (sym (c .before .before .before .before .before .before .before .before .before .before .before .before .before .same .ensures) ∙ c .before .before .before .before .before .before .before .before .before .before .before .before .if1 .left, sym (c .before .before .before .before .before .before .before .before .before .before .same2 .ensures) ∙ c .before .before .before .before .before .before .before .before .before .if2 .left, sym (c .before .before .before .before .before .before .before .same3 .ensures) ∙ c .before .before .before .before .before .before .if3 .left, sym (c .before .before .before .before .same4 .ensures) ∙ c .before .before .before .if4 .left, sym (c .before .same5 .ensures) ∙ c .if5 .taken)
-
-returns-6 : tie.Need-returns-6
-unfolding bytes entryName tryEntry entryNamed
-returns-6 c = rw (sym (c .before .before .before .before .before .before .before .before .before .before .before .before .before .same .ensures) ∙ c .before .before .before .before .before .before .before .before .before .before .before .before .if1 .left, sym (c .before .before .before .before .before .before .before .before .before .before .same2 .ensures) ∙ c .before .before .before .before .before .before .before .before .before .if2 .left, sym (c .before .before .before .before .before .before .before .same3 .ensures) ∙ c .before .before .before .before .before .before .if3 .left, sym (c .before .before .before .before .same4 .ensures) ∙ c .before .before .before .if4 .left, sym (c .before .same5 .ensures) ∙ c .if5 .left)
+returns-2 : tie.Need-returns-2 Inv-loop μ-loop
+returns-2 c = first-none (λ entry. alike (c .before .before .before .args .word .now) (entryName entry)) _ _ _ (c .loop-test .left) ∙ c .before .loop .inv
 
 pub entry-named-spec : {M : Type 1} → statement M
 entry-named-spec =
     tie.close
     (tie.spec
-    slice-aggregate-same
-    same-requires
+    Inv-loop
+    μ-loop
+    loop-holds
+    slice-aggregate-spell-nth
+    spell-nth-requires
     returns
-    slice-aggregate-same-2
-    same-requires-2
-    returns-2
-    slice-aggregate-same-3
-    same-requires-3
-    returns-3
-    slice-aggregate-same-4
-    same-requires-4
-    returns-4
-    slice-aggregate-same-5
-    same-requires-5
-    returns-5
-    returns-6)
+    add-entry
+    loop-less
+    loop-again
+    returns-2)

@@ -8,14 +8,20 @@ use Rattle.requests.proofs.naming.spell_stage.Tie as tie
 enum-known-stage : tie.Need-enum-known-stage
 enum-known-stage c = search needs
 
-spell-send-requires : tie.Need-spell-send-requires
-spell-send-requires c κs = search needs
+slice-aggregate-spell-half : tie.Need-slice-aggregate-spell-half
+slice-aggregate-spell-half c = search needs
+
+spell-half-requires : tie.Need-spell-half-requires
+spell-half-requires c κs = search needs
 
 enum-known-stage-2 : tie.Need-enum-known-stage-2
 enum-known-stage-2 c = search needs
 
-spell-receive-requires : tie.Need-spell-receive-requires
-spell-receive-requires c κs = search needs
+slice-aggregate-spell-half-2 : tie.Need-slice-aggregate-spell-half-2
+slice-aggregate-spell-half-2 c = search needs
+
+spell-half-requires-2 : tie.Need-spell-half-requires-2
+spell-half-requires-2 c κs = search needs
 
 enum-told : tie.Need-enum-told
 enum-told c = search needs
@@ -37,11 +43,11 @@ spell-requires-2 c κs = search needs
 
 returns : tie.Need-returns
 unfolding bytes stageName
-returns c = rw (c .before .before .stage .given .1) (c .spell-send .ensures)
+returns c = rw (c .before .before .before .stage .given .1) (c .spell-half .ensures)
 
 returns-2 : tie.Need-returns-2
 unfolding bytes stageName
-returns-2 c = rw (c .before .before .stage2 .given .1) (c .spell-receive .ensures)
+returns-2 c = rw (c .before .before .before .stage2 .given .1) (c .spell-half2 .ensures)
 
 returns-3 : tie.Need-returns-3
 unfolding bytes stageName
@@ -56,9 +62,11 @@ spell-stage-spec =
     tie.close
     (tie.spec
     enum-known-stage
-    spell-send-requires
+    slice-aggregate-spell-half
+    spell-half-requires
     enum-known-stage-2
-    spell-receive-requires
+    slice-aggregate-spell-half-2
+    spell-half-requires-2
     enum-told
     slice-aggregate-spell
     spell-requires

@@ -1,7 +1,7 @@
 -- `requests::naming::stage_named` meets its contract: the stages are tried in the definition's order, the last first.
 -- Assumes nothing.
-use Rattle.requests.specs.Names.{stageNamed}
 use borrow.Author.Needs.{needs}
+use Rattle.requests.specs.Names.{rounds, tryRounds, stageNamed}
 use Rattle.requests.proofs.naming.stage_named.Statement.{statement}
 use Rattle.requests.proofs.naming.stage_named.Tie as tie
 
@@ -29,12 +29,9 @@ try-round-requires-5 c κs = search needs
 try-round-requires-6 : tie.Need-try-round-requires-6
 try-round-requires-6 c κs = search needs
 
-try-round-requires-7 : tie.Need-try-round-requires-7
-try-round-requires-7 c κs = search needs
-
 returns : tie.Need-returns
-unfolding stageNamed
-returns c = rw (c .try-round7 .ensures, c .before .try-round6 .ensures, c .before .before .try-round5 .ensures, c .before .before .before .try-round4 .ensures, c .before .before .before .before .try-round3 .ensures, c .before .before .before .before .before .try-round2 .ensures, c .before .before .before .before .before .before .try-round .ensures, c .before .before .before .before .before .before .before .try-stage2 .ensures, c .before .before .before .before .before .before .before .before .try-stage .ensures)
+unfolding rounds tryRounds stageNamed
+returns c = rw (c .try-round6 .ensures, c .before .try-round5 .ensures, c .before .before .try-round4 .ensures, c .before .before .before .try-round3 .ensures, c .before .before .before .before .try-round2 .ensures, c .before .before .before .before .before .try-round .ensures, c .before .before .before .before .before .before .try-stage2 .ensures, c .before .before .before .before .before .before .before .try-stage .ensures)
 
 pub stage-named-spec : {M : Type 1} → statement M
 stage-named-spec =
@@ -48,5 +45,4 @@ stage-named-spec =
     try-round-requires-4
     try-round-requires-5
     try-round-requires-6
-    try-round-requires-7
     returns)

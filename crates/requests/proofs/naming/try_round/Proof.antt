@@ -1,6 +1,5 @@
 -- `requests::naming::try_round` meets its contract: both halves are tried.
 -- Assumes nothing.
-use Rattle.requests.specs.Names.{tryRound}
 use borrow.Author.Needs.{needs}
 use Rattle.requests.proofs.naming.try_round.Statement.{statement}
 use Rattle.requests.proofs.naming.try_round.Tie as tie
@@ -12,7 +11,6 @@ try-stage-requires-2 : tie.Need-try-stage-requires-2
 try-stage-requires-2 c κs = search needs
 
 returns : tie.Need-returns
-unfolding tryRound
 returns c = cc
 
 pub try-round-spec : {M : Type 1} → statement M

@@ -5,9 +5,6 @@ use borrow.Author.Needs.{needs}
 use Rattle.requests.proofs.reading.begin.Statement.{statement}
 use Rattle.requests.proofs.reading.begin.Tie as tie
 
-is-begun-requires : tie.Need-is-begun-requires
-is-begun-requires c κs = search needs
-
 complain-wanted-requires : tie.Need-complain-wanted-requires
 complain-wanted-requires c κs = search needs
 
@@ -33,7 +30,6 @@ pub begin-spec : {M : Type 1} → statement M
 begin-spec =
     tie.close
     (tie.spec
-    is-begun-requires
     complain-wanted-requires
     slice-aggregate-complain
     complain-requires

@@ -1,24 +1,24 @@
--- `requests::reading::position_in` meets its contract: each word is found where the definition has it.
+-- `requests::reading::position_in` meets its contract: each word is found by its number.
 -- Assumes nothing.
 use Rattle.requests.proofs.Lines.{followed, position-read}
 use borrow.Author.Needs.{needs}
 use Rattle.requests.proofs.reading.position_in.Statement.{statement}
 use Rattle.requests.proofs.reading.position_in.Tie as tie
 
-word-from-requires : tie.Need-word-from-requires
-word-from-requires c κs = search needs
+nth-word-requires : tie.Need-nth-word-requires
+nth-word-requires c κs = search needs
 
-word-from-requires-2 : tie.Need-word-from-requires-2
-word-from-requires-2 c κs = search needs
+nth-word-requires-2 : tie.Need-nth-word-requires-2
+nth-word-requires-2 c κs = search needs
 
-word-from-requires-3 : tie.Need-word-from-requires-3
-word-from-requires-3 c κs = search needs
+nth-word-requires-3 : tie.Need-nth-word-requires-3
+nth-word-requires-3 c κs = search needs
 
-word-from-requires-4 : tie.Need-word-from-requires-4
-word-from-requires-4 c κs = search needs
+nth-word-requires-4 : tie.Need-nth-word-requires-4
+nth-word-requires-4 c κs = search needs
 
 returns : tie.Need-returns
-returns c = followed (c .before .before .before .before .before .word-from .ensures) (c .before .before .before .before .word-from2 .ensures) (c .before .before .before .word-from3 .ensures) (c .before .before .word-from4 .ensures) (c .if1 .taken)
+returns c = followed (c .before .before .before .before .before .nth-word .ensures) (c .before .before .before .before .nth-word2 .ensures) (c .before .before .before .nth-word3 .ensures) (c .before .before .nth-word4 .ensures) (c .if1 .taken)
 
 sub-one-number : tie.Need-sub-one-number
 sub-one-number c = search needs
@@ -60,16 +60,16 @@ position-of-requires : tie.Need-position-of-requires
 position-of-requires c κs = search needs
 
 returns-2 : tie.Need-returns-2
-returns-2 c = position-read (c .before .before .before .before .before .before .before .before .before .before .before .before .word-from .ensures) (c .before .before .before .before .before .before .before .before .before .before .before .word-from2 .ensures) (c .before .before .before .before .before .before .before .before .before .before .word-from3 .ensures) (c .before .before .before .before .before .before .before .before .before .word-from4 .ensures) (c .before .before .before .before .before .before .before .if1 .left) (c .before .before .before .before .before .one-number .ensures) (c .before .before .before .stage-named .ensures) (c .before .one-number2 .ensures) (c .position-of .ensures)
+returns-2 c = position-read (c .before .before .before .before .before .before .before .before .before .before .before .before .nth-word .ensures) (c .before .before .before .before .before .before .before .before .before .before .before .nth-word2 .ensures) (c .before .before .before .before .before .before .before .before .before .before .nth-word3 .ensures) (c .before .before .before .before .before .before .before .before .before .nth-word4 .ensures) (c .before .before .before .before .before .before .before .if1 .left) (c .before .before .before .before .before .one-number .ensures) (c .before .before .before .stage-named .ensures) (c .before .one-number2 .ensures) (c .position-of .ensures)
 
 pub position-in-spec : {M : Type 1} → statement M
 position-in-spec =
     tie.close
     (tie.spec
-    word-from-requires
-    word-from-requires-2
-    word-from-requires-3
-    word-from-requires-4
+    nth-word-requires
+    nth-word-requires-2
+    nth-word-requires-3
+    nth-word-requires-4
     returns
     sub-one-number
     part-one-number-start

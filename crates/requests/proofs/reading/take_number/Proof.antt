@@ -14,6 +14,9 @@ enum-known-n c = search needs
 with-number-requires : tie.Need-with-number-requires
 with-number-requires c κs = search needs
 
+moved-on-requires : tie.Need-moved-on-requires
+moved-on-requires c κs = search needs
+
 enum-known-read : tie.Need-enum-known-read
 enum-known-read c = search needs
 
@@ -24,7 +27,7 @@ dropped-requires : tie.Need-dropped-requires
 dropped-requires c κs = search needs
 
 returns : tie.Need-returns
-returns c = number-taken _ _ (c .before .before .before .before .one-number .ensures) (c .before .before .n .given .1) (c .with-number .ensures)
+returns c = number-taken _ _ (c .before .before .before .before .before .one-number .ensures) (c .before .before .before .n .given .1) (c .before .with-number .ensures) (c .moved-on .ensures)
 
 returns-2 : tie.Need-returns-2
 returns-2 c = number-refused _ _ (c .before .before .before .before .before .one-number .ensures) (c .before .before .before .read .given .1) (c .dropped .ensures)
@@ -36,6 +39,7 @@ take-number-spec =
     one-number-requires
     enum-known-n
     with-number-requires
+    moved-on-requires
     enum-known-read
     complain-one-requires
     dropped-requires

@@ -14,6 +14,9 @@ enum-known-at c = search needs
 with-position-requires : tie.Need-with-position-requires
 with-position-requires c κs = search needs
 
+moved-on-requires : tie.Need-moved-on-requires
+moved-on-requires c κs = search needs
+
 enum-told : tie.Need-enum-told
 enum-told c = search needs
 
@@ -27,7 +30,7 @@ dropped-requires : tie.Need-dropped-requires
 dropped-requires c κs = search needs
 
 returns : tie.Need-returns
-returns c = position-taken _ _ (c .before .before .before .before .position-in .ensures) (c .before .before .at .given .1) (c .with-position .ensures)
+returns c = position-taken _ _ (c .before .before .before .before .before .position-in .ensures) (c .before .before .before .at .given .1) (c .before .with-position .ensures) (c .moved-on .ensures)
 
 returns-2 : tie.Need-returns-2
 returns-2 c = position-refused _ _ (c .before .before .before .before .before .position-in .ensures) (c .before .before .before .enum-told .given .1) (c .dropped .ensures)
@@ -39,6 +42,7 @@ take-position-spec =
     position-in-requires
     enum-known-at
     with-position-requires
+    moved-on-requires
     enum-told
     slice-aggregate-complain
     complain-requires

@@ -1,175 +1,60 @@
--- `requests::request::following` meets its contract: one answer for each field.
+-- `requests::request::following` meets its contract: what follows each field that is passed is what follows the first.
 -- Assumes nothing.
-use Rattle.requests.specs.Order.{following}
+use Prim.Native.Nat.{_+_, _-_}
+use mathlib.Core.Path.{_≡_, refl, sym, ap, _∙_}
+use mathlib.Core.Bool.{not}
+use native.Mathlib.Omega.{arith}
+use Rattle.requests.specs.Names.{bytes, spelled}
+use Rattle.requests.specs.Order as O
+use Rattle.requests.proofs.Order.{first-here, first-later, first-none}
 use borrow.Author.Needs.{needs}
 use Rattle.requests.proofs.request.following.Statement.{statement}
 use Rattle.requests.proofs.request.following.Tie as tie
 
-enum-told : tie.Need-enum-told
-enum-told c = search needs
+abbrev Inv-loop : tie.InvT-loop
+Inv-loop entry field next₀ t4 next = O.following entry next ≡ O.following entry field
 
-enum-told-2 : tie.Need-enum-told-2
-enum-told-2 c = search needs
+abbrev μ-loop : tie.MeasureT-loop
+μ-loop entry field next₀ t4 next = 9 - next
 
-enum-told-3 : tie.Need-enum-told-3
-enum-told-3 c = search needs
+loop-holds : tie.Need-loop-holds Inv-loop μ-loop
+loop-holds c = refl
 
-either-requires : tie.Need-either-requires
-either-requires c κs = search needs
+add-next : tie.Need-add-next Inv-loop μ-loop
+add-next c = search needs
 
-enum-told-4 : tie.Need-enum-told-4
-enum-told-4 c = search needs
+slice-aggregate-spell-field : tie.Need-slice-aggregate-spell-field Inv-loop μ-loop
+slice-aggregate-spell-field c = search needs
 
-enum-told-5 : tie.Need-enum-told-5
-enum-told-5 c = search needs
+spell-field-requires : tie.Need-spell-field-requires Inv-loop μ-loop
+spell-field-requires c κs = search needs
 
-either-requires-2 : tie.Need-either-requires-2
-either-requires-2 c κs = search needs
+returns : tie.Need-returns Inv-loop μ-loop
+unfolding bytes spelled O.has O.following
+returns c = first-here (O.has (c .before .before .before .before .before .args .entry)) _ _ (c .before .before .before .before .loop .next + 1) (omega arith) (ap not (sym (c .before .spell-field .ensures)) ∙ c .if1 .taken) ∙ c .before .before .before .before .loop .inv
 
-enum-told-6 : tie.Need-enum-told-6
-enum-told-6 c = search needs
+loop-less : tie.Need-loop-less Inv-loop μ-loop
+loop-less c = search needs
 
-enum-told-7 : tie.Need-enum-told-7
-enum-told-7 c = search needs
+loop-again : tie.Need-loop-again Inv-loop μ-loop
+unfolding bytes spelled O.has O.following
+loop-again c = first-later (O.has (c .before .before .before .before .before .args .entry)) _ _ (c .before .before .before .before .loop .next + 1) (omega arith) (ap not (sym (c .before .spell-field .ensures)) ∙ c .if1 .left) ∙ c .before .before .before .before .loop .inv
 
-enum-told-8 : tie.Need-enum-told-8
-enum-told-8 c = search needs
-
-enum-told-9 : tie.Need-enum-told-9
-enum-told-9 c = search needs
-
-after-scratch-requires : tie.Need-after-scratch-requires
-after-scratch-requires c κs = search needs
-
-enum-told-10 : tie.Need-enum-told-10
-enum-told-10 c = search needs
-
-after-position-requires : tie.Need-after-position-requires
-after-position-requires c κs = search needs
-
-enum-told-11 : tie.Need-enum-told-11
-enum-told-11 c = search needs
-
-either-requires-3 : tie.Need-either-requires-3
-either-requires-3 c κs = search needs
-
-enum-told-12 : tie.Need-enum-told-12
-enum-told-12 c = search needs
-
-enum-told-13 : tie.Need-enum-told-13
-enum-told-13 c = search needs
-
-enum-told-14 : tie.Need-enum-told-14
-enum-told-14 c = search needs
-
-enum-told-15 : tie.Need-enum-told-15
-enum-told-15 c = search needs
-
-enum-told-16 : tie.Need-enum-told-16
-enum-told-16 c = search needs
-
-returns : tie.Need-returns
-unfolding following
-returns c = rw (c .enum-told .given .1)
-
-returns-2 : tie.Need-returns-2
-unfolding following
-returns-2 c = rw (c .enum-told2 .given .1)
-
-returns-3 : tie.Need-returns-3
-unfolding following
-returns-3 c = rw (c .before .enum-told3 .given .1) (c .either .ensures)
-
-returns-4 : tie.Need-returns-4
-unfolding following
-returns-4 c = rw (c .enum-told4 .given .1)
-
-returns-5 : tie.Need-returns-5
-unfolding following
-returns-5 c = rw (c .before .enum-told5 .given .1) (c .either2 .ensures)
-
-returns-6 : tie.Need-returns-6
-unfolding following
-returns-6 c = rw (c .enum-told6 .given .1)
-
-returns-7 : tie.Need-returns-7
-unfolding following
-returns-7 c = rw (c .enum-told7 .given .1)
-
-returns-8 : tie.Need-returns-8
-unfolding following
-returns-8 c = rw (c .enum-told8 .given .1)
-
-returns-9 : tie.Need-returns-9
-unfolding following
-returns-9 c = rw (c .before .enum-told9 .given .1) (c .after-scratch .ensures)
-
-returns-10 : tie.Need-returns-10
-unfolding following
-returns-10 c = rw (c .before .enum-told10 .given .1) (c .after-position .ensures)
-
-returns-11 : tie.Need-returns-11
-unfolding following
-returns-11 c = rw (c .before .enum-told11 .given .1) (c .either3 .ensures)
-
-returns-12 : tie.Need-returns-12
-unfolding following
-returns-12 c = rw (c .enum-told12 .given .1)
-
-returns-13 : tie.Need-returns-13
-unfolding following
-returns-13 c = rw (c .enum-told13 .given .1)
-
-returns-14 : tie.Need-returns-14
-unfolding following
-returns-14 c = rw (c .enum-told14 .given .1)
-
-returns-15 : tie.Need-returns-15
-unfolding following
-returns-15 c = rw (c .enum-told15 .given .1)
-
-returns-16 : tie.Need-returns-16
-unfolding following
-returns-16 c = rw (c .enum-told16 .given .1)
+returns-2 : tie.Need-returns-2 Inv-loop μ-loop
+unfolding O.following
+returns-2 c = first-none (O.has (c .before .before .args .entry)) _ _ (c .before .loop .next + 1) (omega arith) ∙ c .before .loop .inv
 
 pub following-spec : {M : Type 1} → statement M
 following-spec =
     tie.close
     (tie.spec
-    enum-told
-    enum-told-2
-    enum-told-3
-    either-requires
-    enum-told-4
-    enum-told-5
-    either-requires-2
-    enum-told-6
-    enum-told-7
-    enum-told-8
-    enum-told-9
-    after-scratch-requires
-    enum-told-10
-    after-position-requires
-    enum-told-11
-    either-requires-3
-    enum-told-12
-    enum-told-13
-    enum-told-14
-    enum-told-15
-    enum-told-16
+    Inv-loop
+    μ-loop
+    loop-holds
+    add-next
+    slice-aggregate-spell-field
+    spell-field-requires
     returns
-    returns-2
-    returns-3
-    returns-4
-    returns-5
-    returns-6
-    returns-7
-    returns-8
-    returns-9
-    returns-10
-    returns-11
-    returns-12
-    returns-13
-    returns-14
-    returns-15
-    returns-16)
+    loop-less
+    loop-again
+    returns-2)

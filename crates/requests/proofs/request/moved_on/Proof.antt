@@ -1,6 +1,5 @@
 -- `requests::request::moved_on` meets its contract: what follows is wanted.
 -- Assumes nothing.
-use Rattle.requests.specs.Order.{movedOn}
 use borrow.Author.Needs.{needs}
 use Rattle.requests.proofs.request.moved_on.Statement.{statement}
 use Rattle.requests.proofs.request.moved_on.Tie as tie
@@ -8,12 +7,8 @@ use Rattle.requests.proofs.request.moved_on.Tie as tie
 following-requires : tie.Need-following-requires
 following-requires c κs = search needs
 
-wanting-requires : tie.Need-wanting-requires
-wanting-requires c κs = search needs
-
 returns : tie.Need-returns
-unfolding movedOn
-returns c = rw (c .wanting .ensures, c .before .following .ensures)
+returns c = rw (c .following .ensures)
 
 pub moved-on-spec : {M : Type 1} → statement M
-moved-on-spec = tie.close (tie.spec following-requires wanting-requires returns)
+moved-on-spec = tie.close (tie.spec following-requires returns)

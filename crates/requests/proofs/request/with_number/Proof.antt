@@ -1,16 +1,24 @@
--- `requests::request::with_number` meets its contract: all else is the request's.
+-- `requests::request::with_number` meets its contract: a number is kept where a field is wanted.
 -- Assumes nothing.
-use Rattle.requests.specs.Lines.{lending, withNumber}
+use borrow.Author.Tests.{lt-ltb, le-ltb}
+use Rattle.requests.specs.Order.{complete, withNumber}
 use borrow.Author.Needs.{needs}
 use Rattle.requests.proofs.request.with_number.Statement.{statement}
 use Rattle.requests.proofs.request.with_number.Tie as tie
 
-lent-number-requires : tie.Need-lent-number-requires
-lent-number-requires c κs = search needs
+mul-next : tie.Need-mul-next
+mul-next c = search needs
+
+element-write-next : tie.Need-element-write-next
+element-write-next c = search needs
 
 returns : tie.Need-returns
-unfolding lending withNumber
-returns c = rw (c .lent-number .ensures)
+unfolding withNumber
+returns c = rw (lt-ltb (c .before .args .request .wanted) complete (c .if1 .taken))
+
+returns-2 : tie.Need-returns-2
+unfolding withNumber
+returns-2 c = rw (le-ltb (c .before .args .request .wanted) complete (c .if1 .left))
 
 pub with-number-spec : {M : Type 1} → statement M
-with-number-spec = tie.close (tie.spec lent-number-requires returns)
+with-number-spec = tie.close (tie.spec mul-next element-write-next returns returns-2)

@@ -1,2 +1,0 @@
--- What is proved of printing.
-pub mod Few

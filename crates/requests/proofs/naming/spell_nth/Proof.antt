@@ -1,0 +1,31 @@
+-- `requests::naming::spell_nth` meets its contract: the word of the number is the name.
+-- Assumes nothing.
+use mathlib.Core.Path.{ap, _∙_}
+use Rattle.requests.specs.Names.{spelled}
+use Rattle.requests.proofs.Lines.{nth-text}
+use borrow.Author.Needs.{needs}
+use Rattle.requests.proofs.naming.spell_nth.Statement.{statement}
+use Rattle.requests.proofs.naming.spell_nth.Tie as tie
+
+nth-word-requires : tie.Need-nth-word-requires
+nth-word-requires c κs = search needs
+
+sub-spell : tie.Need-sub-spell
+sub-spell c = search needs
+
+part-spell-start : tie.Need-part-spell-start
+part-spell-start c = search needs
+
+part-spell-end : tie.Need-part-spell-end
+part-spell-end c = search needs
+
+spell-requires : tie.Need-spell-requires
+spell-requires c κs = search needs
+
+returns : tie.Need-returns
+returns c = c .spell .ensures ∙ ap (spelled _ _) (nth-text _ (c .before .before .nth-word .ensures))
+
+pub spell-nth-spec : {M : Type 1} → statement M
+spell-nth-spec =
+    tie.close
+    (tie.spec nth-word-requires sub-spell part-spell-start part-spell-end spell-requires returns)
