@@ -24,5 +24,5 @@ pub mod theorems;
 
 pub use field::P;
 pub use joint::{joint_run, Ending, JointResult};
-pub use party::{open, receive, send, Party, Position, Received, Round, Stage};
+pub use party::{open, receive, send, Party, Position, Received, Round, Sort, Stage};
 pub use refusal::Refusal;

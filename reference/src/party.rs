@@ -6,7 +6,7 @@ use crate::local::Local;
 use crate::position::{can_hold, can_occur};
 use crate::refusal::{ask, ask_each, ask_elements, ask_parties, Refusal};
 
-pub use crate::position::{Position, Round, Stage};
+pub use crate::position::{Position, Round, Sort, Stage};
 
 /// What a party is lent besides its scratch.
 #[derive(Clone, Copy, Debug, PartialEq, Eq)]
@@ -79,10 +79,11 @@ fn ask_step<'a>(
     )?;
     ask(13, can_hold(position.stage, position.held))?;
 
-    let round = match (position.stage, half) {
-        (Stage::Send(round), Half::Send) | (Stage::Receive(round), Half::Receive) => round,
+    let sort = match (position.stage, half) {
+        (Stage::Send(sort), Half::Send) | (Stage::Receive(sort), Half::Receive) => sort,
         _ => return Err(no(14)),
     };
+    let round = sort.at(gate).ok_or(no(13))?;
 
     ask_scratch(
         lent.circuit,
@@ -138,7 +139,7 @@ pub fn open(lent: &Party<'_>, scratch: &[u32]) -> Result<Position, Refusal> {
     ask_lent(lent, scratch)?;
     Ok(Position {
         gate: 0,
-        stage: Stage::Send(Round::Input),
+        stage: Stage::Send(Sort::Own),
         held: 0,
     })
 }
@@ -190,7 +191,7 @@ pub fn send(
         _ => out[0] = position.held,
     }
     Ok(Position {
-        stage: Stage::Receive(round),
+        stage: Stage::Receive(round.sort()),
         held,
         ..position
     })
@@ -219,8 +220,8 @@ pub fn receive(
         ask_each(21, heard, |mark| mark == 1)?;
     }
 
-    let same_gate = |round, held| Position {
-        stage: Stage::Send(round),
+    let same_gate = |sort, held| Position {
+        stage: Stage::Send(sort),
         held,
         ..position
     };
@@ -243,16 +244,16 @@ pub fn receive(
         }
         (Round::OpenOutput, Gate::Output { wire }) => {
             local.receive_output(scratch, wire, field::sum(heard));
-            Received::Moved(same_gate(Round::CommitOutput, 0))
+            Received::Moved(same_gate(Sort::CommitOutput, 0))
         }
-        (Round::CommitOpened, _) => Received::Moved(same_gate(Round::RevealOpened, position.held)),
-        (Round::CommitOutput, _) => Received::Moved(same_gate(Round::RevealOutput, position.held)),
+        (Round::CommitOpened, _) => Received::Moved(same_gate(Sort::RevealOpened, position.held)),
+        (Round::CommitOutput, _) => Received::Moved(same_gate(Sort::RevealOutput, position.held)),
         _ if field::sum(heard) != 0 => Received::Aborted(Position {
             gate: position.gate,
             stage: Stage::Aborted,
             held: 0,
         }),
-        (Round::RevealOpened, _) => Received::Moved(same_gate(Round::OpenOutput, 0)),
+        (Round::RevealOpened, _) => Received::Moved(same_gate(Sort::OpenOutput, 0)),
         // Question 13 leaves only the second reveal of an out gate.
         _ => {
             let output = local.output(scratch);
@@ -275,13 +276,12 @@ fn next_gate(circuit: &[u32], step: &Step<'_>, scratch: &mut [u32]) -> Position 
         if step.local.linear(scratch, index, gate) {
             continue;
         }
-        let round = match gate {
-            Gate::Input { .. } => Round::Input,
-            Gate::Multiply { .. } => Round::Multiply,
-            _ if pending > 0 => Round::CommitOpened,
-            _ => Round::OpenOutput,
+        let sort = match gate {
+            Gate::Input { .. } | Gate::Multiply { .. } => Sort::Own,
+            _ if pending > 0 => Sort::CommitOpened,
+            _ => Sort::OpenOutput,
         };
-        return at(index, Stage::Send(round));
+        return at(index, Stage::Send(sort));
     }
     at(step.shape.gates - 1, Stage::Finished)
 }

@@ -1,6 +1,6 @@
 //! Positions in a run, and question 13: which of them can occur.
 
-use crate::circuit::Gate;
+use crate::circuit::{self, Gate};
 use crate::field::P;
 
 /// A round. An out gate has two checks: the first of all opened and unchecked entries, the second of
@@ -55,19 +55,77 @@ impl Round {
         }
     }
 
+    /// How a position names the round.
+    pub fn sort(self) -> Sort {
+        match self {
+            Round::Input | Round::Multiply => Sort::Own,
+            Round::CommitOpened => Sort::CommitOpened,
+            Round::RevealOpened => Sort::RevealOpened,
+            Round::OpenOutput => Sort::OpenOutput,
+            Round::CommitOutput => Sort::CommitOutput,
+            Round::RevealOutput => Sort::RevealOutput,
+        }
+    }
+
     pub fn is_commit(self) -> bool {
-        matches!(self, Round::CommitOpened | Round::CommitOutput)
+        self.sort().is_commit()
     }
 
     pub fn is_reveal(self) -> bool {
-        matches!(self, Round::RevealOpened | Round::RevealOutput)
+        self.sort().is_reveal()
+    }
+}
+
+/// What a position says of a round. The round of an in gate and that of a mul gate are of one sort:
+/// each is its gate's own, and the gate tells them apart.
+#[derive(Clone, Copy, Debug, PartialEq, Eq, PartialOrd, Ord)]
+pub enum Sort {
+    Own,
+    CommitOpened,
+    RevealOpened,
+    OpenOutput,
+    CommitOutput,
+    RevealOutput,
+}
+
+impl Sort {
+    pub const ALL: [Sort; 6] = [
+        Sort::Own,
+        Sort::CommitOpened,
+        Sort::RevealOpened,
+        Sort::OpenOutput,
+        Sort::CommitOutput,
+        Sort::RevealOutput,
+    ];
+
+    /// The round of the sort that such a gate has. Whether an out gate has its first check is told by
+    /// the unchecked entries before it, and is not asked here.
+    pub fn at(self, gate: Gate) -> Option<Round> {
+        match (gate, self) {
+            (Gate::Input { .. }, Sort::Own) => Some(Round::Input),
+            (Gate::Multiply { .. }, Sort::Own) => Some(Round::Multiply),
+            (Gate::Output { .. }, Sort::CommitOpened) => Some(Round::CommitOpened),
+            (Gate::Output { .. }, Sort::RevealOpened) => Some(Round::RevealOpened),
+            (Gate::Output { .. }, Sort::OpenOutput) => Some(Round::OpenOutput),
+            (Gate::Output { .. }, Sort::CommitOutput) => Some(Round::CommitOutput),
+            (Gate::Output { .. }, Sort::RevealOutput) => Some(Round::RevealOutput),
+            _ => None,
+        }
+    }
+
+    pub fn is_commit(self) -> bool {
+        matches!(self, Sort::CommitOpened | Sort::CommitOutput)
+    }
+
+    pub fn is_reveal(self) -> bool {
+        matches!(self, Sort::RevealOpened | Sort::RevealOutput)
     }
 }
 
 #[derive(Clone, Copy, Debug, PartialEq, Eq)]
 pub enum Stage {
-    Send(Round),
-    Receive(Round),
+    Send(Sort),
+    Receive(Sort),
     Finished,
     Aborted,
 }
@@ -80,32 +138,36 @@ pub struct Position {
     pub held: u32,
 }
 
+impl Position {
+    /// The round that a position of an accepted circuit is in, as far as its gate has one.
+    pub fn round(self, circuit: &[u32]) -> Option<Round> {
+        let (Stage::Send(sort) | Stage::Receive(sort)) = self.stage else {
+            return None;
+        };
+        sort.at(circuit::gate(circuit, self.gate as usize)?)
+    }
+}
+
 /// Whether the circuit has such a position, its held word aside.
 pub(crate) fn can_occur(gate: Gate, is_last: bool, pending: usize, stage: Stage) -> bool {
-    let (Stage::Send(round) | Stage::Receive(round)) = stage else {
+    let (Stage::Send(sort) | Stage::Receive(sort)) = stage else {
         // Only a failing reveal aborts, so an aborted position names an out gate.
         return match stage {
             Stage::Finished => is_last,
             _ => matches!(gate, Gate::Output { .. }),
         };
     };
-    match gate {
-        Gate::Input { .. } => round == Round::Input,
-        Gate::Multiply { .. } => round == Round::Multiply,
-        Gate::Output { .. } => match round {
-            Round::Input | Round::Multiply => false,
-            Round::CommitOpened | Round::RevealOpened => pending > 0,
-            Round::OpenOutput | Round::CommitOutput | Round::RevealOutput => true,
-        },
-        _ => false,
+    match sort.at(gate) {
+        Some(Round::CommitOpened | Round::RevealOpened) => pending > 0,
+        round => round.is_some(),
     }
 }
 
 /// "0 unless between speaking a seal and speaking its reveal."
 pub(crate) fn can_hold(stage: Stage, held: u32) -> bool {
     let between = match stage {
-        Stage::Receive(round) => round.is_commit(),
-        Stage::Send(round) => round.is_reveal(),
+        Stage::Receive(sort) => sort.is_commit(),
+        Stage::Send(sort) => sort.is_reveal(),
         _ => false,
     };
     held == 0 || (between && held < P)

@@ -2,7 +2,7 @@
 
 use crate::circuit;
 use crate::joint::{Ending, JointResult};
-use crate::party::{Position, Received, Round, Stage};
+use crate::party::{Position, Received, Round, Sort, Stage};
 use crate::refusal::Refusal;
 use crate::requests::{Answer, Answered, Field, Request, Set};
 
@@ -129,10 +129,21 @@ fn position(at: Position) -> String {
 
 pub fn stage(stage: Stage) -> String {
     match stage {
-        Stage::Send(round) => format!("send-{}", self::round(round)),
-        Stage::Receive(round) => format!("receive-{}", self::round(round)),
+        Stage::Send(sort) => format!("send-{}", self::sort(sort)),
+        Stage::Receive(sort) => format!("receive-{}", self::sort(sort)),
         Stage::Finished => String::from("finished"),
         Stage::Aborted => String::from("aborted"),
+    }
+}
+
+fn sort(sort: Sort) -> &'static str {
+    match sort {
+        Sort::Own => "own",
+        Sort::CommitOpened => "seal",
+        Sort::RevealOpened => "reveal",
+        Sort::OpenOutput => "show",
+        Sort::CommitOutput => "output-seal",
+        Sort::RevealOutput => "output-reveal",
     }
 }
 
@@ -176,7 +187,7 @@ mod tests {
             },
             position: Position {
                 gate: 0,
-                stage: Stage::Send(Round::Input),
+                stage: Stage::Send(Sort::Own),
                 held: 0,
             },
             coefficients: Vec::new(),
@@ -195,9 +206,9 @@ mod tests {
             .flat_map(|line| line.split('|').nth(1).unwrap().split(','))
             .map(|name| name.trim().trim_matches('`'))
             .collect();
-        let written: Vec<String> = Round::ALL
+        let written: Vec<String> = Sort::ALL
             .into_iter()
-            .flat_map(|round| [Stage::Send(round), Stage::Receive(round)])
+            .flat_map(|sort| [Stage::Send(sort), Stage::Receive(sort)])
             .chain([Stage::Finished, Stage::Aborted])
             .map(stage)
             .collect();

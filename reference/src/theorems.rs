@@ -3,7 +3,7 @@
 use std::fmt::Write;
 
 use crate::joint::{Ending, JointResult};
-use crate::party::{Position, Received, Stage};
+use crate::party::{Position, Received, Sort, Stage};
 use crate::refusal::Refusal;
 use crate::requests::{Answer, Answered, Lent, Request};
 
@@ -13,14 +13,14 @@ use Prim.Native.Nat.{ℕ}
 use mathlib.Core.Path.{_≡_, refl}
 use mathlib.Core.List.{List, [], _∷_}
 use Rattle.field.specs.Prime.{modular}
-use Rattle.circuit.specs.Round.{Input, Multiply, CommitOpened, RevealOpened, OpenOutput, CommitOutput, RevealOutput}
-use Rattle.steps.specs.Position.{Send, Receive, Finished, Aborted}
-use Rattle.steps.specs.Party.{Party}
-use Rattle.party.specs.Entry.{Refusal, Next, Output, Abort, openAnswer, sendAnswer, sendOut, receiveAnswer, receiveScratch}
-use Rattle.joint.specs.Joint.{Joint}
-use Rattle.joint.specs.Entry.{Done, jointAnswer, jointScratch, jointTranscript, jointOutputs}
-use Rattle.joint.specs.Entry.{Refusal as JointRefusal, Aborted as JointAborted}
-use Rattle.joint.proofs.Computing.{computing}
+use Rattle.circuit.specs.Round.{First, Second, Own, Open, Commit, Reveal}
+use Rattle.protocol.specs.Position.{Send, Receive, Finished, Aborted}
+use Rattle.protocol.specs.Party.{Party}
+use Rattle.protocol.specs.Entry.{Refusal, Next, Output, Abort, openAnswer, sendAnswer, sendOut, receiveAnswer, receiveScratch}
+use Rattle.protocol.specs.Joint.{Joint}
+use Rattle.protocol.specs.JointEntry.{Done, jointAnswer, jointScratch, jointTranscript, jointOutputs}
+use Rattle.protocol.specs.JointEntry.{Refusal as JointRefusal, Aborted as JointAborted}
+use Rattle.protocol.proofs.Computing.{computing}
 ";
 
 /// The longest circuit, in numbers, of which a whole joint run is left to the prover to compute.
@@ -49,7 +49,7 @@ pub fn theorems(answered: &[Answered]) -> String {
         };
         let _ = write!(
             text,
-            "\n-- {}\ncase-{number} :\n    {}\nunfolding computing\ncase-{number} = {proofs}\n",
+            "\n-- {}\ncase-{number} :\n    {}\nunfolding computing modular\ncase-{number} = {proofs}\n",
             one.label(),
             equations.join("\n    × "),
         );
@@ -195,8 +195,8 @@ fn party(lent: &Lent) -> String {
 
 fn position(at: &Position) -> String {
     let stage = match at.stage {
-        Stage::Send(round) => format!("Send {round:?}"),
-        Stage::Receive(round) => format!("Receive {round:?}"),
+        Stage::Send(sort) => format!("Send {}", round(sort)),
+        Stage::Receive(sort) => format!("Receive {}", round(sort)),
         Stage::Finished => String::from("Finished"),
         Stage::Aborted => String::from("Aborted"),
     };
@@ -204,6 +204,18 @@ fn position(at: &Position) -> String {
         "(record {{ gate = {}; stage = {stage}; held = {} }})",
         at.gate, at.held
     )
+}
+
+/// The definitions' name for the rounds of a sort.
+fn round(sort: Sort) -> &'static str {
+    match sort {
+        Sort::Own => "Own",
+        Sort::CommitOpened => "(Commit First)",
+        Sort::RevealOpened => "(Reveal First)",
+        Sort::OpenOutput => "Open",
+        Sort::CommitOutput => "(Commit Second)",
+        Sort::RevealOutput => "(Reveal Second)",
+    }
 }
 
 fn moved(result: &Result<Position, Refusal>) -> String {

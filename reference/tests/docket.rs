@@ -6,7 +6,7 @@ use common::Case;
 use reference::docket::{self, CIRCUIT, COEFFICIENTS, INPUTS, PARTIES, PREPS};
 use reference::random::Random;
 use reference::{circuit, open, plain, prep, receive, send};
-use reference::{Ending, Party, Position, Received, Refusal, Round, Stage, P};
+use reference::{Ending, Party, Position, Received, Refusal, Sort, Stage, P};
 
 const PRINTED: &str = "\
 in 3 0
@@ -83,7 +83,7 @@ fn shares_and_mac_shares() {
             position,
             Position {
                 gate: 3,
-                stage: Stage::Send(Round::CommitOpened),
+                stage: Stage::Send(Sort::CommitOpened),
                 held: 0
             }
         );
@@ -130,7 +130,7 @@ fn an_altered_output_word_aborts() {
 fn boundaries() {
     let opened = Ok(Position {
         gate: 0,
-        stage: Stage::Send(Round::Input),
+        stage: Stage::Send(Sort::Own),
         held: 0,
     });
     let scratch = [0; 1024];

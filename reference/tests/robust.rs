@@ -5,7 +5,7 @@ mod common;
 use common::answers::{assert_refusal_is_right, assert_written_as_due};
 use reference::random::Random;
 use reference::requests::{generate, Lent, Request, Size};
-use reference::{Position, Round, Stage, P};
+use reference::{Position, Sort, Stage, P};
 
 /// Accepted requests with any number changed, and any list cut or lengthened.
 #[test]
@@ -32,10 +32,10 @@ fn any_number(random: &mut Random) -> u32 {
 }
 
 fn any_stage(random: &mut Random) -> Stage {
-    let round = random.pick(&Round::ALL);
+    let sort = random.pick(&Sort::ALL);
     random.pick(&[
-        Stage::Send(round),
-        Stage::Receive(round),
+        Stage::Send(sort),
+        Stage::Receive(sort),
         Stage::Finished,
         Stage::Aborted,
     ])

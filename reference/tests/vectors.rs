@@ -11,7 +11,7 @@ use reference::requests::{
     measured, neighbours, single_runs, table, Answer, Answered, Entry, Field, Request, Set,
     SingleRun,
 };
-use reference::{text, Ending, Received, Round, Stage};
+use reference::{text, Ending, Received, Round, Sort, Stage};
 
 use Entry::{Joint, Open, Receive, Send};
 
@@ -41,25 +41,36 @@ fn asking(number: u32) -> Vec<Entry> {
     }
 }
 
-fn half(entry: Entry, round: Round) -> Stage {
+fn half(entry: Entry, sort: Sort) -> Stage {
     match entry {
-        Send => Stage::Send(round),
-        _ => Stage::Receive(round),
+        Send => Stage::Send(sort),
+        _ => Stage::Receive(sort),
     }
 }
 
-fn other_half(entry: Entry, round: Round) -> Stage {
+fn other_half(entry: Entry, sort: Sort) -> Stage {
     match entry {
-        Send => Stage::Receive(round),
-        _ => Stage::Send(round),
+        Send => Stage::Receive(sort),
+        _ => Stage::Send(sort),
+    }
+}
+
+/// A stage as the features name it where its round is there: an own round with its gate.
+fn names(stage: Stage) -> Vec<String> {
+    let name = format!("`{}`", text::stage(stage));
+    match stage {
+        Stage::Send(Sort::Own) | Stage::Receive(Sort::Own) => ["an in", "a mul"]
+            .map(|kind| format!("{name} of {kind} gate"))
+            .to_vec(),
+        _ => vec![name],
     }
 }
 
 /// Where a check share may be held.
 fn holds(stage: Stage) -> bool {
     match stage {
-        Stage::Receive(round) => round.is_commit(),
-        Stage::Send(round) => round.is_reveal(),
+        Stage::Receive(sort) => sort.is_commit(),
+        Stage::Send(sort) => sort.is_reveal(),
         _ => false,
     }
 }
@@ -152,7 +163,7 @@ fn wanted() -> BTreeSet<(Entry, String)> {
     want(&[Send], String::from("accepted, `coefficients` empty"));
 
     for entry in [Send, Receive] {
-        let mut stages: Vec<Stage> = Round::ALL.map(|round| half(entry, round)).to_vec();
+        let mut stages: Vec<Stage> = Sort::ALL.map(|sort| half(entry, sort)).to_vec();
         for &stage in &stages {
             let held = if holds(stage) {
                 ", a check share held"
@@ -160,20 +171,20 @@ fn wanted() -> BTreeSet<(Entry, String)> {
                 ""
             };
             let answers: &[&str] = match stage {
-                Stage::Receive(Round::RevealOutput) => &["output", "abort"],
-                Stage::Receive(Round::RevealOpened) => &["next", "abort"],
+                Stage::Receive(Sort::RevealOutput) => &["output", "abort"],
+                Stage::Receive(Sort::RevealOpened) => &["next", "abort"],
                 _ => &["next"],
             };
-            for answer in answers {
-                want(
-                    &[entry],
-                    format!("at `{}`{held}: {answer}", text::stage(stage)),
-                );
+            for name in names(stage) {
+                for answer in answers {
+                    want(&[entry], format!("at {name}{held}: {answer}"));
+                }
             }
         }
-        for round in Round::ALL {
-            let stage = text::stage(other_half(entry, round));
-            want(&[entry], format!("at `{stage}`: refused 14"));
+        for sort in Sort::ALL {
+            for name in names(other_half(entry, sort)) {
+                want(&[entry], format!("at {name}: refused 14"));
+            }
         }
         for end in [Stage::Finished, Stage::Aborted] {
             let stage = text::stage(end);
@@ -181,17 +192,18 @@ fn wanted() -> BTreeSet<(Entry, String)> {
             stages.push(end);
         }
         for stage in stages {
-            let name = text::stage(stage);
-            want(&[entry], format!("at `{name}`: refused 13"));
-            want(
-                &[entry],
-                format!("at `{name}`, a held number above p-1: refused 13"),
-            );
-            if !holds(stage) {
+            want(&[entry], format!("at `{}`: refused 13", text::stage(stage)));
+            for name in names(stage) {
                 want(
                     &[entry],
-                    format!("at `{name}`, a check share held: refused 13"),
+                    format!("at {name}, a held number above p-1: refused 13"),
                 );
+                if !holds(stage) {
+                    want(
+                        &[entry],
+                        format!("at {name}, a check share held: refused 13"),
+                    );
+                }
             }
         }
     }
@@ -329,7 +341,7 @@ fn wanted_neighbours() -> BTreeSet<(&'static str, u32, String)> {
 
     for entry in [Send, Receive] {
         let ends = [Stage::Finished, Stage::Aborted];
-        let halves = Round::ALL.map(|round| half(entry, round));
+        let halves = Sort::ALL.map(|sort| half(entry, sort));
         for stage in halves.into_iter().chain(ends) {
             let name = text::stage(stage);
             let changes = if holds(stage) {
@@ -343,23 +355,25 @@ fn wanted_neighbours() -> BTreeSet<(&'static str, u32, String)> {
         }
         want(&[entry], 13, &["gate"]);
         for (from, to) in [
-            (Round::Input, Round::Multiply),
-            (Round::Input, Round::OpenOutput),
-            (Round::Multiply, Round::Input),
-            (Round::OpenOutput, Round::Input),
-            (Round::OpenOutput, Round::CommitOpened),
-            (Round::OpenOutput, Round::RevealOpened),
-            (Round::RevealOutput, Round::Multiply),
+            (Sort::Own, Sort::CommitOpened),
+            (Sort::Own, Sort::RevealOpened),
+            (Sort::Own, Sort::OpenOutput),
+            (Sort::Own, Sort::CommitOutput),
+            (Sort::CommitOpened, Sort::Own),
+            (Sort::OpenOutput, Sort::Own),
+            (Sort::OpenOutput, Sort::CommitOpened),
+            (Sort::OpenOutput, Sort::RevealOpened),
+            (Sort::RevealOutput, Sort::Own),
         ] {
-            let stages = [from, to].map(|round| text::stage(half(entry, round)));
+            let stages = [from, to].map(|sort| text::stage(half(entry, sort)));
             want(&[entry], 13, &[&format!("stage {}", stages.join("->"))]);
         }
-        for round in Round::ALL {
-            let stages = [half(entry, round), other_half(entry, round)].map(text::stage);
+        for sort in Sort::ALL {
+            let stages = [half(entry, sort), other_half(entry, sort)].map(text::stage);
             want(&[entry], 14, &[&format!("stage {}", stages.join("->"))]);
         }
         for end in ends {
-            let stages = [half(entry, Round::RevealOutput), end].map(text::stage);
+            let stages = [half(entry, Sort::RevealOutput), end].map(text::stage);
             want(&[entry], 14, &[&format!("stage {}", stages.join("->"))]);
         }
         for change in around_p("scratch") {

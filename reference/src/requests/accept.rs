@@ -285,7 +285,7 @@ fn altered_word(random: &mut Random, size: Size, subject: Subject) -> Request {
         heard, position, ..
     } = &mut request
     {
-        debug_assert_eq!(position.stage, Stage::Receive(wanted));
+        debug_assert_eq!(position.stage, Stage::Receive(wanted.sort()));
         let len = heard.len();
         let index = match subject {
             OwnerWord => owner,

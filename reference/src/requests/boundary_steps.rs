@@ -4,9 +4,9 @@ use super::boundary::{len_of, Boundaries, NO_ELEMENTS};
 use super::refuse::set_position;
 use super::scene::Scene;
 use super::{Entry, Request};
-use crate::circuit::{IN, MUL, OUT};
+use crate::circuit::{ADD, IN, MUL, OUT, PLUS, SUB, TIMES};
 use crate::field::P;
-use crate::party::{Position, Round, Stage};
+use crate::party::{Position, Round, Sort, Stage};
 
 /// One round of a scene, and a party's request in it.
 struct At {
@@ -18,21 +18,20 @@ struct At {
 }
 
 impl At {
-    /// The kind of the gates that have such a round.
-    fn kind(&self) -> u32 {
-        match self.round {
-            Round::Input => IN,
-            Round::Multiply => MUL,
-            _ => OUT,
-        }
+    /// The nearest gate of such a kind.
+    fn nearest(&self, kinds: &[u32]) -> u32 {
+        let gates = self.scene.gates_of(kinds).into_iter();
+        let nearest = gates.min_by_key(|gate| gate.abs_diff(self.gate));
+        nearest.expect("the scene has every kind") as u32
     }
 
-    /// The nearest gate of another kind.
-    fn other_gate(&self) -> u32 {
-        let gates = 0..self.scene.shape.gates;
-        let others = gates.filter(|gate| self.scene.circuit[4 * gate] != self.kind());
-        let nearest = others.min_by_key(|gate| gate.abs_diff(self.gate));
-        nearest.expect("the scene has every kind") as u32
+    /// Two gates that have no round of the sort: one that needs no round, and one that has others.
+    fn other_gates(&self) -> [u32; 2] {
+        let others: &[u32] = match self.round {
+            Round::Input | Round::Multiply => &[OUT],
+            _ => &[IN, MUL],
+        };
+        [&[ADD, SUB, PLUS, TIMES], others].map(|kinds| self.nearest(kinds))
     }
 
     /// The out gate before which nothing is unchecked.
@@ -139,17 +138,17 @@ impl Boundaries<'_> {
         }
     }
 
-    fn half(&self, round: Round) -> Stage {
+    fn half(&self, sort: Sort) -> Stage {
         match self.entry {
-            Entry::Send => Stage::Send(round),
-            _ => Stage::Receive(round),
+            Entry::Send => Stage::Send(sort),
+            _ => Stage::Receive(sort),
         }
     }
 
-    fn other_half(&self, round: Round) -> Stage {
+    fn other_half(&self, sort: Sort) -> Stage {
         match self.entry {
-            Entry::Send => Stage::Receive(round),
-            _ => Stage::Send(round),
+            Entry::Send => Stage::Receive(sort),
+            _ => Stage::Send(sort),
         }
     }
 
@@ -164,8 +163,8 @@ impl Boundaries<'_> {
         let with_stage = |stage| Position { stage, ..here };
 
         let holds = match here.stage {
-            Stage::Receive(round) => round.is_commit(),
-            Stage::Send(round) => round.is_reveal(),
+            Stage::Receive(sort) => sort.is_commit(),
+            Stage::Send(sort) => sort.is_reveal(),
             _ => false,
         };
         if holds {
@@ -176,7 +175,8 @@ impl Boundaries<'_> {
         }
 
         let past_the_end = at.scene.shape.gates as u32;
-        let mut gates = vec![at.other_gate(), past_the_end, u32::MAX];
+        let mut gates = at.other_gates().to_vec();
+        gates.extend([past_the_end, u32::MAX]);
         if [Round::CommitOpened, Round::RevealOpened].contains(&at.round) {
             gates.push(at.unneeded());
         }
@@ -187,15 +187,16 @@ impl Boundaries<'_> {
             .collect();
         self.position(13, &at.base, unheld, &outside);
 
-        let elsewhere = match at.kind() {
-            IN => [Round::Multiply, Round::OpenOutput],
-            MUL => [Round::Input, Round::CommitOutput],
-            _ => [Round::Input, Round::Multiply],
+        let elsewhere: &[Sort] = match at.round {
+            Round::Input => &[Sort::CommitOpened, Sort::OpenOutput],
+            Round::Multiply => &[Sort::RevealOpened, Sort::CommitOutput],
+            _ => &[Sort::Own],
         };
-        let outside = elsewhere.map(|round| with_stage(self.half(round)));
+        let elsewhere = elsewhere.iter().map(|&sort| with_stage(self.half(sort)));
+        let outside: Vec<Position> = elsewhere.collect();
         self.position(13, &at.base, here, &outside);
 
-        let stage = self.other_half(at.round);
+        let stage = self.other_half(at.round.sort());
         self.position(14, &at.base, unheld, &[Position { stage, ..unheld }]);
     }
 
@@ -206,9 +207,9 @@ impl Boundaries<'_> {
             gate: at.unneeded(),
             ..at.position
         };
-        let checks = [Round::CommitOpened, Round::RevealOpened];
-        let outside = checks.map(|round| Position {
-            stage: self.half(round),
+        let checks = [Sort::CommitOpened, Sort::RevealOpened];
+        let outside = checks.map(|sort| Position {
+            stage: self.half(sort),
             ..unneeded
         });
         self.position(13, &at.base, unneeded, &outside);
@@ -223,7 +224,7 @@ impl Boundaries<'_> {
         self.position(14, &at.base, last, &outside);
         let beside = [
             (finished, [last.gate - 1, last.gate + 1]),
-            (aborted, [at.other_gate(), last.gate + 1]),
+            (aborted, [at.nearest(&[IN, MUL]), last.gate + 1]),
         ];
         for (stage, gates) in beside {
             let end = Position { stage, ..last };

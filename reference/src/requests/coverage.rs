@@ -8,7 +8,7 @@ use super::{neighbours, single_runs, Answer, Answered, Entry, Field, Request, Si
 use crate::circuit::{self, Shape};
 use crate::field::{self, P};
 use crate::joint::{Ending, JointResult};
-use crate::party::{Position, Round, Stage};
+use crate::party::Round;
 use crate::prep::{self, Fault};
 use crate::refusal::Refusal;
 use crate::text;
@@ -196,14 +196,9 @@ fn excesses(one: &Answered, parties: u32, shape: &Shape) -> Vec<String> {
         _ => 1,
     };
     let words = match &one.request {
-        Request::Send {
-            position:
-                Position {
-                    stage: Stage::Send(round),
-                    ..
-                },
-            ..
-        } => round.words(),
+        Request::Send { lent, position, .. } => {
+            position.round(&lent.circuit).map_or(0, Round::words)
+        }
         _ => 0,
     };
     let longer = |(name, numbers): (&'static str, &[u32])| {
@@ -288,20 +283,27 @@ fn empty_lists(one: &Answered) -> Vec<String> {
 
 /// What was answered at a stage, as far as the position decides it.
 fn position(one: &Answered) -> Vec<String> {
-    let (Request::Send { position, .. } | Request::Receive { position, .. }) = &one.request else {
+    let (Request::Send { lent, position, .. } | Request::Receive { lent, position, .. }) =
+        &one.request
+    else {
         return Vec::new();
     };
     let stage = text::stage(position.stage);
+    let gate = match position.round(&lent.circuit) {
+        Some(Round::Input) => " of an in gate",
+        Some(Round::Multiply) => " of a mul gate",
+        _ => "",
+    };
     let held = match position.held {
         0 => "",
         P.. => ", a held number above p-1",
         _ => ", a check share held",
     };
     match one.answer.refusal().map(|refusal| refusal.number) {
-        Some(number @ (13 | 14)) => vec![format!("at `{stage}`{held}: refused {number}")],
+        Some(number @ (13 | 14)) => vec![format!("at `{stage}`{gate}{held}: refused {number}")],
         Some(_) => Vec::new(),
         None => vec![format!(
-            "at `{stage}`{held}: {}",
+            "at `{stage}`{gate}{held}: {}",
             text::answer(&one.answer).split(' ').next().unwrap_or("")
         )],
     }

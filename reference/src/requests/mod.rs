@@ -22,7 +22,7 @@ use std::slice::from_ref;
 
 use crate::circuit;
 use crate::joint::{joint_run, Ending, JointResult};
-use crate::party::{open, receive, send, Party, Position, Received, Stage};
+use crate::party::{open, receive, send, Party, Position, Received};
 use crate::refusal::Refusal;
 
 pub use coverage::{coverage, measured, table};
@@ -376,11 +376,9 @@ impl Answered {
             return format!("{entry} refused {:02}", refusal.number);
         }
         let round = match &self.request {
-            Request::Send { position, .. } | Request::Receive { position, .. } => {
-                match position.stage {
-                    Stage::Send(round) | Stage::Receive(round) => format!(" {round:?}"),
-                    Stage::Finished | Stage::Aborted => String::new(),
-                }
+            Request::Send { lent, position, .. } | Request::Receive { lent, position, .. } => {
+                let round = position.round(&lent.circuit);
+                round.map_or(String::new(), |round| format!(" {round:?}"))
             }
             _ => String::new(),
         };

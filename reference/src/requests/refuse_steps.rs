@@ -5,7 +5,7 @@ use super::scene::Scene;
 use super::{Entry, Request};
 use crate::circuit::{ADD, IN, MUL, OUT, PLUS, SUB, TIMES};
 use crate::field::P;
-use crate::party::{Position, Round, Stage};
+use crate::party::{Position, Round, Sort, Stage};
 use crate::random::Random;
 
 use Entry::{Joint, Receive, Send};
@@ -17,23 +17,23 @@ pub(super) fn impossible_position(
     entry: Entry,
     variant: usize,
 ) -> Position {
-    let half = |round| {
+    let half = |sort| {
         if entry == Send {
-            Stage::Send(round)
+            Stage::Send(sort)
         } else {
-            Stage::Receive(round)
+            Stage::Receive(sort)
         }
     };
     // The rounds in which this half may hold a check share, and those next to them, which may not.
     let (holding, not_holding) = if entry == Send {
         (
-            [Round::RevealOpened, Round::RevealOutput],
-            [Round::CommitOpened, Round::CommitOutput],
+            [Sort::RevealOpened, Sort::RevealOutput],
+            [Sort::CommitOpened, Sort::CommitOutput],
         )
     } else {
         (
-            [Round::CommitOpened, Round::CommitOutput],
-            [Round::RevealOpened, Round::RevealOutput],
+            [Sort::CommitOpened, Sort::CommitOutput],
+            [Sort::RevealOpened, Sort::RevealOutput],
         )
     };
     let last = scene.shape.gates - 1;
@@ -42,19 +42,19 @@ pub(super) fn impossible_position(
     let (checked, unneeded): (Vec<usize>, Vec<usize>) =
         outs.iter().partition(|&&out| scene.pending(out) > 0);
     let (gate, stage, held) = match variant {
-        0 => (last + 1, half(Round::OpenOutput), 0),
-        1 => (u32::MAX as usize, half(Round::Input), 0),
-        2 => (of(&[MUL]), half(Round::Input), 0),
-        3 => (of(&[OUT]), half(Round::Multiply), 0),
-        4 => (of(&[IN]), half(Round::OpenOutput), 0),
+        0 => (last + 1, half(Sort::OpenOutput), 0),
+        1 => (u32::MAX as usize, half(Sort::Own), 0),
+        2 => (of(&[MUL]), half(Sort::CommitOpened), 0),
+        3 => (of(&[OUT]), half(Sort::Own), 0),
+        4 => (of(&[IN]), half(Sort::OpenOutput), 0),
         5 => (
             of(&[ADD, SUB, PLUS, TIMES]),
-            half(random.pick(&Round::ALL)),
+            half(random.pick(&Sort::ALL)),
             0,
         ),
-        6 => (random.pick(&unneeded), half(Round::CommitOpened), 0),
-        7 => (random.pick(&unneeded), half(Round::RevealOpened), 0),
-        8 => (0, half(Round::Input), 1),
+        6 => (random.pick(&unneeded), half(Sort::CommitOpened), 0),
+        7 => (random.pick(&unneeded), half(Sort::RevealOpened), 0),
+        8 => (0, half(Sort::Own), 1),
         9 => (
             random.pick(&checked),
             half(random.pick(&not_holding)),
@@ -66,7 +66,7 @@ pub(super) fn impossible_position(
         13 => (of(&[IN, ADD, SUB, PLUS, TIMES, MUL]), Stage::Aborted, 0),
         14 => (last, Stage::Finished, 1),
         15 => (of(&[OUT]), Stage::Aborted, P - 1),
-        _ => (of(&[OUT]), half(Round::OpenOutput), random.nonzero()),
+        _ => (of(&[OUT]), half(Sort::OpenOutput), random.nonzero()),
     };
     Position {
         gate: gate as u32,
@@ -92,8 +92,8 @@ pub(super) fn wrong_half(
     match (variant, &mut request) {
         (0, Request::Send { position, .. } | Request::Receive { position, .. }) => {
             let (stage, holds) = match position.stage {
-                Stage::Send(round) => (Stage::Receive(round), round.is_commit()),
-                Stage::Receive(round) => (Stage::Send(round), round.is_reveal()),
+                Stage::Send(sort) => (Stage::Receive(sort), sort.is_commit()),
+                Stage::Receive(sort) => (Stage::Send(sort), sort.is_reveal()),
                 stage => (stage, false),
             };
             let held = if holds { random.element() } else { 0 };

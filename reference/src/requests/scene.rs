@@ -5,7 +5,7 @@ use crate::circuit::{self, Shape};
 use crate::docket;
 use crate::field;
 use crate::joint::first_inputs;
-use crate::party::{receive, send, Party, Position, Received, Round, Stage};
+use crate::party::{receive, send, Party, Position, Received, Round, Sort, Stage};
 use crate::prep;
 use crate::random::{self, Random};
 
@@ -181,7 +181,7 @@ impl Scene {
             scratch: self.fresh(random, self.shape.scratch_len()),
             position: Position {
                 gate: 0,
-                stage: Stage::Send(Round::Input),
+                stage: Stage::Send(Sort::Own),
                 held: 0,
             },
         }

@@ -91,7 +91,7 @@ pub fn single_runs(answered: &[Answered]) -> BTreeMap<SingleRun, usize> {
                 },
             ) => {
                 let run = open.as_mut().filter(|run| run.goes_on(lent, *position));
-                if let (Some(run), Stage::Send(round)) = (run, position.stage) {
+                if let (Some(run), Some(round)) = (run, position.round(&lent.circuit)) {
                     run.sent.insert(lent.party, out[..round.words()].to_vec());
                     run.players
                         .insert(lent.party, (*next, lent.scratch.clone()));
@@ -106,7 +106,7 @@ pub fn single_runs(answered: &[Answered]) -> BTreeMap<SingleRun, usize> {
                 Answer::Receive { result, scratch },
             ) => {
                 let run = open.as_mut().filter(|run| run.goes_on(lent, *position));
-                if let (Some(run), Stage::Receive(round)) = (run, position.stage) {
+                if let (Some(run), Some(round)) = (run, position.round(&lent.circuit)) {
                     run.hear(heard, round);
                     let next = match result {
                         Err(_) => continue,

@@ -2,7 +2,7 @@
 
 use reference::circuit;
 use reference::requests::{Answer, Answered, Request};
-use reference::{Ending, JointResult, Position, Received, Refusal, Round, Stage, P};
+use reference::{Ending, JointResult, Position, Received, Refusal, Sort, Stage, P};
 
 type Offends = fn(u32) -> bool;
 
@@ -61,7 +61,7 @@ fn first_asked_offender(
     let shape = circuit::shape(parties, circuit).unwrap();
     let (gates, gate) = (shape.gates, position.gate as usize);
     let opened = 2 * shape.products + 1;
-    let (Stage::Send(round) | Stage::Receive(round)) = position.stage else {
+    let (Stage::Send(sort) | Stage::Receive(sort)) = position.stage else {
         return None;
     };
     let mut unchecked = 0;
@@ -72,9 +72,9 @@ fn first_asked_offender(
             _ => {}
         }
     }
-    match round {
-        Round::OpenOutput => unchecked = 0,
-        Round::CommitOutput | Round::RevealOutput => unchecked = 1,
+    match sort {
+        Sort::OpenOutput => unchecked = 0,
+        Sort::CommitOutput | Sort::RevealOutput => unchecked = 1,
         _ => {}
     }
     let asked = |index: usize| {
@@ -93,14 +93,15 @@ pub fn assert_written_as_due(one: &Answered) {
     match (&one.request, &one.answer) {
         (
             Request::Send {
+                lent,
                 out: before,
                 position,
                 ..
             },
             Answer::Send { out, .. },
         ) => {
-            let words = match position.stage {
-                Stage::Send(round) if !refused => round.words(),
+            let words = match position.round(&lent.circuit) {
+                Some(round) if !refused => round.words(),
                 _ => 0,
             };
             assert_eq!(before[words..], out[words..]);
@@ -111,7 +112,7 @@ pub fn assert_written_as_due(one: &Answered) {
                 Err(_) | Ok(Received::Aborted(_)) => true,
                 Ok(_) => matches!(
                     position.stage,
-                    Stage::Receive(Round::CommitOpened | Round::RevealOpened | Round::CommitOutput)
+                    Stage::Receive(Sort::CommitOpened | Sort::RevealOpened | Sort::CommitOutput)
                 ),
             };
             if untouched {

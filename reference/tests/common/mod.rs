@@ -110,8 +110,9 @@ impl Case {
             .collect();
         let (mut rounds, mut words, mut outputs, mut used) = (0, 0, 0, 0);
         let ending = loop {
-            let round = match positions[0].stage {
-                Stage::Send(round) => round,
+            let at = positions[0];
+            let round = match at.stage {
+                Stage::Send(_) => at.round(&self.circuit).expect("the gate has the round"),
                 Stage::Finished => break Ending::Finished,
                 Stage::Aborted => {
                     break Ending::Aborted {
