@@ -528,6 +528,6 @@ together {O} F D cs ok =
     rests k i h none (going r e fits used) = absurd (none r e)
     rests k i h none (over end) = resting F D cs ok k (inv-after F D cs ok k) end i h
 
--- The same at the operations of the ops, which the contracts of the three entries cite.
+-- The same at the operations that the contracts of the three entries cite.
 pub together-here : (D : Apart) (coefficients : List ℕ) → Meets ops D coefficients → Together ops D coefficients
 together-here = together laws

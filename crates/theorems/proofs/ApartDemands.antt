@@ -232,7 +232,7 @@ scores-apart F D cs ok good = scored F D cs ok good
 pub secrecy-apart : {O : Ops} → Field O → SecrecyApart O
 secrecy-apart F D cs A inputs′ ok good is = alike-apart F D cs ok good A inputs′ is
 
--- Both at the operations of the ops.
+-- Both at the operations that the contracts cite.
 pub scores-apart-here : Scores ops
 scores-apart-here = scores-apart laws
 
