@@ -2,7 +2,6 @@
 -- Assumes nothing.
 use mathlib.Core.Path.{refl}
 use Rattle.circuit.specs.Count.{total, count, prepAt, inputAt, unchecked}
-use mathlib.Core.Path.{refl}
 use Rattle.circuit.proofs.counting.no_tally.Statement.{statement}
 use Rattle.circuit.proofs.counting.no_tally.Tie as tie
 

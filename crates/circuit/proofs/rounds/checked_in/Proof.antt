@@ -3,8 +3,6 @@
 use borrow.Author.Needs.{needs}
 use Rattle.circuit.specs.Round.{checked}
 use Rattle.circuit.specs.Code.{checkOf}
-use Rattle.circuit.specs.Round.{checked}
-use Rattle.circuit.specs.Code.{checkOf}
 use Rattle.circuit.proofs.rounds.checked_in.Statement.{statement}
 use Rattle.circuit.proofs.rounds.checked_in.Tie as tie
 

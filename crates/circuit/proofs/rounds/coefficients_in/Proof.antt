@@ -3,8 +3,6 @@
 use mathlib.Core.Path.{sym, _∙_}
 use borrow.Author.Needs.{needs}
 use Rattle.circuit.specs.Round.{coefficientsIn}
-use mathlib.Core.Path.{sym, _∙_}
-use Rattle.circuit.specs.Round.{coefficientsIn}
 use Rattle.circuit.proofs.rounds.coefficients_in.Statement.{statement}
 use Rattle.circuit.proofs.rounds.coefficients_in.Tie as tie
 

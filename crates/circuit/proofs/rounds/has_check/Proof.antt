@@ -3,8 +3,6 @@
 use Rattle.circuit.specs.Round.{hasCheck}
 use Rattle.circuit.specs.Code.{checkOf}
 use borrow.Author.Needs.{needs}
-use Rattle.circuit.specs.Round.{hasCheck}
-use Rattle.circuit.specs.Code.{checkOf}
 use Rattle.circuit.proofs.rounds.has_check.Statement.{statement}
 use Rattle.circuit.proofs.rounds.has_check.Tie as tie
 

@@ -3,8 +3,6 @@
 use borrow.Author.Needs.{needs}
 use Rattle.circuit.specs.Round.{isCommit}
 use Rattle.circuit.specs.Code.{roundOf}
-use Rattle.circuit.specs.Round.{isCommit}
-use Rattle.circuit.specs.Code.{roundOf}
 use Rattle.circuit.proofs.rounds.is_commit.Statement.{statement}
 use Rattle.circuit.proofs.rounds.is_commit.Tie as tie
 

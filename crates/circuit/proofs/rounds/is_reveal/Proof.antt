@@ -3,8 +3,6 @@
 use borrow.Author.Needs.{needs}
 use Rattle.circuit.specs.Round.{isReveal}
 use Rattle.circuit.specs.Code.{roundOf}
-use Rattle.circuit.specs.Round.{isReveal}
-use Rattle.circuit.specs.Code.{roundOf}
 use Rattle.circuit.proofs.rounds.is_reveal.Statement.{statement}
 use Rattle.circuit.proofs.rounds.is_reveal.Tie as tie
 

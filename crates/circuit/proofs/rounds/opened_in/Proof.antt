@@ -3,8 +3,6 @@
 use borrow.Author.Needs.{needs}
 use Rattle.circuit.specs.Round.{openedIn}
 use Rattle.circuit.specs.Code.{roundOf}
-use Rattle.circuit.specs.Round.{openedIn}
-use Rattle.circuit.specs.Code.{roundOf}
 use Rattle.circuit.proofs.rounds.opened_in.Statement.{statement}
 use Rattle.circuit.proofs.rounds.opened_in.Tie as tie
 

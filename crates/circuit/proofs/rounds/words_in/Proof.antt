@@ -3,8 +3,6 @@
 use borrow.Author.Needs.{needs}
 use Rattle.circuit.specs.Round.{shapeWords}
 use Rattle.circuit.specs.Code.{roundOf, shapeOf}
-use Rattle.circuit.specs.Round.{shapeWords}
-use Rattle.circuit.specs.Code.{roundOf, shapeOf}
 use Rattle.circuit.proofs.rounds.words_in.Statement.{statement}
 use Rattle.circuit.proofs.rounds.words_in.Tie as tie
 

@@ -3,8 +3,6 @@
 use borrow.Author.Needs.{needs}
 use Rattle.circuit.specs.Kind.{classNumber}
 use Rattle.circuit.specs.Code.{classOf}
-use Rattle.circuit.specs.Kind.{classNumber}
-use Rattle.circuit.specs.Code.{classOf}
 use Rattle.circuit.proofs.shapes.class_number.Statement.{statement}
 use Rattle.circuit.proofs.shapes.class_number.Tie as tie
 

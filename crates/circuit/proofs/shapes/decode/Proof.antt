@@ -3,7 +3,6 @@
 use Rattle.circuit.proofs.Tests.{tests}
 use Rattle.circuit.specs.Gate.{decode}
 use Rattle.circuit.specs.Code.{kindOf}
-use Rattle.circuit.specs.Code.{kindOf}
 use Rattle.circuit.proofs.shapes.decode.Statement.{statement}
 use Rattle.circuit.proofs.shapes.decode.Tie as tie
 

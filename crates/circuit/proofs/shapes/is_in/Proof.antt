@@ -2,7 +2,6 @@
 -- Assumes nothing.
 use borrow.Author.Needs.{needs}
 use Rattle.circuit.specs.Kind.{classNumber, isClass}
-use Rattle.circuit.specs.Kind.{classNumber, isClass}
 use Rattle.circuit.proofs.shapes.is_in.Statement.{statement}
 use Rattle.circuit.proofs.shapes.is_in.Tie as tie
 

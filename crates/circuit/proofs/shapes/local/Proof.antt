@@ -2,8 +2,6 @@
 -- Assumes nothing.
 use mathlib.Core.Path.{refl}
 use Rattle.circuit.specs.Code.{classOf, roleOf, shapeOf}
-use mathlib.Core.Path.{refl}
-use Rattle.circuit.specs.Code.{classOf, roleOf, shapeOf}
 use Rattle.circuit.proofs.shapes.local.Statement.{statement}
 use Rattle.circuit.proofs.shapes.local.Tie as tie
 

@@ -2,7 +2,6 @@
 -- Assumes nothing.
 use borrow.Author.Needs.{needs}
 use Rattle.circuit.specs.Kind.{classNumber, isClass}
-use Rattle.circuit.specs.Kind.{classNumber, isClass}
 use Rattle.circuit.proofs.shapes.opens.Statement.{statement}
 use Rattle.circuit.proofs.shapes.opens.Tie as tie
 

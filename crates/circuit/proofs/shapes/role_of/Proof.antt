@@ -3,8 +3,6 @@
 use Rattle.circuit.proofs.Tests.{tests}
 use Rattle.circuit.specs.Kind.{role}
 use Rattle.circuit.specs.Code.{shapeOf}
-use Rattle.circuit.specs.Kind.{role}
-use Rattle.circuit.specs.Code.{shapeOf}
 use Rattle.circuit.proofs.shapes.role_of.Statement.{statement}
 use Rattle.circuit.proofs.shapes.role_of.Tie as tie
 

@@ -3,8 +3,6 @@
 use borrow.Author.Needs.{needs}
 use Rattle.circuit.specs.Kind.{kindShape}
 use Rattle.circuit.specs.Code.{kindOf, classOf, roleOf, shapeOf}
-use Rattle.circuit.specs.Kind.{kindShape}
-use Rattle.circuit.specs.Code.{kindOf, classOf, roleOf, shapeOf}
 use Rattle.circuit.proofs.shapes.shape_of.Statement.{statement}
 use Rattle.circuit.proofs.shapes.shape_of.Tie as tie
 

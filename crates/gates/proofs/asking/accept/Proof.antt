@@ -9,13 +9,7 @@ use Rattle.circuit.specs.Kind.{Output, isClass}
 use Rattle.circuit.specs.Code.{verdictOf}
 use Rattle.circuit.proofs.Asking.{circuit-gates, circuit-last, circuit-ok}
 use Rattle.circuit.proofs.Tests.{tests}
-use mathlib.Core.Path.{ap, _∙_}
-use Rattle.circuit.specs.Accept.{askSize, askCircuit}
 use Rattle.circuit.specs.Verdict.{ask}
-use Rattle.circuit.specs.Gate.{gates}
-use Rattle.circuit.specs.Kind.{Output, isClass}
-use Rattle.circuit.specs.Code.{verdictOf}
-use Rattle.circuit.proofs.Asking.{circuit-gates, circuit-last, circuit-ok}
 use Rattle.gates.proofs.asking.accept.Statement.{statement}
 use Rattle.gates.proofs.asking.accept.Tie as tie
 

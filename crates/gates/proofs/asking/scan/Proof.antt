@@ -9,10 +9,6 @@ use Rattle.circuit.specs.Accept.{askName, askRest, askGate}
 use Rattle.circuit.specs.Code.{verdictOf}
 use Rattle.circuit.proofs.Verdicts.{each-none, each-more, each-refused, each-done}
 use Rattle.circuit.proofs.Asking.{Numbers, numbers-start, numbers-more, name-yes, name-no, rest-yes, rest-no, gate-kind, gate-name, gate-rest, gate-ok}
-use mathlib.Core.Path.{_≡_, sym}
-use Rattle.circuit.specs.Accept.{askName, askRest, askGate}
-use Rattle.circuit.specs.Code.{verdictOf}
-use Rattle.circuit.proofs.Asking.{Numbers, numbers-start, numbers-more, name-yes, name-no, rest-yes, rest-no, gate-kind, gate-name, gate-rest, gate-ok}
 use Rattle.gates.proofs.asking.scan.Statement.{statement}
 use Rattle.gates.proofs.asking.scan.Tie as tie
 

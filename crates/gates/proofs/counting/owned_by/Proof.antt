@@ -6,9 +6,6 @@ use denote.Ref.{now}
 use Rattle.circuit.specs.Gate.{gate}
 use Rattle.circuit.specs.Kind.{Owned, isClass, ownedBy}
 use Rattle.circuit.proofs.KindLaws.{shape-class}
-use mathlib.Core.Path.{sym, ap, _∙_}
-use Rattle.circuit.specs.Gate.{gate}
-use Rattle.circuit.specs.Kind.{Owned, isClass, ownedBy}
 use Rattle.gates.proofs.counting.owned_by.Statement.{statement}
 use Rattle.gates.proofs.counting.owned_by.Tie as tie
 

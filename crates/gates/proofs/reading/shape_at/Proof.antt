@@ -3,7 +3,6 @@
 use borrow.Author.Needs.{needs}
 use mathlib.Core.Path.{ap, _∙_}
 use Rattle.circuit.specs.Kind.{kindShape}
-use Rattle.circuit.specs.Kind.{kindShape}
 use Rattle.gates.proofs.reading.shape_at.Statement.{statement}
 use Rattle.gates.proofs.reading.shape_at.Tie as tie
 

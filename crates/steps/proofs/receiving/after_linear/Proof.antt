@@ -6,8 +6,6 @@ use Rattle.circuit.specs.Kind.{kindShape, isClass}
 use Rattle.circuit.specs.Kind.{classNumber}
 use Rattle.circuit.specs.Code.{kindOf}
 use Rattle.protocol.specs.Receive.{linear, afterLinear}
-use Rattle.circuit.specs.Kind.{kindShape, isClass}
-use Rattle.circuit.specs.Code.{kindOf}
 use Rattle.steps.proofs.receiving.after_linear.Statement.{statement}
 use Rattle.steps.proofs.receiving.after_linear.Tie as tie
 

@@ -6,8 +6,6 @@ use Rattle.field.specs.Words.{ops}
 use Rattle.protocol.specs.Code.{layoutOf}
 use Rattle.steps.specs.Code.{partOf}
 use Rattle.protocol.proofs.Steps.{opening-made}
-use Rattle.field.specs.Words.{ops}
-use Rattle.protocol.specs.Code.{layoutOf}
 use Rattle.steps.proofs.receiving.after_opening.Statement.{statement}
 use Rattle.steps.proofs.receiving.after_opening.Tie as tie
 

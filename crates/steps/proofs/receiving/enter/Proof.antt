@@ -9,11 +9,6 @@ use Rattle.circuit.specs.Round.{classRounds, checkRounds, hasCheck}
 use Rattle.protocol.specs.Position.{begin, finished}
 use Rattle.protocol.specs.Code.{pointOf, stageOf}
 use Rattle.protocol.proofs.Following.{enter-at, enter-end}
-use mathlib.Core.Path.{_∙_}
-use Rattle.circuit.specs.Code.{classOf, roundOf, checkOf}
-use Rattle.circuit.specs.Round.{classRounds, checkRounds, hasCheck}
-use Rattle.protocol.specs.Code.{pointOf, stageOf}
-use Rattle.protocol.proofs.Following.{enter-at, enter-end}
 use Rattle.steps.proofs.receiving.enter.Statement.{statement}
 use Rattle.steps.proofs.receiving.enter.Tie as tie
 

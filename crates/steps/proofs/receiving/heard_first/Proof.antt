@@ -6,10 +6,6 @@ use denote.Ref.{now}
 use Rattle.field.specs.Words.{ops}
 use Rattle.circuit.specs.Code.{classOf}
 use Rattle.protocol.proofs.HeardWords.{owner-word, word-is, sum-is}
-use mathlib.Core.Path.{refl, sym, _∙_}
-use Rattle.field.specs.Words.{ops}
-use Rattle.circuit.specs.Code.{classOf}
-use Rattle.protocol.proofs.HeardWords.{owner-word, word-is, sum-is}
 use Rattle.steps.proofs.receiving.heard_first.Statement.{statement}
 use Rattle.steps.proofs.receiving.heard_first.Tie as tie
 

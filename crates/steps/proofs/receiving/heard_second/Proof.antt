@@ -8,11 +8,6 @@ use native.Mathlib.Omega.{arith}
 use Rattle.field.specs.Words.{ops}
 use Rattle.circuit.specs.Code.{classOf}
 use Rattle.protocol.proofs.HeardWords.{second-is, no-second}
-use mathlib.Core.Path.{sym, _∙_}
-use Prim.Native.Nat.{_-_}
-use Rattle.field.specs.Words.{ops}
-use Rattle.circuit.specs.Code.{classOf}
-use Rattle.protocol.proofs.HeardWords.{second-is, no-second}
 use Rattle.steps.proofs.receiving.heard_second.Statement.{statement}
 use Rattle.steps.proofs.receiving.heard_second.Tie as tie
 

@@ -7,12 +7,6 @@ use Rattle.circuit.specs.Code.{roundOf, checkOf}
 use Rattle.circuit.specs.Round.{First, Second, Own, Open, Commit, Reveal, isReveal}
 use Rattle.protocol.proofs.Following.{next-follows, next-stops, passes-zero, passes-not, passes-other}
 use Rattle.protocol.proofs.HeardWords.{reveal-heard}
-use mathlib.Core.Path.{refl, _∙_}
-use Rattle.field.specs.Words.{ops}
-use Rattle.circuit.specs.Code.{roundOf, checkOf}
-use Rattle.circuit.specs.Round.{First, Second, Own, Open, Commit, Reveal, isReveal}
-use Rattle.protocol.proofs.Following.{next-follows, next-stops, passes-zero, passes-not, passes-other}
-use Rattle.protocol.proofs.HeardWords.{reveal-heard}
 use Rattle.steps.proofs.receiving.next_point.Statement.{statement}
 use Rattle.steps.proofs.receiving.next_point.Tie as tie
 

@@ -4,7 +4,6 @@ use borrow.Author.Needs.{needs}
 use Rattle.field.specs.Words.{ops}
 use Rattle.steps.specs.Code.{partOf}
 use Rattle.protocol.proofs.Steps.{two-made, one-made}
-use Rattle.field.specs.Words.{ops}
 use Rattle.steps.proofs.receiving.put_differences.Statement.{statement}
 use Rattle.steps.proofs.receiving.put_differences.Tie as tie
 

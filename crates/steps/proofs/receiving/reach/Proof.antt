@@ -7,10 +7,6 @@ use borrow.Author.Needs.{needs}
 use borrow.Author.Tests.{not-true, not-false}
 use Rattle.circuit.specs.Kind.{Local, isClass}
 use Rattle.protocol.proofs.Settling.{Reaching, reaching-start, reaching-again, reaching-stop, reaching-done}
-use Prim.Native.Nat.{_-_}
-use mathlib.Core.Path.{sym, ap, _∙_}
-use Rattle.circuit.specs.Kind.{Local, isClass}
-use Rattle.protocol.proofs.Settling.{Reaching, reaching-start, reaching-again, reaching-stop, reaching-done}
 use Rattle.steps.proofs.receiving.reach.Statement.{statement}
 use Rattle.steps.proofs.receiving.reach.Tie as tie
 

@@ -10,12 +10,6 @@ use Rattle.protocol.proofs.Readiness.{gate-there}
 use Rattle.protocol.proofs.HeardWords.{first-asks, second-asks, first-found, second-found}
 use Rattle.protocol.proofs.Received.{hears, reach-asks, stands}
 use Rattle.circuit.proofs.KindLaws.{shape-class, shape-openings}
-use mathlib.Core.Path.{ap, _∙_}
-use Rattle.field.specs.Words.{ops}
-use Rattle.protocol.proofs.Readiness.{gate-there}
-use Rattle.protocol.proofs.HeardWords.{first-asks, second-asks, first-found, second-found}
-use Rattle.protocol.proofs.Received.{hears, reach-asks, stands}
-use Rattle.circuit.proofs.KindLaws.{shape-class, shape-openings}
 use Rattle.steps.proofs.receiving.receive_step.Statement.{statement}
 use Rattle.steps.proofs.receiving.receive_step.Tie as tie
 

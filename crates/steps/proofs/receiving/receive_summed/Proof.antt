@@ -10,13 +10,6 @@ use Rattle.protocol.proofs.Readiness.{prep-some, output-settles}
 use Rattle.protocol.proofs.Following.{passes-zero, passes-not}
 use Rattle.protocol.proofs.HeardWords.{reveal-heard}
 use Rattle.protocol.proofs.Received.{hears, output-asks, output-received, reveal-received, commit-received, first-received, stopped-received}
-use mathlib.Core.Path.{refl, _∙_}
-use Rattle.field.specs.Words.{ops}
-use Rattle.circuit.specs.Round.{Second, Reveal, isReveal}
-use Rattle.circuit.specs.Code.{roundOf, checkOf}
-use Rattle.protocol.proofs.Readiness.{prep-some, output-settles}
-use Rattle.protocol.proofs.HeardWords.{reveal-heard}
-use Rattle.protocol.proofs.Received.{hears, output-asks, output-received, reveal-received, commit-received, first-received, stopped-received}
 use Rattle.steps.proofs.receiving.receive_summed.Statement.{statement}
 use Rattle.steps.proofs.receiving.receive_summed.Tie as tie
 

@@ -8,9 +8,6 @@ use Rattle.circuit.proofs.Counts.{unchecked-few}
 use Rattle.protocol.specs.Position.{resume}
 use Rattle.protocol.proofs.Readiness.{resume-waits}
 use Rattle.circuit.proofs.KindLaws.{shape-small}
-use mathlib.Core.Path.{_∙_}
-use Rattle.protocol.proofs.Readiness.{resume-waits}
-use Rattle.circuit.proofs.KindLaws.{shape-small}
 use Rattle.steps.proofs.receiving.resume.Statement.{statement}
 use Rattle.steps.proofs.receiving.resume.Tie as tie
 

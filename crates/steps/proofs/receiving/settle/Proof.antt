@@ -9,12 +9,6 @@ use Rattle.circuit.specs.Kind.{Local, kindShape, isClass}
 use Rattle.protocol.specs.Code.{layoutOf}
 use Rattle.protocol.proofs.Settling.{Settling, Reaching, settling-start, settling-asks, settling-again, settling-end, reaching-start, reaching-again, reaching-linear}
 use Rattle.circuit.proofs.Gates.{gate-from}
-use Prim.Native.Nat.{_-_}
-use mathlib.Core.Path.{ap, _∙_}
-use Rattle.field.specs.Words.{ops}
-use Rattle.circuit.specs.Kind.{Local, kindShape, isClass}
-use Rattle.protocol.specs.Code.{layoutOf}
-use Rattle.protocol.proofs.Settling.{Settling, Reaching, settling-start, settling-asks, settling-again, settling-end, reaching-start, reaching-again, reaching-linear}
 use Rattle.steps.proofs.receiving.settle.Statement.{statement}
 use Rattle.steps.proofs.receiving.settle.Tie as tie
 

@@ -8,9 +8,6 @@ use lib.ListN.{length}
 use Rattle.field.specs.Words.{ops}
 use Rattle.steps.proofs.Numbers.{share-is}
 use Rattle.protocol.proofs.Sent.{opening-one, opening-two}
-use Rattle.field.specs.Words.{ops}
-use Rattle.steps.proofs.Numbers.{share-is}
-use Rattle.protocol.proofs.Sent.{opening-one, opening-two}
 use Rattle.steps.proofs.sending.opening_words.Statement.{statement}
 use Rattle.steps.proofs.sending.opening_words.Tie as tie
 

@@ -3,8 +3,6 @@
 use borrow.Author.Needs.{needs}
 use Rattle.steps.proofs.Numbers.{share-is}
 use Rattle.protocol.proofs.Sent.{overwrite-one}
-use Rattle.steps.proofs.Numbers.{share-is}
-use Rattle.protocol.proofs.Sent.{overwrite-one}
 use Rattle.steps.proofs.sending.send_output.Statement.{statement}
 use Rattle.steps.proofs.sending.send_output.Tie as tie
 

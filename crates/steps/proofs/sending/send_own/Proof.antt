@@ -10,11 +10,6 @@ use Rattle.protocol.specs.Send.{sent}
 use Rattle.protocol.proofs.Sent.{overwrite-one, own-sends, sends-input, sends-opening, sent-input, sent-opening}
 use Rattle.protocol.proofs.Readiness.{tail-part, part-below, part-longer, gate-there, own-owned, own-opens}
 use Rattle.circuit.proofs.KindLaws.{shape-class, shape-openings}
-use mathlib.Core.Path.{sym, _∙_}
-use Rattle.field.specs.Words.{ops}
-use Rattle.protocol.proofs.Sent.{overwrite-one, own-sends, sends-input, sends-opening, sent-input, sent-opening}
-use Rattle.protocol.proofs.Readiness.{tail-part, part-below, part-longer, gate-there, own-owned, own-opens}
-use Rattle.circuit.proofs.KindLaws.{shape-class, shape-openings}
 use Rattle.steps.proofs.sending.send_own.Statement.{statement}
 use Rattle.steps.proofs.sending.send_own.Tie as tie
 

@@ -8,13 +8,6 @@ use Rattle.circuit.specs.Code.{roundOf}
 use Rattle.protocol.specs.Send.{sent}
 use Rattle.protocol.proofs.Sent.{overwrite-one, sends-output, sends-check, holds-check, holds-none, sent-output}
 use Rattle.protocol.proofs.Readiness.{prep-some}
-use mathlib.Core.Path.{refl, _∙_}
-use Rattle.field.specs.Words.{ops}
-use Rattle.circuit.specs.Round.{Own, Open, Commit, Reveal, isCommit, shapeWords}
-use Rattle.circuit.specs.Code.{roundOf}
-use Rattle.protocol.specs.Send.{sent}
-use Rattle.protocol.proofs.Sent.{overwrite-one, sends-output, sends-check, holds-check, holds-none, sent-output}
-use Rattle.protocol.proofs.Readiness.{prep-some}
 use Rattle.steps.proofs.sending.send_step.Statement.{statement}
 use Rattle.steps.proofs.sending.send_step.Tie as tie
 
