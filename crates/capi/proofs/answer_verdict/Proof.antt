@@ -7,18 +7,6 @@ use borrow.Author.Needs.{needs}
 use Rattle.capi.proofs.answer_verdict.Statement.{statement}
 use Rattle.capi.proofs.answer_verdict.Tie as tie
 
-enum-known-a : tie.Need-enum-known-a
-enum-known-a c = search needs
-
-enum-told : tie.Need-enum-told
-enum-told c = search needs
-
-enum-told-2 : tie.Need-enum-told-2
-enum-told-2 c = search needs
-
-enum-told-3 : tie.Need-enum-told-3
-enum-told-3 c = search needs
-
 returns : tie.Need-returns
 unfolding answerOf verdictOf answerVerdict
 returns c = rw (c .before .a .given .1)
@@ -38,4 +26,4 @@ returns-4 c = rw (c .enum-told3 .given .1)
 pub answer-verdict-spec : {M : Type 1} → statement M
 answer-verdict-spec =
     tie.close
-    (tie.spec enum-known-a enum-told enum-told-2 enum-told-3 returns returns-2 returns-3 returns-4)
+    (tie.spec (λ c. search needs) (λ c. search needs) (λ c. search needs) (λ c. search needs) returns returns-2 returns-3 returns-4)

@@ -6,12 +6,6 @@ use borrow.Author.Needs.{needs}
 use Rattle.capi.proofs.asked_verdict.Statement.{statement}
 use Rattle.capi.proofs.asked_verdict.Tie as tie
 
-enum-known-a : tie.Need-enum-known-a
-enum-known-a c = search needs
-
-enum-told : tie.Need-enum-told
-enum-told c = search needs
-
 returns : tie.Need-returns
 unfolding askedOf verdictOf
 returns c = rw (c .before .a .given .1)
@@ -21,4 +15,4 @@ unfolding askedOf verdictOf
 returns-2 c = rw (c .enum-told .given .1)
 
 pub asked-verdict-spec : {M : Type 1} → statement M
-asked-verdict-spec = tie.close (tie.spec enum-known-a enum-told returns returns-2)
+asked-verdict-spec = tie.close (tie.spec (λ c. search needs) (λ c. search needs) returns returns-2)

@@ -7,15 +7,6 @@ use borrow.Author.Needs.{needs}
 use Rattle.capi.proofs.joint_verdict.Statement.{statement}
 use Rattle.capi.proofs.joint_verdict.Tie as tie
 
-enum-known-a : tie.Need-enum-known-a
-enum-known-a c = search needs
-
-enum-told : tie.Need-enum-told
-enum-told c = search needs
-
-enum-told-2 : tie.Need-enum-told-2
-enum-told-2 c = search needs
-
 returns : tie.Need-returns
 unfolding jointAnswerOf verdictOf jointVerdict
 returns c = rw (c .before .a .given .1)
@@ -30,4 +21,4 @@ returns-3 c = rw (c .enum-told2 .given .1)
 
 pub joint-verdict-spec : {M : Type 1} → statement M
 joint-verdict-spec =
-    tie.close (tie.spec enum-known-a enum-told enum-told-2 returns returns-2 returns-3)
+    tie.close (tie.spec (λ c. search needs) (λ c. search needs) (λ c. search needs) returns returns-2 returns-3)

@@ -50,15 +50,5 @@ returns-6 c = rw (le-ltb _ _ (c .before .before .before .before .if1 .left), le-
 pub position-at-spec : {M : Type 1} → statement M
 position-at-spec =
     tie.close
-    (tie.spec
-    round-at-requires
-    half-at-requires
-    returns
-    nowhere-requires
-    returns-2
-    nowhere-requires-2
-    returns-3
-    returns-4
-    returns-5
-    nowhere-requires-3
-    returns-6)
+    (tie.spec round-at-requires half-at-requires returns nowhere-requires returns-2 nowhere-requires-2 returns-3 returns-4 returns-5
+        nowhere-requires-3 returns-6)

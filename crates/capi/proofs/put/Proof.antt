@@ -7,9 +7,6 @@ use Rattle.capi.proofs.Writing.{overwrite-six}
 use Rattle.capi.proofs.put.Statement.{statement}
 use Rattle.capi.proofs.put.Tie as tie
 
-slice-write-answer : tie.Need-slice-write-answer
-slice-write-answer c = search needs
-
 slice-write-answer-2 : tie.Need-slice-write-answer-2
 slice-write-answer-2 c = simp length-set (omega arith)
 
@@ -22,24 +19,11 @@ slice-write-answer-4 c = simp length-set (omega arith)
 slice-write-answer-5 : tie.Need-slice-write-answer-5
 slice-write-answer-5 c = simp length-set (omega arith)
 
-slice-write-answer-6 : tie.Need-slice-write-answer-6
-slice-write-answer-6 c = search needs
-
-same-length : tie.Need-same-length
-same-length c = search needs
-
 returns : tie.Need-returns
 returns c = overwrite-six _ _ _ _ _ _ _ (omega arith)
 
 pub put-spec : {M : Type 1} → statement M
 put-spec =
     tie.close
-    (tie.spec
-    slice-write-answer
-    slice-write-answer-2
-    slice-write-answer-3
-    slice-write-answer-4
-    slice-write-answer-5
-    slice-write-answer-6
-    same-length
-    returns)
+    (tie.spec (λ c. search needs) slice-write-answer-2 slice-write-answer-3 slice-write-answer-4 slice-write-answer-5 (λ c. search needs)
+        (λ c. search needs) returns)

@@ -7,26 +7,11 @@ use borrow.Author.Needs.{needs}
 use Rattle.capi.proofs.put_answer.Statement.{statement}
 use Rattle.capi.proofs.put_answer.Tie as tie
 
-enum-told : tie.Need-enum-told
-enum-told c = search needs
-
-enum-known-a : tie.Need-enum-known-a
-enum-known-a c = search needs
-
 put-position-requires : tie.Need-put-position-requires
 put-position-requires c κs = search needs
 
-enum-known-a-2 : tie.Need-enum-known-a-2
-enum-known-a-2 c = search needs
-
-cast-put-position : tie.Need-cast-put-position
-cast-put-position c = search needs
-
 put-position-requires-2 : tie.Need-put-position-requires-2
 put-position-requires-2 c κs = search needs
-
-enum-known-a-3 : tie.Need-enum-known-a-3
-enum-known-a-3 c = search needs
 
 put-position-requires-3 : tie.Need-put-position-requires-3
 put-position-requires-3 c κs = search needs
@@ -35,22 +20,13 @@ returns : tie.Need-returns
 unfolding answerOf answerNumbers overwrite
 returns c = rw (c .enum-told .given .1)
 
-same-length : tie.Need-same-length
-same-length c = search needs
-
 returns-2 : tie.Need-returns-2
 unfolding answerOf answerNumbers
 returns-2 c = rw (c .before .before .before .before .before .a .given .1) (c .before .before .put-position .ensures)
 
-same-length-2 : tie.Need-same-length-2
-same-length-2 c = search needs
-
 returns-3 : tie.Need-returns-3
 unfolding answerOf answerNumbers
 returns-3 c = rw (c .before .before .before .before .before .a2 .given .1) (c .before .before .put-position2 .ensures)
-
-same-length-3 : tie.Need-same-length-3
-same-length-3 c = search needs
 
 returns-4 : tie.Need-returns-4
 unfolding answerOf answerNumbers
@@ -59,19 +35,5 @@ returns-4 c = rw (c .before .before .before .before .before .a3 .given .1) (c .b
 pub put-answer-spec : {M : Type 1} → statement M
 put-answer-spec =
     tie.close
-    (tie.spec
-    enum-told
-    enum-known-a
-    put-position-requires
-    enum-known-a-2
-    cast-put-position
-    put-position-requires-2
-    enum-known-a-3
-    put-position-requires-3
-    returns
-    same-length
-    returns-2
-    same-length-2
-    returns-3
-    same-length-3
-    returns-4)
+    (tie.spec (λ c. search needs) (λ c. search needs) put-position-requires (λ c. search needs) (λ c. search needs) put-position-requires-2
+        (λ c. search needs) put-position-requires-3 returns (λ c. search needs) returns-2 (λ c. search needs) returns-3 (λ c. search needs) returns-4)

@@ -7,17 +7,8 @@ use borrow.Author.Needs.{needs}
 use Rattle.capi.proofs.put_joint.Statement.{statement}
 use Rattle.capi.proofs.put_joint.Tie as tie
 
-enum-told : tie.Need-enum-told
-enum-told c = search needs
-
-enum-known-a : tie.Need-enum-known-a
-enum-known-a c = search needs
-
 put-requires : tie.Need-put-requires
 put-requires c κs = search needs
-
-enum-known-a-2 : tie.Need-enum-known-a-2
-enum-known-a-2 c = search needs
 
 put-requires-2 : tie.Need-put-requires-2
 put-requires-2 c κs = search needs
@@ -26,15 +17,9 @@ returns : tie.Need-returns
 unfolding jointAnswerOf jointNumbers overwrite
 returns c = rw (c .enum-told .given .1)
 
-same-length : tie.Need-same-length
-same-length c = search needs
-
 returns-2 : tie.Need-returns-2
 unfolding jointAnswerOf jointNumbers
 returns-2 c = rw (c .before .before .before .before .before .a .given .1) (c .before .before .put .ensures)
-
-same-length-2 : tie.Need-same-length-2
-same-length-2 c = search needs
 
 returns-3 : tie.Need-returns-3
 unfolding jointAnswerOf jointNumbers
@@ -43,14 +28,5 @@ returns-3 c = rw (c .before .before .before .before .before .a2 .given .1) (c .b
 pub put-joint-spec : {M : Type 1} → statement M
 put-joint-spec =
     tie.close
-    (tie.spec
-    enum-told
-    enum-known-a
-    put-requires
-    enum-known-a-2
-    put-requires-2
-    returns
-    same-length
-    returns-2
-    same-length-2
-    returns-3)
+    (tie.spec (λ c. search needs) (λ c. search needs) put-requires (λ c. search needs) put-requires-2 returns (λ c. search needs) returns-2
+        (λ c. search needs) returns-3)

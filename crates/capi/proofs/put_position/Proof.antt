@@ -10,23 +10,11 @@ use Rattle.capi.proofs.put_position.Tie as tie
 half-number-requires : tie.Need-half-number-requires
 half-number-requires c κs = search needs
 
-cast-put : tie.Need-cast-put
-cast-put c = search needs
-
 stage-round-requires : tie.Need-stage-round-requires
 stage-round-requires c κs = search needs
 
-cast-put-2 : tie.Need-cast-put-2
-cast-put-2 c = search needs
-
-cast-put-3 : tie.Need-cast-put-3
-cast-put-3 c = search needs
-
 put-requires : tie.Need-put-requires
 put-requires c κs = search needs
-
-same-length : tie.Need-same-length
-same-length c = search needs
 
 returns : tie.Need-returns
 unfolding positionOf positionNumbers
@@ -35,12 +23,5 @@ returns c = rw (sym (c .before .before .before .before .half-number .ensures), s
 pub put-position-spec : {M : Type 1} → statement M
 put-position-spec =
     tie.close
-    (tie.spec
-    half-number-requires
-    cast-put
-    stage-round-requires
-    cast-put-2
-    cast-put-3
-    put-requires
-    same-length
-    returns)
+    (tie.spec half-number-requires (λ c. search needs) stage-round-requires (λ c. search needs) (λ c. search needs) put-requires (λ c. search needs)
+        returns)

@@ -6,12 +6,6 @@ use borrow.Author.Needs.{needs}
 use Rattle.capi.proofs.returned_of.Statement.{statement}
 use Rattle.capi.proofs.returned_of.Tie as tie
 
-enum-known-v : tie.Need-enum-known-v
-enum-known-v c = search needs
-
-enum-told : tie.Need-enum-told
-enum-told c = search needs
-
 returns : tie.Need-returns
 unfolding verdictOf returned
 returns c = rw (c .before .v .given .1)
@@ -21,4 +15,4 @@ unfolding verdictOf returned
 returns-2 c = rw (c .enum-told .given .1)
 
 pub returned-of-spec : {M : Type 1} → statement M
-returned-of-spec = tie.close (tie.spec enum-known-v enum-told returns returns-2)
+returned-of-spec = tie.close (tie.spec (λ c. search needs) (λ c. search needs) returns returns-2)

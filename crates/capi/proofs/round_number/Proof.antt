@@ -6,30 +6,6 @@ use Rattle.circuit.specs.Code.{checkOf, roundOf}
 use Rattle.capi.proofs.round_number.Statement.{statement}
 use Rattle.capi.proofs.round_number.Tie as tie
 
-enum-told : tie.Need-enum-told
-enum-told c = search needs
-
-enum-told-2 : tie.Need-enum-told-2
-enum-told-2 c = search needs
-
-enum-known-r : tie.Need-enum-known-r
-enum-known-r c = search needs
-
-enum-told-3 : tie.Need-enum-told-3
-enum-told-3 c = search needs
-
-enum-told-4 : tie.Need-enum-told-4
-enum-told-4 c = search needs
-
-enum-known-r-2 : tie.Need-enum-known-r-2
-enum-known-r-2 c = search needs
-
-enum-told-5 : tie.Need-enum-told-5
-enum-told-5 c = search needs
-
-enum-told-6 : tie.Need-enum-told-6
-enum-told-6 c = search needs
-
 returns : tie.Need-returns
 unfolding roundNumber roundOf checkOf
 returns c = rw (c .enum-told .given .1)
@@ -57,18 +33,5 @@ returns-6 c = rw (c .before .before .before .r2 .given .1, c .enum-told6 .given 
 pub round-number-spec : {M : Type 1} → statement M
 round-number-spec =
     tie.close
-    (tie.spec
-    enum-told
-    enum-told-2
-    enum-known-r
-    enum-told-3
-    enum-told-4
-    enum-known-r-2
-    enum-told-5
-    enum-told-6
-    returns
-    returns-2
-    returns-3
-    returns-4
-    returns-5
-    returns-6)
+    (tie.spec (λ c. search needs) (λ c. search needs) (λ c. search needs) (λ c. search needs) (λ c. search needs) (λ c. search needs)
+        (λ c. search needs) (λ c. search needs) returns returns-2 returns-3 returns-4 returns-5 returns-6)

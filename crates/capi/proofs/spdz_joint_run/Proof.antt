@@ -14,12 +14,6 @@ use borrow.Author.Needs.{needs}
 use Rattle.capi.proofs.spdz_joint_run.Statement.{statement}
 use Rattle.capi.proofs.spdz_joint_run.Tie as tie
 
-slice-relend-prefix-joint-run : tie.Need-slice-relend-prefix-joint-run
-slice-relend-prefix-joint-run c = search needs
-
-slice-aggregate-joint-run : tie.Need-slice-aggregate-joint-run
-slice-aggregate-joint-run c = search needs
-
 joint-run-requires : tie.Need-joint-run-requires
 joint-run-requires c κs = search needs
 
@@ -28,15 +22,6 @@ joint-verdict-requires c κs = search needs
 
 returned-of-requires : tie.Need-returned-of-requires
 returned-of-requires c κs = search needs
-
-same-length : tie.Need-same-length
-same-length c = search needs
-
-same-length-2 : tie.Need-same-length-2
-same-length-2 c = search needs
-
-same-length-3 : tie.Need-same-length-3
-same-length-3 c = search needs
 
 returns : tie.Need-returns
 returns c = (joint-short-returned _ _ _ _ _ (omega arith) (c .before .joint-verdict .ensures ∙ ap jointVerdict (c .before .before .before .before .before .before .before .before .joint-run .ensures .0) ∙ joint-verdict-is ops _ _ _ _) (c .returned-of .ensures), (short-kept _ _ (omega arith) _ _, (c .before .before .before .before .before .before .before .before .joint-run .ensures .1 .0 ∙ scratch-kept _ _ _ ∙ short-kept _ _ (omega arith) _ _, (c .before .before .before .before .before .before .before .before .joint-run .ensures .1 .1 .0 ∙ transcript-kept _ _ _ ∙ short-kept _ _ (omega arith) _ _, rw (c .before .before .before .before .before .before .before .before .joint-run .ensures .1 .1 .1 ∙ outputs-kept _ _ _) (short-kept _ _ (omega arith) _ _)))))
@@ -53,18 +38,6 @@ joint-verdict-requires-2 c κs = search needs
 returned-of-requires-2 : tie.Need-returned-of-requires-2
 returned-of-requires-2 c κs = search needs
 
-same-length-4 : tie.Need-same-length-4
-same-length-4 c = search needs
-
-same-length-5 : tie.Need-same-length-5
-same-length-5 c = search needs
-
-same-length-6 : tie.Need-same-length-6
-same-length-6 c = search needs
-
-same-length-7 : tie.Need-same-length-7
-same-length-7 c = search needs
-
 returns-2 : tie.Need-returns-2
 returns-2 c =
     let long : places ≤ length (c .before .before .before .before .before .before .before .before .before .before .before .before .before .before .before .before .before .before .before .before .before .before .before .before .before .args .answer .now) = omega arith in
@@ -73,22 +46,6 @@ returns-2 c =
 pub spdz-joint-run-spec : {M : Type 1} → statement M
 spdz-joint-run-spec =
     tie.close
-    (tie.spec
-    slice-relend-prefix-joint-run
-    slice-aggregate-joint-run
-    joint-run-requires
-    joint-verdict-requires
-    returned-of-requires
-    same-length
-    same-length-2
-    same-length-3
-    returns
-    joint-run-requires-2
-    put-joint-requires
-    joint-verdict-requires-2
-    returned-of-requires-2
-    same-length-4
-    same-length-5
-    same-length-6
-    same-length-7
-    returns-2)
+    (tie.spec (λ c. search needs) (λ c. search needs) joint-run-requires joint-verdict-requires returned-of-requires (λ c. search needs)
+        (λ c. search needs) (λ c. search needs) returns joint-run-requires-2 put-joint-requires joint-verdict-requires-2 returned-of-requires-2
+        (λ c. search needs) (λ c. search needs) (λ c. search needs) (λ c. search needs) returns-2)

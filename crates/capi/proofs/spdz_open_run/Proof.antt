@@ -30,22 +30,11 @@ answer-verdict-requires-2 c κs = search needs
 returned-of-requires : tie.Need-returned-of-requires
 returned-of-requires c κs = search needs
 
-same-length : tie.Need-same-length
-same-length c = search needs
-
 returns-2 : tie.Need-returns-2
 returns-2 c = (long-returned _ _ (omega arith) (c .before .answer-verdict2 .ensures ∙ ap answerVerdict (c .before .before .before .before .before .before .before .open-run .ensures) ∙ open-verdict ops _ _) (c .returned-of .ensures), long-left _ _ (omega arith) _ _ (open-left ops _ _ _) (rw (sym (c .before .before .before .before .before .before .before .open-run .ensures)) (c .before .before .before .before .put-answer .ensures)))
 
 pub spdz-open-run-spec : {M : Type 1} → statement M
 spdz-open-run-spec =
     tie.close
-    (tie.spec
-    open-run-requires
-    answer-verdict-requires
-    without-room-requires
-    returns
-    put-answer-requires
-    answer-verdict-requires-2
-    returned-of-requires
-    same-length
-    returns-2)
+    (tie.spec open-run-requires answer-verdict-requires without-room-requires returns put-answer-requires answer-verdict-requires-2
+        returned-of-requires (λ c. search needs) returns-2)

@@ -21,9 +21,6 @@ asked-verdict-requires c κs = search needs
 without-room-requires : tie.Need-without-room-requires
 without-room-requires c κs = search needs
 
-same-length : tie.Need-same-length
-same-length c = search needs
-
 returns : tie.Need-returns
 returns c = rw (sym (c .before .before .before .before .before .position-at .ensures)) (short-returned _ _ (omega arith) (c .before .asked-verdict .ensures ∙ c .before .before .ask-receive .ensures .0) (c .without-room .ensures), (short-kept _ _ (omega arith) _ _, short-kept _ _ (omega arith) _ _))
 
@@ -39,29 +36,11 @@ answer-verdict-requires c κs = search needs
 returned-of-requires : tie.Need-returned-of-requires
 returned-of-requires c κs = search needs
 
-same-length-2 : tie.Need-same-length-2
-same-length-2 c = search needs
-
-same-length-3 : tie.Need-same-length-3
-same-length-3 c = search needs
-
 returns-2 : tie.Need-returns-2
 returns-2 c = rw (sym (c .before .before .before .before .before .before .before .before .before .before .before .position-at .ensures)) (long-returned _ _ (omega arith) (c .before .answer-verdict .ensures ∙ ap answerVerdict (c .before .before .before .before .before .before .before .before .receive .ensures .0) ∙ receive-verdict ops _ _ _ _) (c .returned-of .ensures), (long-left _ _ (omega arith) _ _ (receive-left ops _ _ _ _ _) (rw (sym (c .before .before .before .before .before .before .before .before .receive .ensures .0)) (c .before .before .before .before .put-answer .ensures)), long-left _ _ (omega arith) _ _ (scratch-left ops _ _ _ _) (c .before .before .before .before .before .before .before .before .receive .ensures .1)))
 
 pub spdz-receive-spec : {M : Type 1} → statement M
 spdz-receive-spec =
     tie.close
-    (tie.spec
-    position-at-requires
-    ask-receive-requires
-    asked-verdict-requires
-    without-room-requires
-    same-length
-    returns
-    receive-requires
-    put-answer-requires
-    answer-verdict-requires
-    returned-of-requires
-    same-length-2
-    same-length-3
-    returns-2)
+    (tie.spec position-at-requires ask-receive-requires asked-verdict-requires without-room-requires (λ c. search needs) returns receive-requires
+        put-answer-requires answer-verdict-requires returned-of-requires (λ c. search needs) (λ c. search needs) returns-2)

@@ -36,28 +36,11 @@ answer-verdict-requires c κs = search needs
 returned-of-requires : tie.Need-returned-of-requires
 returned-of-requires c κs = search needs
 
-same-length : tie.Need-same-length
-same-length c = search needs
-
-same-length-2 : tie.Need-same-length-2
-same-length-2 c = search needs
-
 returns-2 : tie.Need-returns-2
 returns-2 c = rw (sym (c .before .before .before .before .before .before .before .before .before .before .before .position-at .ensures)) (long-returned _ _ (omega arith) (c .before .answer-verdict .ensures ∙ ap answerVerdict (c .before .before .before .before .before .before .before .before .send .ensures .0) ∙ send-verdict ops _ _ _ _ _) (c .returned-of .ensures), (long-left _ _ (omega arith) _ _ (send-left ops _ _ _ _ _ _) (rw (sym (c .before .before .before .before .before .before .before .before .send .ensures .0)) (c .before .before .before .before .put-answer .ensures)), long-left _ _ (omega arith) _ _ (out-left ops _ _ _ _ _) (c .before .before .before .before .before .before .before .before .send .ensures .1)))
 
 pub spdz-send-spec : {M : Type 1} → statement M
 spdz-send-spec =
     tie.close
-    (tie.spec
-    position-at-requires
-    ask-send-requires
-    asked-verdict-requires
-    without-room-requires
-    returns
-    send-requires
-    put-answer-requires
-    answer-verdict-requires
-    returned-of-requires
-    same-length
-    same-length-2
-    returns-2)
+    (tie.spec position-at-requires ask-send-requires asked-verdict-requires without-room-requires returns send-requires put-answer-requires
+        answer-verdict-requires returned-of-requires (λ c. search needs) (λ c. search needs) returns-2)

@@ -6,23 +6,11 @@ use Rattle.capi.specs.Stages.{stageRound}
 use Rattle.capi.proofs.stage_round.Statement.{statement}
 use Rattle.capi.proofs.stage_round.Tie as tie
 
-enum-known-s : tie.Need-enum-known-s
-enum-known-s c = search needs
-
 round-number-requires : tie.Need-round-number-requires
 round-number-requires c κs = search needs
 
-enum-known-s-2 : tie.Need-enum-known-s-2
-enum-known-s-2 c = search needs
-
 round-number-requires-2 : tie.Need-round-number-requires-2
 round-number-requires-2 c κs = search needs
-
-enum-told : tie.Need-enum-told
-enum-told c = search needs
-
-enum-told-2 : tie.Need-enum-told-2
-enum-told-2 c = search needs
 
 returns : tie.Need-returns
 unfolding stageOf stageRound
@@ -43,14 +31,5 @@ returns-4 c = rw (c .enum-told2 .given .1)
 pub stage-round-spec : {M : Type 1} → statement M
 stage-round-spec =
     tie.close
-    (tie.spec
-    enum-known-s
-    round-number-requires
-    enum-known-s-2
-    round-number-requires-2
-    enum-told
-    enum-told-2
-    returns
-    returns-2
-    returns-3
-    returns-4)
+    (tie.spec (λ c. search needs) round-number-requires (λ c. search needs) round-number-requires-2 (λ c. search needs) (λ c. search needs) returns
+        returns-2 returns-3 returns-4)

@@ -7,12 +7,6 @@ use borrow.Author.Needs.{needs}
 use Rattle.capi.proofs.without_room.Statement.{statement}
 use Rattle.capi.proofs.without_room.Tie as tie
 
-enum-known-v : tie.Need-enum-known-v
-enum-known-v c = search needs
-
-enum-told : tie.Need-enum-told
-enum-told c = search needs
-
 returns : tie.Need-returns
 unfolding _then_ verdictOf returned
 returns c = rw (c .before .v .given .1)
@@ -22,4 +16,4 @@ unfolding _then_ verdictOf returned
 returns-2 c = rw (c .enum-told .given .1)
 
 pub without-room-spec : {M : Type 1} → statement M
-without-room-spec = tie.close (tie.spec enum-known-v enum-told returns returns-2)
+without-room-spec = tie.close (tie.spec (λ c. search needs) (λ c. search needs) returns returns-2)

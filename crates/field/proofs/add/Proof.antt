@@ -6,9 +6,6 @@ use Rattle.field.specs.Prime.Laws.{add-eq}
 use Rattle.field.proofs.add.Statement.{statement}
 use Rattle.field.proofs.add.Tie as tie
 
-add-s : tie.Need-add-s
-add-s c = search needs
-
 returns : tie.Need-returns
 returns c = let a = c .before .args in omega (arith, add-eq (a .x) (a .y))
 
@@ -16,4 +13,4 @@ returns-2 : tie.Need-returns-2
 returns-2 c = let a = c .before .args in omega (arith, add-eq (a .x) (a .y))
 
 pub add-spec : {M : Type 1} → statement M
-add-spec = tie.close (tie.spec add-s returns returns-2)
+add-spec = tie.close (tie.spec (λ c. search needs) returns returns-2)

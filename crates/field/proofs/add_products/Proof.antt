@@ -34,12 +34,4 @@ returns c = record { is = c .reduce .ensures .is ∙ norm-three _ _ _ _ _ _ _; b
 pub add-products-spec : {M : Type 1} → statement M
 add-products-spec =
     tie.close
-    (tie.spec
-    mul-reduce
-    add-reduce
-    mul-reduce-2
-    add-reduce-2
-    mul-reduce-3
-    add-reduce-3
-    reduce-requires
-    returns)
+    (tie.spec mul-reduce add-reduce mul-reduce-2 add-reduce-2 mul-reduce-3 add-reduce-3 reduce-requires returns)

@@ -6,17 +6,8 @@ use Rattle.field.specs.Prime.Laws.{norm-eq}
 use Rattle.field.proofs.reduce.Statement.{statement}
 use Rattle.field.proofs.reduce.Tie as tie
 
-cast-result : tie.Need-cast-result
-cast-result c = search needs
-
-rem-result : tie.Need-rem-result
-rem-result c = search needs
-
-cast-result-2 : tie.Need-cast-result-2
-cast-result-2 c = search needs
-
 returns : tie.Need-returns
 returns c = omega (arith, norm-eq (c .args .x))
 
 pub reduce-spec : {M : Type 1} → statement M
-reduce-spec = tie.close (tie.spec cast-result rem-result cast-result-2 returns)
+reduce-spec = tie.close (tie.spec (λ c. search needs) (λ c. search needs) (λ c. search needs) returns)

@@ -6,12 +6,6 @@ use Rattle.field.specs.Prime.Laws.{sub-eq}
 use Rattle.field.proofs.sub.Statement.{statement}
 use Rattle.field.proofs.sub.Tie as tie
 
-sub-result : tie.Need-sub-result
-sub-result c = search needs
-
-add-result : tie.Need-add-result
-add-result c = search needs
-
 returns : tie.Need-returns
 returns c = let a = c .before .args in omega (arith, sub-eq (a .x) (a .y))
 
@@ -19,4 +13,4 @@ returns-2 : tie.Need-returns-2
 returns-2 c = let a = c .before .args in omega (arith, sub-eq (a .x) (a .y))
 
 pub sub-spec : {M : Type 1} → statement M
-sub-spec = tie.close (tie.spec sub-result add-result returns returns-2)
+sub-spec = tie.close (tie.spec (λ c. search needs) (λ c. search needs) returns returns-2)

@@ -13,15 +13,9 @@ use Rattle.joint.proofs.joint_run.Tie as tie
 ask-setting-requires : tie.Need-ask-setting-requires
 ask-setting-requires c κs = search needs
 
-enum-known-number : tie.Need-enum-known-number
-enum-known-number c = search needs
-
 returns : tie.Need-returns
 unfolding verdictOf jointAnswerOf
 returns c = setting-refused _ _ _ _ (sym (c .before .before .before .ask-setting .ensures) ∙ ap verdictOf (c .before .number .given .1))
-
-enum-told : tie.Need-enum-told
-enum-told c = search needs
 
 totals-before-requires : tie.Need-totals-before-requires
 unfolding verdictOf
@@ -35,15 +29,9 @@ ask-lent-requires : tie.Need-ask-lent-requires
 unfolding verdictOf
 ask-lent-requires c κs = let s = settled _ _ (sym (c .before .before .before .before .ask-setting .ensures) ∙ ap verdictOf (c .before .before .enum-told .given .1)) in frame-asked s (c .frame-of .ensures) (count-is (s .valid)) (c .before .totals-before .ensures)
 
-enum-known-number-2 : tie.Need-enum-known-number-2
-enum-known-number-2 c = search needs
-
 returns-2 : tie.Need-returns-2
 unfolding verdictOf jointAnswerOf
 returns-2 c = lent-refused _ _ _ _ _ _ _ _ (sym (c .before .before .before .before .before .before .before .before .ask-setting .ensures) ∙ ap verdictOf (c .before .before .before .before .before .before .enum-told .given .1)) _ (c .before .before .before .before .frame-of .ensures) (sym (c .before .before .before .ask-lent .ensures) ∙ ap verdictOf (c .before .number2 .given .1))
-
-enum-told-2 : tie.Need-enum-told-2
-enum-told-2 c = search needs
 
 starts-of-requires : tie.Need-starts-of-requires
 unfolding verdictOf
@@ -56,15 +44,6 @@ run-requires : tie.Need-run-requires
 unfolding verdictOf
 run-requires c κs = entry-runs _ _ _ _ _ _ _ _ (sym (c .before .before .before .before .before .before .before .before .before .before .before .before .ask-setting .ensures) ∙ ap verdictOf (c .before .before .before .before .before .before .before .before .before .before .enum-told .given .1)) _ (c .before .before .before .before .before .before .before .before .frame-of .ensures) (sym (c .before .before .before .before .before .before .before .ask-lent .ensures) ∙ ap verdictOf (c .before .before .before .before .before .enum-told2 .given .1)) (c .before .before .before .before .starts-of .ensures)
 
-same-length : tie.Need-same-length
-same-length c = search needs
-
-same-length-2 : tie.Need-same-length-2
-same-length-2 c = search needs
-
-same-length-3 : tie.Need-same-length-3
-same-length-3 c = search needs
-
 returns-3 : tie.Need-returns-3
 unfolding verdictOf
 returns-3 c = entry-left _ _ _ _ _ _ _ _ (sym (c .before .before .before .before .before .before .before .before .before .before .before .before .before .before .before .before .before .before .before .before .ask-setting .ensures) ∙ ap verdictOf (c .before .before .before .before .before .before .before .before .before .before .before .before .before .before .before .before .before .before .enum-told .given .1)) _ (c .before .before .before .before .before .before .before .before .before .before .before .before .before .before .before .before .frame-of .ensures) (sym (c .before .before .before .before .before .before .before .before .before .before .before .before .before .before .before .ask-lent .ensures) ∙ ap verdictOf (c .before .before .before .before .before .before .before .before .before .before .before .before .before .enum-told2 .given .1)) (c .before .before .before .before .before .before .before .run .ensures)
@@ -72,21 +51,6 @@ returns-3 c = entry-left _ _ _ _ _ _ _ _ (sym (c .before .before .before .before
 pub joint-run-spec : {M : Type 1} → statement M
 joint-run-spec =
     tie.close
-    (tie.spec
-    ask-setting-requires
-    enum-known-number
-    returns
-    enum-told
-    totals-before-requires
-    frame-of-requires
-    ask-lent-requires
-    enum-known-number-2
-    returns-2
-    enum-told-2
-    starts-of-requires
-    slice-aggregate-run
-    run-requires
-    same-length
-    same-length-2
-    same-length-3
-    returns-3)
+    (tie.spec ask-setting-requires (λ c. search needs) returns (λ c. search needs) totals-before-requires frame-of-requires ask-lent-requires
+        (λ c. search needs) returns-2 (λ c. search needs) starts-of-requires slice-aggregate-run run-requires (λ c. search needs) (λ c. search needs)
+        (λ c. search needs) returns-3)

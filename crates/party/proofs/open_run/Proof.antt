@@ -18,12 +18,6 @@ use Rattle.party.proofs.open_run.Tie as tie
 ask-lent-requires : tie.Need-ask-lent-requires
 ask-lent-requires c κs = search needs
 
-enum-known-number : tie.Need-enum-known-number
-enum-known-number c = search needs
-
-enum-told : tie.Need-enum-told
-enum-told c = search needs
-
 returns : tie.Need-returns
 unfolding answerOf lentOf
 returns c = open-refused ops _ _ (sym (c .before .before .before .ask-lent .ensures .0) ∙ ap lentOf (c .before .number .given .1))
@@ -34,4 +28,4 @@ returns-2 c = let e = sym (c .before .before .ask-lent .ensures .0) ∙ ap lentO
 
 pub open-run-spec : {M : Type 1} → statement M
 open-run-spec =
-    tie.close (tie.spec ask-lent-requires enum-known-number enum-told returns returns-2)
+    tie.close (tie.spec ask-lent-requires (λ c. search needs) (λ c. search needs) returns returns-2)

@@ -12,23 +12,11 @@ use Rattle.party.proofs.outcome_of.Tie as tie
 keep-held-requires : tie.Need-keep-held-requires
 keep-held-requires c κs = search needs
 
-enum-told : tie.Need-enum-told
-enum-told c = search needs
-
-enum-told-2 : tie.Need-enum-told-2
-enum-told-2 c = search needs
-
 released-requires : tie.Need-released-requires
 released-requires c κs = search needs
 
-enum-told-3 : tie.Need-enum-told-3
-enum-told-3 c = search needs
-
 released-requires-2 : tie.Need-released-requires-2
 released-requires-2 c κs = search needs
-
-enum-told-4 : tie.Need-enum-told-4
-enum-told-4 c = search needs
 
 released-requires-3 : tie.Need-released-requires-3
 released-requires-3 c κs = search needs
@@ -52,16 +40,5 @@ returns-4 c = c .released3 .ensures ∙ rw (c .before .enum-told4 .given .1, c .
 pub outcome-of-spec : {M : Type 1} → statement M
 outcome-of-spec =
     tie.close
-    (tie.spec
-    keep-held-requires
-    enum-told
-    enum-told-2
-    released-requires
-    enum-told-3
-    released-requires-2
-    enum-told-4
-    released-requires-3
-    returns
-    returns-2
-    returns-3
-    returns-4)
+    (tie.spec keep-held-requires (λ c. search needs) (λ c. search needs) released-requires (λ c. search needs) released-requires-2 (λ c. search needs)
+        released-requires-3 returns returns-2 returns-3 returns-4)

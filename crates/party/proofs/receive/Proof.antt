@@ -15,12 +15,6 @@ use Rattle.party.proofs.receive.Tie as tie
 ask-receive-requires : tie.Need-ask-receive-requires
 ask-receive-requires c κs = search needs
 
-enum-known-number : tie.Need-enum-known-number
-enum-known-number c = search needs
-
-enum-known-y : tie.Need-enum-known-y
-enum-known-y c = search needs
-
 read-slot-requires : tie.Need-read-slot-requires
 unfolding slotOf layoutOf
 read-slot-requires c κs = output-slot _ _ _ _ ((rw (c .before .before .y .given .1) at (c .before .before .before .before .ask-receive .ensures .1)) .receives .ready)
@@ -31,15 +25,9 @@ receive-step-requires c κs = (rw (c .before .before .before .before .y .given .
 outcome-of-requires : tie.Need-outcome-of-requires
 outcome-of-requires c κs = search needs
 
-same-length : tie.Need-same-length
-same-length c = search needs
-
 returns : tie.Need-returns
 unfolding answerOf askedOf
 returns c = receive-refused ops _ _ _ _ (sym (c .before .before .before .ask-receive .ensures .0) ∙ ap askedOf (c .before .number .given .1))
-
-same-length-2 : tie.Need-same-length-2
-same-length-2 c = search needs
 
 returns-2 : tie.Need-returns-2
 unfolding askedOf slotOf
@@ -48,14 +36,5 @@ returns-2 c = received-done _ _ _ _ _ _ _ (rw (c .before .before .before .before
 pub receive-spec : {M : Type 1} → statement M
 receive-spec =
     tie.close
-    (tie.spec
-    ask-receive-requires
-    enum-known-number
-    enum-known-y
-    read-slot-requires
-    receive-step-requires
-    outcome-of-requires
-    same-length
-    returns
-    same-length-2
-    returns-2)
+    (tie.spec ask-receive-requires (λ c. search needs) (λ c. search needs) read-slot-requires receive-step-requires outcome-of-requires
+        (λ c. search needs) returns (λ c. search needs) returns-2)

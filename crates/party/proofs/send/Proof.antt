@@ -15,21 +15,12 @@ use Rattle.party.proofs.send.Tie as tie
 ask-send-requires : tie.Need-ask-send-requires
 ask-send-requires c κs = search needs
 
-enum-known-number : tie.Need-enum-known-number
-enum-known-number c = search needs
-
-enum-known-y : tie.Need-enum-known-y
-enum-known-y c = search needs
-
 send-step-requires : tie.Need-send-step-requires
 send-step-requires c κs = (rw (c .before .before .y .given .1) at (c .before .before .before .before .ask-send .ensures .1)) .sends
 
 returns : tie.Need-returns
 unfolding answerOf askedOf
 returns c = send-refused ops _ _ _ _ _ (sym (c .before .before .before .ask-send .ensures .0) ∙ ap askedOf (c .before .number .given .1))
-
-same-length : tie.Need-same-length
-same-length c = search needs
 
 returns-2 : tie.Need-returns-2
 unfolding answerOf askedOf positionOf stageOf
@@ -38,11 +29,4 @@ returns-2 c = sent-done _ _ _ _ _ _ _ _ (rw (c .before .before .before .before .
 pub send-spec : {M : Type 1} → statement M
 send-spec =
     tie.close
-    (tie.spec
-    ask-send-requires
-    enum-known-number
-    enum-known-y
-    send-step-requires
-    returns
-    same-length
-    returns-2)
+    (tie.spec ask-send-requires (λ c. search needs) (λ c. search needs) send-step-requires returns (λ c. search needs) returns-2)

@@ -32,12 +32,6 @@ unchecked-after-requires c κs = search needs
 outputs-of-requires : tie.Need-outputs-of-requires Inv-loop μ-loop
 outputs-of-requires c κs = search needs
 
-add-outs : tie.Need-add-outs Inv-loop μ-loop
-add-outs c = search needs
-
-add-j : tie.Need-add-j Inv-loop μ-loop
-add-j c = search needs
-
 loop-less : tie.Need-loop-less Inv-loop μ-loop
 loop-less c = search needs
 
@@ -50,17 +44,5 @@ returns c = search needs
 pub print-rounds-spec : {M : Type 1} → statement M
 print-rounds-spec =
     tie.close
-    (tie.spec
-    Inv-loop
-    μ-loop
-    gates-of-requires
-    loop-holds
-    kind-at-requires
-    print-gate-requires
-    unchecked-after-requires
-    outputs-of-requires
-    add-outs
-    add-j
-    loop-less
-    loop-again
-    returns)
+    (tie.spec Inv-loop μ-loop gates-of-requires loop-holds kind-at-requires print-gate-requires unchecked-after-requires outputs-of-requires
+        (λ c. search needs) (λ c. search needs) loop-less loop-again returns)

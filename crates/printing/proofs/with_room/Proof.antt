@@ -6,9 +6,6 @@ use borrow.Author.Needs.{needs}
 use Rattle.printing.proofs.with_room.Statement.{statement}
 use Rattle.printing.proofs.with_room.Tie as tie
 
-sub-if1 : tie.Need-sub-if1
-sub-if1 c = search needs
-
 slice-aggregate-print : tie.Need-slice-aggregate-print
 slice-aggregate-print c = sym (length-take-le _ _ (c .before .before .before .pre .0))
 
@@ -23,4 +20,4 @@ returns-2 c = search needs
 
 pub with-room-spec : {M : Type 1} → statement M
 with-room-spec =
-    tie.close (tie.spec sub-if1 slice-aggregate-print print-requires returns returns-2)
+    tie.close (tie.spec (λ c. search needs) slice-aggregate-print print-requires returns returns-2)

@@ -7,18 +7,9 @@ use borrow.Author.Needs.{needs}
 use Rattle.protocol.proofs.offset_of.Statement.{statement}
 use Rattle.protocol.proofs.offset_of.Tie as tie
 
-enum-known-s : tie.Need-enum-known-s
-enum-known-s c = search needs
-
-enum-known-s-2 : tie.Need-enum-known-s-2
-enum-known-s-2 c = search needs
-
 add-result : tie.Need-add-result
 unfolding scratchSize layoutOf slotOf
 add-result c = let w = (rw (c .before .before .s2 .given .1) at (c .before .before .before .before .pre .1)) in omega arith
-
-enum-known-s-3 : tie.Need-enum-known-s-3
-enum-known-s-3 c = search needs
 
 add-result-2 : tie.Need-add-result-2
 unfolding scratchSize layoutOf slotOf
@@ -27,9 +18,6 @@ add-result-2 c = let w = (rw (c .before .before .s3 .given .1) at (c .before .be
 add-result-3 : tie.Need-add-result-3
 unfolding scratchSize layoutOf slotOf
 add-result-3 c = let w = (rw (c .before .before .s3 .given .1) at (c .before .before .before .before .pre .1)) in omega arith
-
-enum-known-s-4 : tie.Need-enum-known-s-4
-enum-known-s-4 c = search needs
 
 add-result-4 : tie.Need-add-result-4
 unfolding scratchSize layoutOf slotOf
@@ -62,18 +50,5 @@ returns-4 c = rw (c .before .before .before .s4 .given .1)
 pub offset-of-spec : {M : Type 1} → statement M
 offset-of-spec =
     tie.close
-    (tie.spec
-    enum-known-s
-    enum-known-s-2
-    add-result
-    enum-known-s-3
-    add-result-2
-    add-result-3
-    enum-known-s-4
-    add-result-4
-    add-result-5
-    add-result-6
-    returns
-    returns-2
-    returns-3
-    returns-4)
+    (tie.spec (λ c. search needs) (λ c. search needs) add-result (λ c. search needs) add-result-2 add-result-3 (λ c. search needs) add-result-4
+        add-result-5 add-result-6 returns returns-2 returns-3 returns-4)

@@ -6,24 +6,6 @@ use Rattle.protocol.specs.Entry.{releases}
 use Rattle.protocol.proofs.releases.Statement.{statement}
 use Rattle.protocol.proofs.releases.Tie as tie
 
-enum-told : tie.Need-enum-told
-enum-told c = search needs
-
-enum-told-2 : tie.Need-enum-told-2
-enum-told-2 c = search needs
-
-enum-told-3 : tie.Need-enum-told-3
-enum-told-3 c = search needs
-
-enum-known-r : tie.Need-enum-known-r
-enum-known-r c = search needs
-
-enum-told-4 : tie.Need-enum-told-4
-enum-told-4 c = search needs
-
-enum-told-5 : tie.Need-enum-told-5
-enum-told-5 c = search needs
-
 returns : tie.Need-returns
 unfolding releases roundOf
 returns c = rw (c .enum-told .given .1)
@@ -47,15 +29,5 @@ returns-5 c = rw (c .before .before .before .r .given .1, c .enum-told5 .given .
 pub releases-spec : {M : Type 1} → statement M
 releases-spec =
     tie.close
-    (tie.spec
-    enum-told
-    enum-told-2
-    enum-told-3
-    enum-known-r
-    enum-told-4
-    enum-told-5
-    returns
-    returns-2
-    returns-3
-    returns-4
-    returns-5)
+    (tie.spec (λ c. search needs) (λ c. search needs) (λ c. search needs) (λ c. search needs) (λ c. search needs) (λ c. search needs) returns
+        returns-2 returns-3 returns-4 returns-5)

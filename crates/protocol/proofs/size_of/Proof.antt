@@ -6,8 +6,6 @@ use Rattle.protocol.specs.Code.{layoutOf}
 use borrow.Author.Needs.{needs}
 use Rattle.protocol.proofs.size_of.Statement.{statement}
 use Rattle.protocol.proofs.size_of.Tie as tie
-use Rattle.protocol.proofs.size_of.Reads as reads
-use Rattle.protocol.proofs.size_of.Lts as lts
 
 -- src/scratch.rt:72:5
 add-result : tie.Need-add-result

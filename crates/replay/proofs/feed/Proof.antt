@@ -18,9 +18,6 @@ abbrev μ-loop : tie.MeasureT-loop
 loop-holds : tie.Need-loop-holds Inv-loop μ-loop
 loop-holds c = (record { line = refl; given = refl; scratch = refl; out = refl; outputs = refl }, omega arith, omega arith)
 
-shared-slice-read-take-byte : tie.Need-shared-slice-read-take-byte Inv-loop μ-loop
-shared-slice-read-take-byte c = search needs
-
 take-byte-requires : tie.Need-take-byte-requires Inv-loop μ-loop
 take-byte-requires c κs = rw (c .before .before .before .before .before .before .before .loop .inv .0 .given) (c .before .before .before .before .before .before .before .before .before .before .before .before .before .before .pre)
 
@@ -54,18 +51,5 @@ returns c = search needs
 pub feed-spec : {M : Type 1} → statement M
 feed-spec =
     tie.close
-    (tie.spec
-    Inv-loop
-    μ-loop
-    loop-holds
-    shared-slice-read-take-byte
-    take-byte-requires
-    add-i
-    loop-less
-    loop-again
-    same-length
-    same-length-2
-    same-length-3
-    same-length-4
-    same-length-5
-    returns)
+    (tie.spec Inv-loop μ-loop loop-holds (λ c. search needs) take-byte-requires add-i loop-less loop-again same-length same-length-2 same-length-3
+        same-length-4 same-length-5 returns)

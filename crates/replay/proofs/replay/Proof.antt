@@ -25,12 +25,6 @@ loop-holds c = (record { line = refl; given = refl; scratch = refl; out = refl; 
 read-piece-requires : tie.Need-read-piece-requires Inv-loop μ-loop
 read-piece-requires c κs = search needs
 
-slice-reshare-prefix-feed : tie.Need-slice-reshare-prefix-feed Inv-loop μ-loop
-slice-reshare-prefix-feed c = search needs
-
-slice-aggregate-feed : tie.Need-slice-aggregate-feed Inv-loop μ-loop
-slice-aggregate-feed c = search needs
-
 feed-requires : tie.Need-feed-requires Inv-loop μ-loop
 feed-requires c κs = rw (c .before .before .before .before .before .before .before .before .before .before .before .loop .inv .0 .given) (c .before .before .before .before .before .before .before .before .before .before .before .before .before .before .before .before .before .before .before .before .pre)
 
@@ -70,24 +64,6 @@ returns c = search needs
 pub replay-spec : {M : Type 1} → statement M
 replay-spec =
     tie.close
-    (tie.spec
-    Inv-loop
-    μ-loop
-    started-requires
-    next-line-requires
-    loop-holds
-    read-piece-requires
-    slice-reshare-prefix-feed
-    slice-aggregate-feed
-    feed-requires
-    turns-left-requires
-    loop-less
-    loop-again
-    finish-requires
-    same-length
-    same-length-2
-    same-length-3
-    same-length-4
-    same-length-5
-    same-length-6
-    returns)
+    (tie.spec Inv-loop μ-loop started-requires next-line-requires loop-holds read-piece-requires (λ c. search needs) (λ c. search needs) feed-requires
+        turns-left-requires loop-less loop-again finish-requires same-length same-length-2 same-length-3 same-length-4 same-length-5 same-length-6
+        returns)

@@ -17,23 +17,8 @@ abbrev μ-loop : tie.MeasureT-loop
 loop-holds : tie.Need-loop-holds Inv-loop μ-loop
 loop-holds c = scaling-starts _ _ (c .before .pre .1)
 
-mul-mul : tie.Need-mul-mul Inv-loop μ-loop
-mul-mul c = search needs
-
-slice-read-mul : tie.Need-slice-read-mul Inv-loop μ-loop
-slice-read-mul c = search needs
-
 mul-requires : tie.Need-mul-requires Inv-loop μ-loop
 mul-requires c κs = (c .before .before .loop .inv .low _, c .before .before .before .before .pre .0)
-
-mul-values : tie.Need-mul-values Inv-loop μ-loop
-mul-values c = search needs
-
-slice-write-values : tie.Need-slice-write-values Inv-loop μ-loop
-slice-write-values c = search needs
-
-add-i : tie.Need-add-i Inv-loop μ-loop
-add-i c = search needs
 
 loop-less : tie.Need-loop-less Inv-loop μ-loop
 loop-less c = simp length-set (omega arith)
@@ -50,17 +35,5 @@ returns c = scaling-ends _ _ (c .before .loop .inv) (omega arith)
 pub scale-spec : {M : Type 1} → statement M
 scale-spec =
     tie.close
-    (tie.spec
-    Inv-loop
-    μ-loop
-    loop-holds
-    mul-mul
-    slice-read-mul
-    mul-requires
-    mul-values
-    slice-write-values
-    add-i
-    loop-less
-    loop-again
-    same-length
-    returns)
+    (tie.spec Inv-loop μ-loop loop-holds (λ c. search needs) (λ c. search needs) mul-requires (λ c. search needs) (λ c. search needs)
+        (λ c. search needs) loop-less loop-again same-length returns)

@@ -20,25 +20,13 @@ returns c = let e = factor-refused (c .before .before .args .by) (now (c .before
 ask-elements-requires : tie.Need-ask-elements-requires
 ask-elements-requires c κs = search needs
 
-enum-known-number : tie.Need-enum-known-number
-enum-known-number c = search needs
-
-same-length : tie.Need-same-length
-same-length c = search needs
-
 returns-2 : tie.Need-returns-2
 unfolding refusalNumber leave verdictOf
 returns-2 c = let e = numbers-refused (c .before .before .before .before .before .before .before .args .by) _ (omega arith) (sym (c .before .before .before .ask-elements .ensures) ∙ ap verdictOf (c .before .number .given .1)) in (rw e, rw e)
 
-enum-told : tie.Need-enum-told
-enum-told c = search needs
-
 scale-requires : tie.Need-scale-requires
 unfolding verdictOf
 scale-requires c κs = (omega arith, elements-below 2 size _ (omega arith) (sym (c .before .before .before .ask-elements .ensures) ∙ ap verdictOf (c .before .enum-told .given .1)))
-
-same-length-2 : tie.Need-same-length-2
-same-length-2 c = search needs
 
 returns-3 : tie.Need-returns-3
 unfolding refusalNumber leave verdictOf
@@ -47,13 +35,5 @@ returns-3 c = let e = numbers-accepted (c .before .before .before .before .befor
 pub spdz-scale-spec : {M : Type 1} → statement M
 spdz-scale-spec =
     tie.close
-    (tie.spec
-    returns
-    ask-elements-requires
-    enum-known-number
-    same-length
-    returns-2
-    enum-told
-    scale-requires
-    same-length-2
-    returns-3)
+    (tie.spec returns ask-elements-requires (λ c. search needs) (λ c. search needs) returns-2 (λ c. search needs) scale-requires (λ c. search needs)
+        returns-3)

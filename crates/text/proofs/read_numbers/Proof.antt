@@ -19,17 +19,11 @@ abbrev μ-loop : tie.MeasureT-loop
 loop-holds : tie.Need-loop-holds Inv-loop μ-loop
 loop-holds c = starts _ _
 
-shared-slice-read-b : tie.Need-shared-slice-read-b Inv-loop μ-loop
-shared-slice-read-b c = search needs
-
 is-space-requires : tie.Need-is-space-requires Inv-loop μ-loop
 is-space-requires c κs = search needs
 
 put-requires : tie.Need-put-requires Inv-loop μ-loop
 put-requires c κs = (c .before .before .before .before .before .loop .inv .fits, c .before .before .before .before .before .loop .inv .room)
-
-add-i : tie.Need-add-i Inv-loop μ-loop
-add-i c = search needs
 
 loop-less : tie.Need-loop-less Inv-loop μ-loop
 loop-less c = search needs
@@ -64,12 +58,6 @@ same-length-3 c = c .before .before .before .before .before .before .before .bef
 returns-3 : tie.Need-returns-3 Inv-loop μ-loop
 returns-3 c = large _ _ _ _ _ _ _ (c .before .before .before .before .before .before .before .before .before .before .loop .inv) (c .before .before .before .before .before .before .before .before .before .loop-test .taken) (c .before .before .before .before .before .before .before .is-space .ensures) (c .before .before .before .before .before .before .if1 .left) (c .before .before .before .before .before .is-digit .ensures) (c .before .before .before .before .if2 .left) (c .before .before .before .has-room .ensures) (c .before .before .if3 .left) (c .before .with-digit .ensures) (c .if4 .taken)
 
-cast-value : tie.Need-cast-value Inv-loop μ-loop
-cast-value c = search needs
-
-add-i-2 : tie.Need-add-i-2 Inv-loop μ-loop
-add-i-2 c = search needs
-
 loop-less-2 : tie.Need-loop-less-2 Inv-loop μ-loop
 loop-less-2 c = search needs
 
@@ -78,9 +66,6 @@ loop-again-2 c = digits _ _ _ _ _ _ _ (c .before .before .before .before .before
 
 put-requires-2 : tie.Need-put-requires-2 Inv-loop μ-loop
 put-requires-2 c κs = (c .before .before .loop .inv .fits, c .before .before .loop .inv .room)
-
-same-length-4 : tie.Need-same-length-4 Inv-loop μ-loop
-same-length-4 c = search needs
 
 returns-4 : tie.Need-returns-4 Inv-loop μ-loop
 returns-4 c =
@@ -91,29 +76,6 @@ returns-4 c =
 pub read-numbers-spec : {M : Type 1} → statement M
 read-numbers-spec =
     tie.close
-    (tie.spec
-    Inv-loop
-    μ-loop
-    loop-holds
-    shared-slice-read-b
-    is-space-requires
-    put-requires
-    add-i
-    loop-less
-    loop-again
-    is-digit-requires
-    same-length
-    returns
-    has-room-requires
-    same-length-2
-    returns-2
-    with-digit-requires
-    same-length-3
-    returns-3
-    cast-value
-    add-i-2
-    loop-less-2
-    loop-again-2
-    put-requires-2
-    same-length-4
-    returns-4)
+    (tie.spec Inv-loop μ-loop loop-holds (λ c. search needs) is-space-requires put-requires (λ c. search needs) loop-less loop-again is-digit-requires
+        same-length returns has-room-requires same-length-2 returns-2 with-digit-requires same-length-3 returns-3 (λ c. search needs)
+        (λ c. search needs) loop-less-2 loop-again-2 put-requires-2 (λ c. search needs) returns-4)

@@ -19,17 +19,11 @@ abbrev μ-loop : tie.MeasureT-loop
 loop-holds : tie.Need-loop-holds Inv-loop μ-loop
 loop-holds c = search needs
 
-shared-slice-read-belongs-to : tie.Need-shared-slice-read-belongs-to Inv-loop μ-loop
-shared-slice-read-belongs-to c = search needs
-
 belongs-to-requires : tie.Need-belongs-to-requires Inv-loop μ-loop
 belongs-to-requires c κs = search needs
 
 returns : tie.Need-returns Inv-loop μ-loop
 returns c = (sym (run-stops _ _ _ (c .before .before .before .loop-test .taken) (c .before .belongs-to .ensures) (c .if1 .taken)) ∙ c .before .before .before .before .loop .inv .0, c .before .before .before .before .loop .inv .1)
-
-add-i : tie.Need-add-i Inv-loop μ-loop
-add-i c = search needs
 
 loop-less : tie.Need-loop-less Inv-loop μ-loop
 loop-less c = search needs
@@ -43,14 +37,4 @@ returns-2 c = (sym (run-ends _ _ _ (c .loop-test .left)) ∙ c .before .loop .in
 pub run-end-spec : {M : Type 1} → statement M
 run-end-spec =
     tie.close
-    (tie.spec
-    Inv-loop
-    μ-loop
-    loop-holds
-    shared-slice-read-belongs-to
-    belongs-to-requires
-    returns
-    add-i
-    loop-less
-    loop-again
-    returns-2)
+    (tie.spec Inv-loop μ-loop loop-holds (λ c. search needs) belongs-to-requires returns (λ c. search needs) loop-less loop-again returns-2)

@@ -14,12 +14,9 @@ returns : tie.Need-returns
 unfolding shapeOf
 returns c = sym (unchecked-out _ _ (sym (c .before .is-out .ensures) ∙ c .if1 .taken))
 
-add-result : tie.Need-add-result
-add-result c = search needs
-
 returns-2 : tie.Need-returns-2
 unfolding shapeOf
 returns-2 c = sym (unchecked-valued _ _ (sym (c .before .before .is-out .ensures) ∙ c .before .if1 .left))
 
 pub unchecked-after-spec : {M : Type 1} → statement M
-unchecked-after-spec = tie.close (tie.spec is-out-requires returns add-result returns-2)
+unchecked-after-spec = tie.close (tie.spec is-out-requires returns (λ c. search needs) returns-2)

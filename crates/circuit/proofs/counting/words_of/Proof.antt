@@ -10,9 +10,6 @@ use borrow.Author.Tests.{ne-eqb}
 use Rattle.circuit.proofs.counting.words_of.Statement.{statement}
 use Rattle.circuit.proofs.counting.words_of.Tie as tie
 
-add-check : tie.Need-add-check
-add-check c = search needs
-
 is-linear-requires : tie.Need-is-linear-requires
 is-linear-requires c κs = search needs
 
@@ -26,18 +23,9 @@ returns-2 : tie.Need-returns-2
 unfolding shapeOf
 returns-2 c = sym (words-valued _ _ _ (sym (c .before .before .before .is-linear .ensures) ∙ c .before .before .if1 .left) (said-no (c .before .is-out .ensures) (c .if2 .taken)))
 
-add-result : tie.Need-add-result
-add-result c = search needs
-
 returns-3 : tie.Need-returns-3
 unfolding shapeOf
 returns-3 c = rw (is-class _ (said-yes (c .before .before .before .is-out .ensures) (c .before .before .if2 .left))) (sym (words-first _ _ (c .before .if3 .taken)))
-
-add-result-2 : tie.Need-add-result-2
-add-result-2 c = search needs
-
-add-result-3 : tie.Need-add-result-3
-add-result-3 c = search needs
 
 returns-4 : tie.Need-returns-4
 unfolding shapeOf
@@ -46,14 +34,5 @@ returns-4 c = rw (is-class _ (said-yes (c .before .before .before .is-out .ensur
 pub words-of-spec : {M : Type 1} → statement M
 words-of-spec =
     tie.close
-    (tie.spec
-    add-check
-    is-linear-requires
-    returns
-    is-out-requires
-    returns-2
-    add-result
-    returns-3
-    add-result-2
-    add-result-3
-    returns-4)
+    (tie.spec (λ c. search needs) is-linear-requires returns is-out-requires returns-2 (λ c. search needs) returns-3 (λ c. search needs)
+        (λ c. search needs) returns-4)

@@ -6,12 +6,6 @@ use Rattle.circuit.specs.Code.{checkOf}
 use Rattle.circuit.proofs.rounds.checked_in.Statement.{statement}
 use Rattle.circuit.proofs.rounds.checked_in.Tie as tie
 
-enum-told : tie.Need-enum-told
-enum-told c = search needs
-
-enum-told-2 : tie.Need-enum-told-2
-enum-told-2 c = search needs
-
 returns : tie.Need-returns
 unfolding checked checkOf
 returns c = search needs
@@ -21,4 +15,4 @@ unfolding checked checkOf
 returns-2 c = search needs
 
 pub checked-in-spec : {M : Type 1} → statement M
-checked-in-spec = tie.close (tie.spec enum-told enum-told-2 returns returns-2)
+checked-in-spec = tie.close (tie.spec (λ c. search needs) (λ c. search needs) returns returns-2)

@@ -6,12 +6,6 @@ use borrow.Author.Needs.{needs}
 use Rattle.circuit.proofs.rounds.has_check.Statement.{statement}
 use Rattle.circuit.proofs.rounds.has_check.Tie as tie
 
-enum-told : tie.Need-enum-told
-enum-told c = search needs
-
-enum-told-2 : tie.Need-enum-told-2
-enum-told-2 c = search needs
-
 returns : tie.Need-returns
 unfolding hasCheck checkOf
 returns c = rw (c .enum-told .given .1)
@@ -21,4 +15,4 @@ unfolding hasCheck checkOf
 returns-2 c = rw (c .enum-told2 .given .1)
 
 pub has-check-spec : {M : Type 1} → statement M
-has-check-spec = tie.close (tie.spec enum-told enum-told-2 returns returns-2)
+has-check-spec = tie.close (tie.spec (λ c. search needs) (λ c. search needs) returns returns-2)

@@ -7,9 +7,6 @@ use Rattle.circuit.proofs.RoundLaws.{is-among}
 use Rattle.circuit.proofs.rounds.has_round.Statement.{statement}
 use Rattle.circuit.proofs.rounds.has_round.Tie as tie
 
-enum-told : tie.Need-enum-told
-enum-told c = search needs
-
 is-in-requires : tie.Need-is-in-requires
 is-in-requires c κs = search needs
 
@@ -20,14 +17,8 @@ returns c = rw (c .before .before .enum-told .given .1) (rw (is-among _ _ _, sym
 opens-requires : tie.Need-opens-requires
 opens-requires c κs = search needs
 
-enum-told-2 : tie.Need-enum-told-2
-enum-told-2 c = search needs
-
 is-out-requires : tie.Need-is-out-requires
 is-out-requires c κs = search needs
-
-enum-known-r : tie.Need-enum-known-r
-enum-known-r c = search needs
 
 is-out-requires-2 : tie.Need-is-out-requires-2
 is-out-requires-2 c κs = search needs
@@ -38,9 +29,6 @@ has-check-requires c κs = search needs
 returns-2 : tie.Need-returns-2
 unfolding roundOf
 returns-2 c = rw (c .before .before .before .before .r .given .1) (rw (is-among _ _ _, sym (c .before .before .is-out2 .ensures) ∙ c .before .if2 .taken) (c .has-check .ensures))
-
-enum-known-r-2 : tie.Need-enum-known-r-2
-enum-known-r-2 c = search needs
 
 is-out-requires-3 : tie.Need-is-out-requires-3
 is-out-requires-3 c κs = search needs
@@ -71,22 +59,5 @@ returns-7 c = rw (c .before .before .before .r2 .given .1) (rw (is-among _ _ _, 
 pub has-round-spec : {M : Type 1} → statement M
 has-round-spec =
     tie.close
-    (tie.spec
-    enum-told
-    is-in-requires
-    returns
-    opens-requires
-    enum-told-2
-    is-out-requires
-    enum-known-r
-    is-out-requires-2
-    has-check-requires
-    returns-2
-    enum-known-r-2
-    is-out-requires-3
-    has-check-requires-2
-    returns-3
-    returns-4
-    returns-5
-    returns-6
-    returns-7)
+    (tie.spec (λ c. search needs) is-in-requires returns opens-requires (λ c. search needs) is-out-requires (λ c. search needs) is-out-requires-2
+        has-check-requires returns-2 (λ c. search needs) is-out-requires-3 has-check-requires-2 returns-3 returns-4 returns-5 returns-6 returns-7)

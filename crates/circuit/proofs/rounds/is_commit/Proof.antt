@@ -6,18 +6,6 @@ use Rattle.circuit.specs.Code.{roundOf}
 use Rattle.circuit.proofs.rounds.is_commit.Statement.{statement}
 use Rattle.circuit.proofs.rounds.is_commit.Tie as tie
 
-enum-told : tie.Need-enum-told
-enum-told c = search needs
-
-enum-told-2 : tie.Need-enum-told-2
-enum-told-2 c = search needs
-
-enum-told-3 : tie.Need-enum-told-3
-enum-told-3 c = search needs
-
-enum-told-4 : tie.Need-enum-told-4
-enum-told-4 c = search needs
-
 returns : tie.Need-returns
 unfolding isCommit roundOf
 returns c = search needs
@@ -37,4 +25,4 @@ returns-4 c = search needs
 pub is-commit-spec : {M : Type 1} → statement M
 is-commit-spec =
     tie.close
-    (tie.spec enum-told enum-told-2 enum-told-3 enum-told-4 returns returns-2 returns-3 returns-4)
+    (tie.spec (λ c. search needs) (λ c. search needs) (λ c. search needs) (λ c. search needs) returns returns-2 returns-3 returns-4)

@@ -6,20 +6,8 @@ use Rattle.circuit.specs.Code.{roundOf}
 use Rattle.circuit.proofs.rounds.opened_in.Statement.{statement}
 use Rattle.circuit.proofs.rounds.opened_in.Tie as tie
 
-enum-told : tie.Need-enum-told
-enum-told c = search needs
-
-enum-told-2 : tie.Need-enum-told-2
-enum-told-2 c = search needs
-
-enum-known-r : tie.Need-enum-known-r
-enum-known-r c = search needs
-
 checked-in-requires : tie.Need-checked-in-requires
 checked-in-requires c κs = search needs
-
-enum-known-r-2 : tie.Need-enum-known-r-2
-enum-known-r-2 c = search needs
 
 checked-in-requires-2 : tie.Need-checked-in-requires-2
 checked-in-requires-2 c κs = search needs
@@ -43,14 +31,5 @@ returns-4 c = rw (c .before .before .r2 .given .1) (c .checked-in2 .ensures)
 pub opened-in-spec : {M : Type 1} → statement M
 opened-in-spec =
     tie.close
-    (tie.spec
-    enum-told
-    enum-told-2
-    enum-known-r
-    checked-in-requires
-    enum-known-r-2
-    checked-in-requires-2
-    returns
-    returns-2
-    returns-3
-    returns-4)
+    (tie.spec (λ c. search needs) (λ c. search needs) (λ c. search needs) checked-in-requires (λ c. search needs) checked-in-requires-2 returns
+        returns-2 returns-3 returns-4)

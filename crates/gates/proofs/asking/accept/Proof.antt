@@ -28,18 +28,9 @@ returns-3 c = search tests
 scan-requires : tie.Need-scan-requires
 scan-requires c κs = search needs
 
-enum-known-number : tie.Need-enum-known-number
-enum-known-number c = search needs
-
 returns-4 : tie.Need-returns-4
 unfolding verdictOf gates
 returns-4 c = circuit-gates _ _ _ (c .before .before .before .before .before .before .if1 .left) (c .before .before .before .before .before .if2 .left) (c .before .before .before .before .if3 .left) (rw (c .before .number .given .1) at (c .before .before .before .scan .ensures))
-
-enum-told : tie.Need-enum-told
-enum-told c = search needs
-
-sub-class-at : tie.Need-sub-class-at
-sub-class-at c = search needs
 
 class-at-requires : tie.Need-class-at-requires
 class-at-requires c κs = search needs
@@ -58,16 +49,5 @@ returns-6 c = circuit-ok _ _ _ (c .before .before .before .before .before .befor
 pub accept-spec : {M : Type 1} → statement M
 accept-spec =
     tie.close
-    (tie.spec
-    returns
-    returns-2
-    returns-3
-    scan-requires
-    enum-known-number
-    returns-4
-    enum-told
-    sub-class-at
-    class-at-requires
-    is-out-requires
-    returns-5
-    returns-6)
+    (tie.spec returns returns-2 returns-3 scan-requires (λ c. search needs) returns-4 (λ c. search needs) (λ c. search needs) class-at-requires
+        is-out-requires returns-5 returns-6)

@@ -6,20 +6,8 @@ use Rattle.circuit.specs.Code.{roleOf}
 use Rattle.gates.proofs.asking.name_ok.Statement.{statement}
 use Rattle.gates.proofs.asking.name_ok.Tie as tie
 
-enum-told : tie.Need-enum-told
-enum-told c = search needs
-
-enum-told-2 : tie.Need-enum-told-2
-enum-told-2 c = search needs
-
-enum-told-3 : tie.Need-enum-told-3
-enum-told-3 c = search needs
-
 may-name-requires : tie.Need-may-name-requires
 may-name-requires c κs = search needs
-
-enum-told-4 : tie.Need-enum-told-4
-enum-told-4 c = search needs
 
 returns : tie.Need-returns
 unfolding nameOk roleOf
@@ -40,13 +28,4 @@ returns-4 c = rw (c .enum-told4 .given .1)
 pub name-ok-spec : {M : Type 1} → statement M
 name-ok-spec =
     tie.close
-    (tie.spec
-    enum-told
-    enum-told-2
-    enum-told-3
-    may-name-requires
-    enum-told-4
-    returns
-    returns-2
-    returns-3
-    returns-4)
+    (tie.spec (λ c. search needs) (λ c. search needs) (λ c. search needs) may-name-requires (λ c. search needs) returns returns-2 returns-3 returns-4)

@@ -33,16 +33,6 @@ abbrev μ-loop : tie.MeasureT-loop
 loop-holds : tie.Need-loop-holds Inv-loop2 μ-loop2 Inv-loop3 μ-loop3 Inv-loop μ-loop
 loop-holds c = (search needs, each-none _)
 
-mul-at : tie.Need-mul-at Inv-loop2 μ-loop2 Inv-loop3 μ-loop3 Inv-loop μ-loop
-mul-at c = search needs
-
-mul-index : tie.Need-mul-index Inv-loop2 μ-loop2 Inv-loop3 μ-loop3 Inv-loop μ-loop
-mul-index c = search needs
-
-shared-slice-read-index :
-    tie.Need-shared-slice-read-index Inv-loop2 μ-loop2 Inv-loop3 μ-loop3 Inv-loop μ-loop
-shared-slice-read-index c = search needs
-
 index-requires : tie.Need-index-requires Inv-loop2 μ-loop2 Inv-loop3 μ-loop3 Inv-loop μ-loop
 index-requires c κs = search needs
 
@@ -59,24 +49,8 @@ shape-at-requires c κs = search needs
 loop2-holds : tie.Need-loop2-holds Inv-loop2 μ-loop2 Inv-loop3 μ-loop3 Inv-loop μ-loop
 loop2-holds c = numbers-start _
 
-add-role-of : tie.Need-add-role-of Inv-loop2 μ-loop2 Inv-loop3 μ-loop3 Inv-loop μ-loop
-add-role-of c = search needs
-
 role-of-requires : tie.Need-role-of-requires Inv-loop2 μ-loop2 Inv-loop3 μ-loop3 Inv-loop μ-loop
 role-of-requires c κs = search needs
-
-add-index : tie.Need-add-index Inv-loop2 μ-loop2 Inv-loop3 μ-loop3 Inv-loop μ-loop
-add-index c = search needs
-
-add-index-2 : tie.Need-add-index-2 Inv-loop2 μ-loop2 Inv-loop3 μ-loop3 Inv-loop μ-loop
-add-index-2 c = search needs
-
-mul-index-2 : tie.Need-mul-index-2 Inv-loop2 μ-loop2 Inv-loop3 μ-loop3 Inv-loop μ-loop
-mul-index-2 c = search needs
-
-shared-slice-read-index-2 :
-    tie.Need-shared-slice-read-index-2 Inv-loop2 μ-loop2 Inv-loop3 μ-loop3 Inv-loop μ-loop
-shared-slice-read-index-2 c = search needs
 
 index-requires-2 : tie.Need-index-requires-2 Inv-loop2 μ-loop2 Inv-loop3 μ-loop3 Inv-loop μ-loop
 index-requires-2 c κs = search needs
@@ -88,9 +62,6 @@ returns-2 : tie.Need-returns-2 Inv-loop2 μ-loop2 Inv-loop3 μ-loop3 Inv-loop μ
 unfolding verdictOf
 returns-2 c = sym (each-refused _ _ _ (c .before .before .before .before .before .before .before .before .before .before .before .before .loop-test .taken) (c .before .before .before .before .before .before .before .before .before .before .before .before .before .loop .inv .1) (gate-name _ _ _ _ (c .before .before .before .before .before .before .before .before .before .before .index .ensures) (c .before .before .before .before .before .before .before .before .before .is-kind .ensures) (c .before .before .before .before .before .before .before .before .if1 .left) (c .before .before .before .before .before .before .loop2 .inv) (c .before .before .before .before .before .loop2-test .taken) (name-no _ _ _ _ _ (c .before .before .before .before .before .before .before .shape-at .ensures) (c .before .before .before .before .role-of .ensures) (c .before .before .index2 .ensures) (c .before .name-ok .ensures) (c .if2 .taken))))
 
-add-k : tie.Need-add-k Inv-loop2 μ-loop2 Inv-loop3 μ-loop3 Inv-loop μ-loop
-add-k c = search needs
-
 loop2-less : tie.Need-loop2-less Inv-loop2 μ-loop2 Inv-loop3 μ-loop3 Inv-loop μ-loop
 loop2-less c = search needs
 
@@ -100,25 +71,9 @@ loop2-again c = numbers-more _ (c .before .before .before .before .before .befor
 loop3-holds : tie.Need-loop3-holds Inv-loop2 μ-loop2 Inv-loop3 μ-loop3 Inv-loop μ-loop
 loop3-holds c = numbers-start _
 
-add-role-of-2 : tie.Need-add-role-of-2 Inv-loop2 μ-loop2 Inv-loop3 μ-loop3 Inv-loop μ-loop
-add-role-of-2 c = search needs
-
 role-of-requires-2 :
     tie.Need-role-of-requires-2 Inv-loop2 μ-loop2 Inv-loop3 μ-loop3 Inv-loop μ-loop
 role-of-requires-2 c κs = search needs
-
-add-index-3 : tie.Need-add-index-3 Inv-loop2 μ-loop2 Inv-loop3 μ-loop3 Inv-loop μ-loop
-add-index-3 c = search needs
-
-add-index-4 : tie.Need-add-index-4 Inv-loop2 μ-loop2 Inv-loop3 μ-loop3 Inv-loop μ-loop
-add-index-4 c = search needs
-
-mul-index-3 : tie.Need-mul-index-3 Inv-loop2 μ-loop2 Inv-loop3 μ-loop3 Inv-loop μ-loop
-mul-index-3 c = search needs
-
-shared-slice-read-index-3 :
-    tie.Need-shared-slice-read-index-3 Inv-loop2 μ-loop2 Inv-loop3 μ-loop3 Inv-loop μ-loop
-shared-slice-read-index-3 c = search needs
 
 index-requires-3 : tie.Need-index-requires-3 Inv-loop2 μ-loop2 Inv-loop3 μ-loop3 Inv-loop μ-loop
 index-requires-3 c κs = search needs
@@ -130,17 +85,11 @@ returns-3 : tie.Need-returns-3 Inv-loop2 μ-loop2 Inv-loop3 μ-loop3 Inv-loop μ
 unfolding verdictOf
 returns-3 c = sym (each-refused _ _ _ (c .before .before .before .before .before .before .before .before .before .before .before .before .before .before .loop-test .taken) (c .before .before .before .before .before .before .before .before .before .before .before .before .before .before .before .loop .inv .1) (gate-rest _ _ _ _ (c .before .before .before .before .before .before .before .before .before .before .before .before .index .ensures) (c .before .before .before .before .before .before .before .before .before .before .before .is-kind .ensures) (c .before .before .before .before .before .before .before .before .before .before .if1 .left) (c .before .before .before .before .before .before .before .before .loop2 .inv) (c .before .before .before .before .before .before .before .loop2-test .left) (c .before .before .before .before .before .before .loop3 .inv) (c .before .before .before .before .before .loop3-test .taken) (rest-no _ _ _ _ _ (c .before .before .before .before .before .before .before .before .before .shape-at .ensures) (c .before .before .before .before .role-of2 .ensures) (c .before .before .index3 .ensures) (c .before .rest-ok .ensures) (c .if3 .taken))))
 
-add-t : tie.Need-add-t Inv-loop2 μ-loop2 Inv-loop3 μ-loop3 Inv-loop μ-loop
-add-t c = search needs
-
 loop3-less : tie.Need-loop3-less Inv-loop2 μ-loop2 Inv-loop3 μ-loop3 Inv-loop μ-loop
 loop3-less c = search needs
 
 loop3-again : tie.Need-loop3-again Inv-loop2 μ-loop2 Inv-loop3 μ-loop3 Inv-loop μ-loop
 loop3-again c = numbers-more _ (c .before .before .before .before .before .before .loop3 .inv) (c .before .before .before .before .before .loop3-test .taken) (rest-yes _ _ _ _ _ (c .before .before .before .before .before .before .before .before .before .shape-at .ensures) (c .before .before .before .before .role-of2 .ensures) (c .before .before .index3 .ensures) (c .before .rest-ok .ensures) (c .if3 .left))
-
-add-j : tie.Need-add-j Inv-loop2 μ-loop2 Inv-loop3 μ-loop3 Inv-loop μ-loop
-add-j c = search needs
 
 loop-less : tie.Need-loop-less Inv-loop2 μ-loop2 Inv-loop3 μ-loop3 Inv-loop μ-loop
 loop-less c = search needs
@@ -155,48 +104,8 @@ returns-4 c = sym (each-done _ _ _ (c .before .loop .inv .0) (c .loop-test .left
 pub scan-spec : {M : Type 1} → statement M
 scan-spec =
     tie.close
-    (tie.spec
-    Inv-loop2
-    μ-loop2
-    Inv-loop3
-    μ-loop3
-    Inv-loop
-    μ-loop
-    loop-holds
-    mul-at
-    mul-index
-    shared-slice-read-index
-    index-requires
-    is-kind-requires
-    returns
-    shape-at-requires
-    loop2-holds
-    add-role-of
-    role-of-requires
-    add-index
-    add-index-2
-    mul-index-2
-    shared-slice-read-index-2
-    index-requires-2
-    name-ok-requires
-    returns-2
-    add-k
-    loop2-less
-    loop2-again
-    loop3-holds
-    add-role-of-2
-    role-of-requires-2
-    add-index-3
-    add-index-4
-    mul-index-3
-    shared-slice-read-index-3
-    index-requires-3
-    rest-ok-requires
-    returns-3
-    add-t
-    loop3-less
-    loop3-again
-    add-j
-    loop-less
-    loop-again
-    returns-4)
+    (tie.spec Inv-loop2 μ-loop2 Inv-loop3 μ-loop3 Inv-loop μ-loop loop-holds (λ c. search needs) (λ c. search needs) (λ c. search needs)
+        index-requires is-kind-requires returns shape-at-requires loop2-holds (λ c. search needs) role-of-requires (λ c. search needs)
+        (λ c. search needs) (λ c. search needs) (λ c. search needs) index-requires-2 name-ok-requires returns-2 (λ c. search needs) loop2-less
+        loop2-again loop3-holds (λ c. search needs) role-of-requires-2 (λ c. search needs) (λ c. search needs) (λ c. search needs) (λ c. search needs)
+        index-requires-3 rest-ok-requires returns-3 (λ c. search needs) loop3-less loop3-again (λ c. search needs) loop-less loop-again returns-4)

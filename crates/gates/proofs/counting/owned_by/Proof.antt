@@ -2,7 +2,6 @@
 -- Assumes nothing.
 use borrow.Author.Needs.{needs}
 use mathlib.Core.Path.{sym, ap, _∙_}
-use denote.Ref.{now}
 use Rattle.circuit.specs.Gate.{gate}
 use Rattle.circuit.specs.Kind.{Owned, isClass, ownedBy}
 use Rattle.circuit.proofs.KindLaws.{shape-class}

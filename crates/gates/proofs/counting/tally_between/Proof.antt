@@ -20,9 +20,6 @@ loop-holds c = search needs
 tally-gate-requires : tie.Need-tally-gate-requires Inv-loop μ-loop
 tally-gate-requires c κs = search needs
 
-add-j : tie.Need-add-j Inv-loop μ-loop
-add-j c = search needs
-
 loop-less : tie.Need-loop-less Inv-loop μ-loop
 loop-less c = search needs
 
@@ -35,4 +32,4 @@ returns c = let l = c .before .loop in let e : l .j ≡ c .before .before .befor
 pub tally-between-spec : {M : Type 1} → statement M
 tally-between-spec =
     tie.close
-    (tie.spec Inv-loop μ-loop loop-holds tally-gate-requires add-j loop-less loop-again returns)
+    (tie.spec Inv-loop μ-loop loop-holds tally-gate-requires (λ c. search needs) loop-less loop-again returns)

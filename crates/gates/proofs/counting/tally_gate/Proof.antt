@@ -35,12 +35,4 @@ returns c = tally-more (c .before .before .before .before .before .before .befor
 pub tally-gate-spec : {M : Type 1} → statement M
 tally-gate-spec =
     tie.close
-    (tie.spec
-    shape-at-requires
-    add-t6
-    add-t7
-    unchecked-after-requires
-    owned-by-requires
-    one-if-requires
-    add-t11
-    returns)
+    (tie.spec shape-at-requires add-t6 add-t7 unchecked-after-requires owned-by-requires one-if-requires add-t11 returns)

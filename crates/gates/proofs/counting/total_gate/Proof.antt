@@ -54,17 +54,5 @@ returns c = totals-more (c .before .before .before .before .before .before .befo
 pub total-gate-spec : {M : Type 1} → statement M
 total-gate-spec =
     tie.close
-    (tie.spec
-    add-t7
-    add-t8
-    is-in-requires
-    one-if-requires
-    add-t11
-    is-out-requires
-    one-if-requires-2
-    add-t14
-    words-of-requires
-    add-t16
-    coefficients-of-requires
-    add-t18
-    returns)
+    (tie.spec add-t7 add-t8 is-in-requires one-if-requires add-t11 is-out-requires one-if-requires-2 add-t14 words-of-requires add-t16
+        coefficients-of-requires add-t18 returns)

@@ -32,9 +32,6 @@ total-gate-requires c κs = (c .shape-at .ensures, omega (arith, c .before .befo
 unchecked-after-requires : tie.Need-unchecked-after-requires Inv-loop μ-loop
 unchecked-after-requires c κs = (omega (arith, c .before .before .before .loop .inv .1, unchecked-few (now (c .before .before .before .before .before .args .c)) (c .before .before .before .loop .j)), shape-small _ _ (c .before .shape-at .ensures) .1)
 
-add-j : tie.Need-add-j Inv-loop μ-loop
-add-j c = search needs
-
 loop-less : tie.Need-loop-less Inv-loop μ-loop
 loop-less c = search needs
 
@@ -47,14 +44,5 @@ returns c = let l = c .before .loop in let e : l .j ≡ c .before .before .befor
 pub totals-before-spec : {M : Type 1} → statement M
 totals-before-spec =
     tie.close
-    (tie.spec
-    Inv-loop
-    μ-loop
-    loop-holds
-    shape-at-requires
-    total-gate-requires
-    unchecked-after-requires
-    add-j
-    loop-less
-    loop-again
-    returns)
+    (tie.spec Inv-loop μ-loop loop-holds shape-at-requires total-gate-requires unchecked-after-requires (λ c. search needs) loop-less loop-again
+        returns)

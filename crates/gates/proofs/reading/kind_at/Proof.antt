@@ -8,15 +8,6 @@ use Rattle.circuit.specs.Gate.{decode}
 use Rattle.gates.proofs.reading.kind_at.Statement.{statement}
 use Rattle.gates.proofs.reading.kind_at.Tie as tie
 
-mul-at : tie.Need-mul-at
-mul-at c = search needs
-
-mul-index : tie.Need-mul-index
-mul-index c = search needs
-
-shared-slice-read-index : tie.Need-shared-slice-read-index
-shared-slice-read-index c = search needs
-
 index-requires : tie.Need-index-requires
 index-requires c κs = search needs
 
@@ -30,4 +21,4 @@ returns c = c .decode .ensures ∙ ap decode (c .before .index .ensures ∙ rw a
 pub kind-at-spec : {M : Type 1} → statement M
 kind-at-spec =
     tie.close
-    (tie.spec mul-at mul-index shared-slice-read-index index-requires decode-requires returns)
+    (tie.spec (λ c. search needs) (λ c. search needs) (λ c. search needs) index-requires decode-requires returns)

@@ -5,18 +5,6 @@ use Rattle.circuit.specs.Gate.{entry, gate}
 use Rattle.gates.proofs.reading.second_at.Statement.{statement}
 use Rattle.gates.proofs.reading.second_at.Tie as tie
 
-mul-at : tie.Need-mul-at
-mul-at c = search needs
-
-add-at : tie.Need-add-at
-add-at c = search needs
-
-mul-index : tie.Need-mul-index
-mul-index c = search needs
-
-shared-slice-read-index : tie.Need-shared-slice-read-index
-shared-slice-read-index c = search needs
-
 index-requires : tie.Need-index-requires
 index-requires c κs = search needs
 
@@ -26,4 +14,4 @@ returns c = c .index .ensures
 
 pub second-at-spec : {M : Type 1} → statement M
 second-at-spec =
-    tie.close (tie.spec mul-at add-at mul-index shared-slice-read-index index-requires returns)
+    tie.close (tie.spec (λ c. search needs) (λ c. search needs) (λ c. search needs) (λ c. search needs) index-requires returns)

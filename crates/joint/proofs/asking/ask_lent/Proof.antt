@@ -19,15 +19,9 @@ mul-ask-lists-2 c = omega (arith, sizes-few (c .before .before .before .before .
 ask-lists-requires : tie.Need-ask-lists-requires
 ask-lists-requires c κs = search needs
 
-enum-known-number : tie.Need-enum-known-number
-enum-known-number c = search needs
-
 returns : tie.Need-returns
 unfolding verdictOf
 returns c = let a = c .before .before .before .before .before .before .before .before .before .before .args in refused-then _ _ (c .before .before .before .ask-lists .ensures) (c .before .number .given .1) ∙ lent-asked (a .f .parties) (a .c .now) (a .preps .now) (a .inputs .now) (a .room) (a .coefficients .now) (a .transcript) (a .outputs) (c .before .before .before .before .before .before .before .before .before .before .pre .2 .prep) (ins-are (c .before .before .before .before .before .before .before .before .before .before .pre .0) (c .before .before .before .before .before .before .before .before .before .before .pre .2) (c .before .before .before .before .before .before .before .before .before .before .pre .3)) (c .before .before .before .before .before .before .before .before .before .before .pre .2 .scratch) (coefficients-are (c .before .before .before .before .before .before .before .before .before .before .pre .0) (c .before .before .before .before .before .before .before .before .before .before .pre .2) (c .before .before .before .before .before .before .before .before .before .before .pre .3)) (words-are (c .before .before .before .before .before .before .before .before .before .before .pre .0) (c .before .before .before .before .before .before .before .before .before .before .pre .2) (c .before .before .before .before .before .before .before .before .before .before .pre .3)) (outs-are (c .before .before .before .before .before .before .before .before .before .before .pre .0) (c .before .before .before .before .before .before .before .before .before .before .pre .2) (c .before .before .before .before .before .before .before .before .before .before .pre .3))
-
-enum-told : tie.Need-enum-told
-enum-told c = search needs
 
 mul-ask-rooms : tie.Need-mul-ask-rooms
 mul-ask-rooms c = omega (arith, words-few (c .before .before .before .before .before .before .before .before .before .before .before .pre .0) (c .before .before .before .before .before .before .before .before .before .before .before .pre .2) (c .before .before .before .before .before .before .before .before .before .before .before .pre .3) (c .before .before .before .before .before .before .before .before .before .before .before .pre .1))
@@ -42,13 +36,5 @@ returns-2 c = let a = c .before .before .before .before .before .before .before 
 pub ask-lent-spec : {M : Type 1} → statement M
 ask-lent-spec =
     tie.close
-    (tie.spec
-    mul-ask-lists
-    mul-ask-lists-2
-    ask-lists-requires
-    enum-known-number
-    returns
-    enum-told
-    mul-ask-rooms
-    ask-rooms-requires
-    returns-2)
+    (tie.spec mul-ask-lists mul-ask-lists-2 ask-lists-requires (λ c. search needs) returns (λ c. search needs) mul-ask-rooms ask-rooms-requires
+        returns-2)

@@ -17,15 +17,9 @@ returns c = no-then 16 0 _ (ne-eqb _ _ (c .if1 .taken))
 ask-elements-requires : tie.Need-ask-elements-requires
 ask-elements-requires c κs = search needs
 
-enum-known-number : tie.Need-enum-known-number
-enum-known-number c = search needs
-
 returns-2 : tie.Need-returns-2
 unfolding verdictOf
 returns-2 c = yes-then 16 0 _ (eq-eqb _ _ (c .before .before .before .before .if1 .left)) (refused-then _ _ (c .before .before .before .ask-elements .ensures) (c .before .number .given .1))
-
-enum-told : tie.Need-enum-told
-enum-told c = search needs
 
 returns-3 : tie.Need-returns-3
 unfolding verdictOf
@@ -42,12 +36,4 @@ returns-5 c = yes-then 16 0 _ (eq-eqb _ _ (c .before .before .before .before .be
 pub ask-rooms-spec : {M : Type 1} → statement M
 ask-rooms-spec =
     tie.close
-    (tie.spec
-    returns
-    ask-elements-requires
-    enum-known-number
-    returns-2
-    enum-told
-    returns-3
-    returns-4
-    returns-5)
+    (tie.spec returns ask-elements-requires (λ c. search needs) returns-2 (λ c. search needs) returns-3 returns-4 returns-5)

@@ -29,9 +29,6 @@ add-counts c = omega (arith, owner-few (c .before .before .before .before .befor
 slice-write-counts : tie.Need-slice-write-counts
 slice-write-counts c = owner-there (c .before .before .before .before .before .before .before .pre .3) (c .before .before .before .before .before .before .before .pre .0) (c .before .before .before .before .before .before .before .pre .1) (c .before .before .before .before .before .before .before .pre .2) (sym (c .before .before .before .is-in .ensures ∙ ap (isClass Owned) (c .before .before .before .before .class-at .ensures)) ∙ c .before .before .if1 .taken) (c .before .first-at .ensures)
 
-same-length : tie.Need-same-length
-same-length c = search needs
-
 returns : tie.Need-returns
 returns c = counted-in (c .before .before .before .before .before .before .before .pre .3) (c .before .before .before .before .before .before .before .pre .0) (c .before .before .before .before .before .before .before .pre .1) (c .before .before .before .before .before .before .before .pre .2) (sym (c .before .before .before .is-in .ensures ∙ ap (isClass Owned) (c .before .before .before .before .class-at .ensures)) ∙ c .before .before .if1 .taken) (c .before .first-at .ensures)
 
@@ -41,14 +38,5 @@ returns-2 c = counted-other (c .before .before .before .before .before .pre .3) 
 pub count-input-spec : {M : Type 1} → statement M
 count-input-spec =
     tie.close
-    (tie.spec
-    class-at-requires
-    is-in-requires
-    first-at-requires
-    mul-counts
-    slice-read-counts
-    add-counts
-    slice-write-counts
-    same-length
-    returns
-    returns-2)
+    (tie.spec class-at-requires is-in-requires first-at-requires mul-counts slice-read-counts add-counts slice-write-counts (λ c. search needs)
+        returns returns-2)

@@ -38,13 +38,4 @@ returns c = counted-upto (c .before .loop .inv .1) (c .before .loop .inv .0) (c 
 pub count-inputs-spec : {M : Type 1} → statement M
 count-inputs-spec =
     tie.close
-    (tie.spec
-    Inv-loop
-    μ-loop
-    loop-holds
-    slice-aggregate-count-input
-    count-input-requires
-    add-j
-    loop-less
-    loop-again
-    returns)
+    (tie.spec Inv-loop μ-loop loop-holds slice-aggregate-count-input count-input-requires add-j loop-less loop-again returns)

@@ -49,17 +49,5 @@ returns c = starting-done _ _ (c .before .loop .inv) (c .loop-test .left)
 pub starts-of-spec : {M : Type 1} → statement M
 starts-of-spec =
     tie.close
-    (tie.spec
-    Inv-loop
-    μ-loop
-    count-inputs-requires
-    loop-holds
-    mul-starts
-    array-write-starts
-    mul-at
-    array-read-at
-    add-at
-    add-i
-    loop-less
-    loop-again
-    returns)
+    (tie.spec Inv-loop μ-loop count-inputs-requires loop-holds mul-starts array-write-starts mul-at array-read-at add-at add-i loop-less loop-again
+        returns)

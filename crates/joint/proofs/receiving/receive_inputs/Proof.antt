@@ -40,12 +40,6 @@ shared-slice-read-after-input c = key-there (c .before .before .before .before .
 mul-after-input-2 : tie.Need-mul-after-input-2 Inv-loop μ-loop
 mul-after-input-2 c = omega (arith, c .before .before .before .before .before .before .before .before .before .good, filled-fits _ _ _ _ (c .before .before .before .before .before .before .before .before .before .pre .1 .room) (input-each (c .before .before .before .before .before .before .before .before .before .pre .1) (now (c .before .before .before .before .before .before .before .before .before .args .preps)) (c .before .before .before .before .before .before .before .before .before .args .j) (c .before .before .before .before .before .before .before .before .before .args .at) (c .before .before .before .before .before .before .before .before .before .args .e)) (c .before .before .before .before .before .before .loop .inv) (c .before .before .before .before .if1 .taken), filled-length _ _ _ _ (c .before .before .before .before .before .before .before .before .before .pre .1 .room) (input-each (c .before .before .before .before .before .before .before .before .before .pre .1) (now (c .before .before .before .before .before .before .before .before .before .args .preps)) (c .before .before .before .before .before .before .before .before .before .args .j) (c .before .before .before .before .before .before .before .before .before .args .at) (c .before .before .before .before .before .before .before .before .before .args .e)) (c .before .before .before .before .before .before .loop .inv))
 
-sub-after-input : tie.Need-sub-after-input Inv-loop μ-loop
-sub-after-input c = omega arith
-
-part-after-input-start : tie.Need-part-after-input-start Inv-loop μ-loop
-part-after-input-start c = omega arith
-
 part-after-input-end : tie.Need-part-after-input-end Inv-loop μ-loop
 part-after-input-end c = filled-fits _ _ _ _ (c .before .before .before .before .before .before .before .before .before .pre .1 .room) (input-each (c .before .before .before .before .before .before .before .before .before .pre .1) (now (c .before .before .before .before .before .before .before .before .before .args .preps)) (c .before .before .before .before .before .before .before .before .before .args .j) (c .before .before .before .before .before .before .before .before .before .args .at) (c .before .before .before .before .before .before .before .before .before .args .e)) (c .before .before .before .before .before .before .loop .inv) (c .before .before .before .before .if1 .taken)
 
@@ -82,27 +76,6 @@ returns c = filled-done _ _ _ _ (c .before .before .before .before .before .pre 
 pub receive-inputs-spec : {M : Type 1} → statement M
 receive-inputs-spec =
     tie.close
-    (tie.spec
-    Inv-loop
-    μ-loop
-    loop-holds
-    add-end
-    mul-key
-    add-first
-    add-last
-    mul-after-input
-    shared-slice-read-after-input
-    mul-after-input-2
-    sub-after-input
-    part-after-input-start
-    part-after-input-end
-    mul-after-input-3
-    sub-after-input-2
-    part-after-input-start-2
-    part-after-input-end-2
-    after-input-requires
-    add-i
-    loop-less
-    loop-again
-    same-length
-    returns)
+    (tie.spec Inv-loop μ-loop loop-holds add-end mul-key add-first add-last mul-after-input shared-slice-read-after-input mul-after-input-2
+        (λ c. omega arith) (λ c. omega arith) part-after-input-end mul-after-input-3 sub-after-input-2 part-after-input-start-2 part-after-input-end-2
+        after-input-requires add-i loop-less loop-again same-length returns)

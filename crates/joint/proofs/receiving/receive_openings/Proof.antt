@@ -39,12 +39,6 @@ shared-slice-read-after-opening c = key-there (c .before .before .before .before
 mul-after-opening-2 : tie.Need-mul-after-opening-2 Inv-loop μ-loop
 mul-after-opening-2 c = omega (arith, c .before .before .before .before .before .before .before .before .before .good, filled-fits _ _ _ _ (c .before .before .before .before .before .before .before .before .before .pre .1 .room) (opening-each (c .before .before .before .before .before .before .before .before .before .pre .1) (now (c .before .before .before .before .before .before .before .before .before .args .preps)) (c .before .before .before .before .before .before .before .before .before .args .j) (c .before .before .before .before .before .before .before .before .before .args .x) (c .before .before .before .before .before .before .before .before .before .args .z) (c .before .before .before .before .before .before .before .before .before .args .at) (c .before .before .before .before .before .before .before .before .before .args .k) (c .before .before .before .before .before .before .before .before .before .args .u) (c .before .before .before .before .before .before .before .before .before .args .e) (c .before .before .before .before .before .before .before .before .before .args .d)) (c .before .before .before .before .before .before .loop .inv) (c .before .before .before .before .if1 .taken), filled-length _ _ _ _ (c .before .before .before .before .before .before .before .before .before .pre .1 .room) (opening-each (c .before .before .before .before .before .before .before .before .before .pre .1) (now (c .before .before .before .before .before .before .before .before .before .args .preps)) (c .before .before .before .before .before .before .before .before .before .args .j) (c .before .before .before .before .before .before .before .before .before .args .x) (c .before .before .before .before .before .before .before .before .before .args .z) (c .before .before .before .before .before .before .before .before .before .args .at) (c .before .before .before .before .before .before .before .before .before .args .k) (c .before .before .before .before .before .before .before .before .before .args .u) (c .before .before .before .before .before .before .before .before .before .args .e) (c .before .before .before .before .before .before .before .before .before .args .d)) (c .before .before .before .before .before .before .loop .inv))
 
-sub-after-opening : tie.Need-sub-after-opening Inv-loop μ-loop
-sub-after-opening c = omega arith
-
-part-after-opening-start : tie.Need-part-after-opening-start Inv-loop μ-loop
-part-after-opening-start c = omega arith
-
 part-after-opening-end : tie.Need-part-after-opening-end Inv-loop μ-loop
 part-after-opening-end c = filled-fits _ _ _ _ (c .before .before .before .before .before .before .before .before .before .pre .1 .room) (opening-each (c .before .before .before .before .before .before .before .before .before .pre .1) (now (c .before .before .before .before .before .before .before .before .before .args .preps)) (c .before .before .before .before .before .before .before .before .before .args .j) (c .before .before .before .before .before .before .before .before .before .args .x) (c .before .before .before .before .before .before .before .before .before .args .z) (c .before .before .before .before .before .before .before .before .before .args .at) (c .before .before .before .before .before .before .before .before .before .args .k) (c .before .before .before .before .before .before .before .before .before .args .u) (c .before .before .before .before .before .before .before .before .before .args .e) (c .before .before .before .before .before .before .before .before .before .args .d)) (c .before .before .before .before .before .before .loop .inv) (c .before .before .before .before .if1 .taken)
 
@@ -81,27 +75,6 @@ returns c = filled-done _ _ _ _ (c .before .before .before .before .before .pre 
 pub receive-openings-spec : {M : Type 1} → statement M
 receive-openings-spec =
     tie.close
-    (tie.spec
-    Inv-loop
-    μ-loop
-    loop-holds
-    add-end
-    mul-key
-    add-first
-    add-last
-    mul-after-opening
-    shared-slice-read-after-opening
-    mul-after-opening-2
-    sub-after-opening
-    part-after-opening-start
-    part-after-opening-end
-    mul-after-opening-3
-    sub-after-opening-2
-    part-after-opening-start-2
-    part-after-opening-end-2
-    after-opening-requires
-    add-i
-    loop-less
-    loop-again
-    same-length
-    returns)
+    (tie.spec Inv-loop μ-loop loop-holds add-end mul-key add-first add-last mul-after-opening shared-slice-read-after-opening mul-after-opening-2
+        (λ c. omega arith) (λ c. omega arith) part-after-opening-end mul-after-opening-3 sub-after-opening-2 part-after-opening-start-2
+        part-after-opening-end-2 after-opening-requires add-i loop-less loop-again same-length returns)

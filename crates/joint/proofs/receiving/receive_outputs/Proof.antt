@@ -24,12 +24,6 @@ add-end c = omega (arith, c .before .before .before .before .before .good, fille
 mul-after-open-output : tie.Need-mul-after-open-output Inv-loop μ-loop
 mul-after-open-output c = omega (arith, c .before .before .before .before .before .good, filled-fits _ _ _ _ (c .before .before .before .before .before .pre .0 .room) (output-each (c .before .before .before .before .before .pre .0) (c .before .before .before .before .before .args .x) (c .before .before .before .before .before .args .e)) (c .before .before .before .loop .inv) (c .before .if1 .taken), filled-length _ _ _ _ (c .before .before .before .before .before .pre .0 .room) (output-each (c .before .before .before .before .before .pre .0) (c .before .before .before .before .before .args .x) (c .before .before .before .before .before .args .e)) (c .before .before .before .loop .inv))
 
-sub-after-open-output : tie.Need-sub-after-open-output Inv-loop μ-loop
-sub-after-open-output c = omega arith
-
-part-after-open-output-start : tie.Need-part-after-open-output-start Inv-loop μ-loop
-part-after-open-output-start c = omega arith
-
 part-after-open-output-end : tie.Need-part-after-open-output-end Inv-loop μ-loop
 part-after-open-output-end c = filled-fits _ _ _ _ (c .before .before .before .before .before .pre .0 .room) (output-each (c .before .before .before .before .before .pre .0) (c .before .before .before .before .before .args .x) (c .before .before .before .before .before .args .e)) (c .before .before .before .loop .inv) (c .before .if1 .taken)
 
@@ -54,18 +48,5 @@ returns c = filled-done _ _ _ _ (c .before .before .before .before .pre .0 .room
 pub receive-outputs-spec : {M : Type 1} → statement M
 receive-outputs-spec =
     tie.close
-    (tie.spec
-    Inv-loop
-    μ-loop
-    loop-holds
-    add-end
-    mul-after-open-output
-    sub-after-open-output
-    part-after-open-output-start
-    part-after-open-output-end
-    after-open-output-requires
-    add-i
-    loop-less
-    loop-again
-    same-length
-    returns)
+    (tie.spec Inv-loop μ-loop loop-holds add-end mul-after-open-output (λ c. omega arith) (λ c. omega arith) part-after-open-output-end
+        after-open-output-requires add-i loop-less loop-again same-length returns)

@@ -51,17 +51,5 @@ returns c = all-settled _ _ _ _ _ (c .before .before .before .before .before .pr
 pub settle-all-spec : {M : Type 1} → statement M
 settle-all-spec =
     tie.close
-    (tie.spec
-    Inv-loop
-    μ-loop
-    loop-holds
-    kind-at-requires
-    first-at-requires
-    second-at-requires
-    constant-at-requires
-    settle-gate-requires
-    add-j
-    loop-less
-    loop-again
-    same-length
-    returns)
+    (tie.spec Inv-loop μ-loop loop-holds kind-at-requires first-at-requires second-at-requires constant-at-requires settle-gate-requires add-j
+        loop-less loop-again same-length returns)

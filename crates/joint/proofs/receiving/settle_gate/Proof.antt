@@ -35,12 +35,6 @@ shared-slice-read-after-linear c = key-there (c .before .before .before .before 
 mul-after-linear-2 : tie.Need-mul-after-linear-2 Inv-loop μ-loop
 mul-after-linear-2 c = omega (arith, c .before .before .before .before .before .before .before .before .good, filled-fits _ _ _ _ (c .before .before .before .before .before .before .before .before .pre .1 .room) (linear-each (c .before .before .before .before .before .before .before .before .pre .1) (now (c .before .before .before .before .before .before .before .before .args .preps)) (c .before .before .before .before .before .before .before .before .args .j) (gateOf (kindOf (c .before .before .before .before .before .before .before .before .args .kind)) (c .before .before .before .before .before .before .before .before .args .x) (c .before .before .before .before .before .before .before .before .args .z) (c .before .before .before .before .before .before .before .before .args .k))) (c .before .before .before .before .before .loop .inv) (c .before .before .before .if1 .taken), filled-length _ _ _ _ (c .before .before .before .before .before .before .before .before .pre .1 .room) (linear-each (c .before .before .before .before .before .before .before .before .pre .1) (now (c .before .before .before .before .before .before .before .before .args .preps)) (c .before .before .before .before .before .before .before .before .args .j) (gateOf (kindOf (c .before .before .before .before .before .before .before .before .args .kind)) (c .before .before .before .before .before .before .before .before .args .x) (c .before .before .before .before .before .before .before .before .args .z) (c .before .before .before .before .before .before .before .before .args .k))) (c .before .before .before .before .before .loop .inv))
 
-sub-after-linear : tie.Need-sub-after-linear Inv-loop μ-loop
-sub-after-linear c = omega arith
-
-part-after-linear-start : tie.Need-part-after-linear-start Inv-loop μ-loop
-part-after-linear-start c = omega arith
-
 part-after-linear-end : tie.Need-part-after-linear-end Inv-loop μ-loop
 part-after-linear-end c = filled-fits _ _ _ _ (c .before .before .before .before .before .before .before .before .pre .1 .room) (linear-each (c .before .before .before .before .before .before .before .before .pre .1) (now (c .before .before .before .before .before .before .before .before .args .preps)) (c .before .before .before .before .before .before .before .before .args .j) (gateOf (kindOf (c .before .before .before .before .before .before .before .before .args .kind)) (c .before .before .before .before .before .before .before .before .args .x) (c .before .before .before .before .before .before .before .before .args .z) (c .before .before .before .before .before .before .before .before .args .k))) (c .before .before .before .before .before .loop .inv) (c .before .before .before .if1 .taken)
 
@@ -65,21 +59,5 @@ returns c = filled-done _ _ _ _ (c .before .before .before .before .before .pre 
 pub settle-gate-spec : {M : Type 1} → statement M
 settle-gate-spec =
     tie.close
-    (tie.spec
-    Inv-loop
-    μ-loop
-    loop-holds
-    add-end
-    mul-key
-    mul-after-linear
-    shared-slice-read-after-linear
-    mul-after-linear-2
-    sub-after-linear
-    part-after-linear-start
-    part-after-linear-end
-    after-linear-requires
-    add-i
-    loop-less
-    loop-again
-    same-length
-    returns)
+    (tie.spec Inv-loop μ-loop loop-holds add-end mul-key mul-after-linear shared-slice-read-after-linear mul-after-linear-2 (λ c. omega arith)
+        (λ c. omega arith) part-after-linear-end after-linear-requires add-i loop-less loop-again same-length returns)

@@ -21,12 +21,6 @@ add-end c = omega (arith, c .before .before .before .before .before .before .bef
 mul-send-all : tie.Need-mul-send-all
 mul-send-all c = omega (arith, c .before .before .before .before .before .before .before .before .before .before .before .before .before .before .before .before .before .good, round-end (c .before .before .before .before .before .before .before .before .before .before .before .before .before .before .before .before .before .pre .0) (c .before .before .before .before .before .before .before .before .before .before .before .before .before .before .before .before .before .pre .1) (c .before .before .before .before .before .shape-at .ensures) (c .before .before .before .before .words-in .ensures))
 
-sub-send-all : tie.Need-sub-send-all
-sub-send-all c = search needs
-
-part-send-all-start : tie.Need-part-send-all-start
-part-send-all-start c = search needs
-
 part-send-all-end : tie.Need-part-send-all-end
 part-send-all-end c = round-end (c .before .before .before .before .before .before .before .before .before .before .before .before .before .before .before .before .before .pre .0) (c .before .before .before .before .before .before .before .before .before .before .before .before .before .before .before .before .before .pre .1) (c .before .before .before .before .before .shape-at .ensures) (c .before .before .before .before .words-in .ensures)
 
@@ -36,12 +30,6 @@ send-all-requires c κs = round-sends (c .before .before .before .before .before
 mul-release : tie.Need-mul-release
 mul-release c = omega (arith, c .before .before .before .before .before .before .before .before .before .before .before .before .before .before .before .before .before .before .before .before .before .before .before .before .good, round-end (c .before .before .before .before .before .before .before .before .before .before .before .before .before .before .before .before .before .before .before .before .before .before .before .before .pre .0) (c .before .before .before .before .before .before .before .before .before .before .before .before .before .before .before .before .before .before .before .before .before .before .before .before .pre .1) (c .before .before .before .before .before .before .before .before .before .before .before .before .shape-at .ensures) (c .before .before .before .before .before .before .before .before .before .before .before .words-in .ensures))
 
-sub-release : tie.Need-sub-release
-sub-release c = search needs
-
-part-release-start : tie.Need-part-release-start
-part-release-start c = search needs
-
 part-release-end : tie.Need-part-release-end
 part-release-end c = omega (arith, round-end (c .before .before .before .before .before .before .before .before .before .before .before .before .before .before .before .before .before .before .before .before .before .before .before .before .before .pre .0) (c .before .before .before .before .before .before .before .before .before .before .before .before .before .before .before .before .before .before .before .before .before .before .before .before .before .pre .1) (c .before .before .before .before .before .before .before .before .before .before .before .before .before .shape-at .ensures) (c .before .before .before .before .before .before .before .before .before .before .before .before .words-in .ensures), round-long (c .before .before .before .before .before .before .before .before .before .before .before .before .before .before .before .before .before .before .before .before .before .before .before .before .before .pre .0) (c .before .before .before .before .before .before .before .before .before .before .before .before .before .before .before .before .before .before .before .before .before .before .before .before .before .pre .1) (c .before .before .before .before .before .before .before .before .before .before .before .before .before .shape-at .ensures) (c .before .before .before .before .before .before .before .before .before .before .before .before .words-in .ensures) (c .before .before .before .before .before .before .send-all .ensures .1))
 
@@ -50,12 +38,6 @@ release-requires c κs = round-releases (c .before .before .before .before .befo
 
 mul-receive-all : tie.Need-mul-receive-all
 mul-receive-all c = omega (arith, c .before .before .before .before .before .before .before .before .before .before .before .before .before .before .before .before .before .before .before .before .before .before .before .before .before .before .before .before .before .before .before .good, round-end (c .before .before .before .before .before .before .before .before .before .before .before .before .before .before .before .before .before .before .before .before .before .before .before .before .before .before .before .before .before .before .before .pre .0) (c .before .before .before .before .before .before .before .before .before .before .before .before .before .before .before .before .before .before .before .before .before .before .before .before .before .before .before .before .before .before .before .pre .1) (c .before .before .before .before .before .before .before .before .before .before .before .before .before .before .before .before .before .before .before .shape-at .ensures) (c .before .before .before .before .before .before .before .before .before .before .before .before .before .before .before .before .before .before .words-in .ensures))
-
-sub-receive-all : tie.Need-sub-receive-all
-sub-receive-all c = search needs
-
-part-receive-all-start : tie.Need-part-receive-all-start
-part-receive-all-start c = search needs
 
 part-receive-all-end : tie.Need-part-receive-all-end
 part-receive-all-end c = omega (arith, round-end (c .before .before .before .before .before .before .before .before .before .before .before .before .before .before .before .before .before .before .before .before .before .before .before .before .before .before .before .before .before .before .before .before .pre .0) (c .before .before .before .before .before .before .before .before .before .before .before .before .before .before .before .before .before .before .before .before .before .before .before .before .before .before .before .before .before .before .before .before .pre .1) (c .before .before .before .before .before .before .before .before .before .before .before .before .before .before .before .before .before .before .before .before .shape-at .ensures) (c .before .before .before .before .before .before .before .before .before .before .before .before .before .before .before .before .before .before .before .words-in .ensures), round-long (c .before .before .before .before .before .before .before .before .before .before .before .before .before .before .before .before .before .before .before .before .before .before .before .before .before .before .before .before .before .before .before .before .pre .0) (c .before .before .before .before .before .before .before .before .before .before .before .before .before .before .before .before .before .before .before .before .before .before .before .before .before .before .before .before .before .before .before .before .pre .1) (c .before .before .before .before .before .before .before .before .before .before .before .before .before .before .before .before .before .before .before .before .shape-at .ensures) (c .before .before .before .before .before .before .before .before .before .before .before .before .before .before .before .before .before .before .before .words-in .ensures) (c .before .before .before .before .before .before .before .before .before .before .before .before .before .send-all .ensures .1))
@@ -75,14 +57,8 @@ add-used c = omega (arith, c .before .before .before .before .before .before .be
 add-t32 : tie.Need-add-t32
 add-t32 c = omega (arith, c .before .before .before .before .before .before .before .before .before .before .before .before .before .before .before .before .before .before .before .before .before .before .before .before .before .before .before .before .before .before .before .before .before .before .before .before .before .before .before .before .before .before .before .pre .0 .rounds-few, c .before .before .before .before .before .before .before .before .before .before .before .before .before .before .before .before .before .before .before .before .before .before .before .before .before .before .before .before .before .before .before .before .before .before .before .before .before .before .before .before .before .before .before .pre .0 .going .lent .valid .few)
 
-same-length : tie.Need-same-length
-same-length c = search needs
-
 same-length-2 : tie.Need-same-length-2
 same-length-2 c = c .before .before .before .before .before .before .before .before .before .before .before .before .before .before .before .before .before .before .before .before .before .before .before .before .send-all .kept .1 .1 .1 .1 .1 .1 .1 .1 .1 .1 .0
-
-same-length-3 : tie.Need-same-length-3
-same-length-3 c = search needs
 
 same-length-4 : tie.Need-same-length-4
 same-length-4 c = round-long (c .before .before .before .before .before .before .before .before .before .before .before .before .before .before .before .before .before .before .before .before .before .before .before .before .before .before .before .before .before .before .before .before .before .before .before .before .before .before .before .before .before .before .before .pre .0) (c .before .before .before .before .before .before .before .before .before .before .before .before .before .before .before .before .before .before .before .before .before .before .before .before .before .before .before .before .before .before .before .before .before .before .before .before .before .before .before .before .before .before .before .pre .1) (c .before .before .before .before .before .before .before .before .before .before .before .before .before .before .before .before .before .before .before .before .before .before .before .before .before .before .before .before .before .before .before .shape-at .ensures) (c .before .before .before .before .before .before .before .before .before .before .before .before .before .before .before .before .before .before .before .before .before .before .before .before .before .before .before .before .before .before .words-in .ensures) (c .before .before .before .before .before .before .before .before .before .before .before .before .before .before .before .before .before .before .before .before .before .before .before .before .send-all .ensures .1)
@@ -96,33 +72,7 @@ returns c = (round-turned (c .before .before .before .before .before .before .be
 pub one-round-spec : {M : Type 1} → statement M
 one-round-spec =
     tie.close
-    (tie.spec
-    shape-at-requires
-    words-in-requires
-    mul-end
-    add-end
-    mul-send-all
-    sub-send-all
-    part-send-all-start
-    part-send-all-end
-    send-all-requires
-    mul-release
-    sub-release
-    part-release-start
-    part-release-end
-    release-requires
-    mul-receive-all
-    sub-receive-all
-    part-receive-all-start
-    part-receive-all-end
-    receive-all-requires
-    pass-gate-requires
-    coefficients-in-requires
-    add-used
-    add-t32
-    same-length
-    same-length-2
-    same-length-3
-    same-length-4
-    same-length-5
-    returns)
+    (tie.spec shape-at-requires words-in-requires mul-end add-end mul-send-all (λ c. search needs) (λ c. search needs) part-send-all-end
+        send-all-requires mul-release (λ c. search needs) (λ c. search needs) part-release-end release-requires mul-receive-all (λ c. search needs)
+        (λ c. search needs) part-receive-all-end receive-all-requires pass-gate-requires coefficients-in-requires add-used add-t32 (λ c. search needs)
+        same-length-2 (λ c. search needs) same-length-4 same-length-5 returns)

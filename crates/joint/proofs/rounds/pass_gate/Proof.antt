@@ -16,12 +16,9 @@ count-input-requires c κs = (c .before .before .before .before .pre .0, c .befo
 tally-gate-requires : tie.Need-tally-gate-requires
 tally-gate-requires c κs = (omega (arith, c .before .before .before .before .before .before .before .pre .2, c .before .before .before .before .before .before .before .pre .0 .whole), omega (arith, c .before .before .before .before .before .before .before .pre .2, c .before .before .before .before .before .before .before .pre .0 .few), c .before .before .before .before .before .before .before .pre .3)
 
-same-length : tie.Need-same-length
-same-length c = search needs
-
 returns-2 : tie.Need-returns-2
 returns-2 c = passed _ (c .before .before .before .before .before .before .before .before .pre .2) (c .before .before .before .before .before .before .before .before .pre .5) (c .before .before .before .before .before .if1 .left) (c .tally-gate .ensures) (placed-on (c .before .before .before .before .before .before .before .before .pre .4) (c .before .before .before .count-input .ensures))
 
 pub pass-gate-spec : {M : Type 1} → statement M
 pass-gate-spec =
-    tie.close (tie.spec returns count-input-requires tally-gate-requires same-length returns-2)
+    tie.close (tie.spec returns count-input-requires tally-gate-requires (λ c. search needs) returns-2)

@@ -29,17 +29,8 @@ read-slot-requires : tie.Need-read-slot-requires
 unfolding slotOf
 read-slot-requires c κs = (rw (length-take-le _ _ (c .before .before .before .before .before .before .before .before .before .pre .1), c .before .before .before .before .before .before .before .before .before .pre .0 .lay, c .before .before .before .before .before .before .before .before .before .pre .0 .scratch) (omega arith), entry-zero _ _ (c .before .before .before .before .before .before .before .before .before .pre .0 .lay))
 
-mul-outputs : tie.Need-mul-outputs
-mul-outputs c = search needs
-
 slice-write-outputs : tie.Need-slice-write-outputs
 slice-write-outputs c = c .before .before .before .before .before .before .before .before .before .before .pre .4 (said-yes (c .before .before .before .before .before .releases .ensures) (c .before .before .before .before .if1 .left)) .1
-
-add-result : tie.Need-add-result
-add-result c = search needs
-
-same-length : tie.Need-same-length
-same-length c = search needs
 
 returns-3 : tie.Need-returns-3
 unfolding slotOf
@@ -48,15 +39,5 @@ returns-3 c = freed-one _ _ _ _ _ _ _ (c .before .before .before .before .before
 pub release-spec : {M : Type 1} → statement M
 release-spec =
     tie.close
-    (tie.spec
-    releases-requires
-    returns
-    heard-sum-requires
-    returns-2
-    slice-aggregate-read-slot
-    read-slot-requires
-    mul-outputs
-    slice-write-outputs
-    add-result
-    same-length
-    returns-3)
+    (tie.spec releases-requires returns heard-sum-requires returns-2 slice-aggregate-read-slot read-slot-requires (λ c. search needs)
+        slice-write-outputs (λ c. search needs) (λ c. search needs) returns-3)

@@ -27,9 +27,6 @@ loop-holds c = (placed-start _ _ _ _ _ (c .before .before .before .before .befor
 due-at-requires : tie.Need-due-at-requires Inv-loop μ-loop
 due-at-requires c κs = search needs
 
-enum-known-r : tie.Need-enum-known-r Inv-loop μ-loop
-enum-known-r c = search needs
-
 slice-aggregate-one-round : tie.Need-slice-aggregate-one-round Inv-loop μ-loop
 slice-aggregate-one-round c = sym (running-turning _ _ _ _ _ (c .before .before .before .before .before .before .before .before .before .before .before .before .before .before .before .before .before .pre .0) (c .before .before .before .before .before .before .before .loop .inv .1) _ (subst (IsDue _) (c .before .before .before .r .given .1) (c .before .before .before .before .before .due-at .ensures)) .going .eight)
 
@@ -41,9 +38,6 @@ loop-less c = omega (arith, c .before .before .before .before .before .before .b
 
 loop-again : tie.Need-loop-again Inv-loop μ-loop
 loop-again c = (c .before .before .before .before .before .before .before .before .before .one-round .ensures .1, running-again _ _ _ _ _ (c .before .before .before .before .before .before .before .before .before .before .before .before .before .before .before .before .before .before .before .before .before .before .before .before .before .before .before .before .before .before .pre .0) (c .before .before .before .before .before .before .before .before .before .before .before .before .before .before .before .before .before .before .before .before .loop .inv .1) _ (subst (IsDue _) (c .before .before .before .before .before .before .before .before .before .before .before .before .before .before .before .before .r .given .1) (c .before .before .before .before .before .before .before .before .before .before .before .before .before .before .before .before .before .before .due-at .ensures)) (c .before .before .before .before .before .before .before .before .before .one-round .ensures .0))
-
-enum-told : tie.Need-enum-told Inv-loop μ-loop
-enum-told c = search needs
 
 ending-requires : tie.Need-ending-requires Inv-loop μ-loop
 ending-requires c κs = search needs
@@ -66,21 +60,5 @@ returns c = running-ended _ _ _ _ _ (c .before .before .before .before .before .
 pub run-spec : {M : Type 1} → statement M
 run-spec =
     tie.close
-    (tie.spec
-    Inv-loop
-    μ-loop
-    origin-requires
-    loop-holds
-    due-at-requires
-    enum-known-r
-    slice-aggregate-one-round
-    one-round-requires
-    loop-less
-    loop-again
-    enum-told
-    ending-requires
-    same-length
-    same-length-2
-    same-length-3
-    same-length-4
-    returns)
+    (tie.spec Inv-loop μ-loop origin-requires loop-holds due-at-requires (λ c. search needs) slice-aggregate-one-round one-round-requires loop-less
+        loop-again (λ c. search needs) ending-requires same-length same-length-2 same-length-3 same-length-4 returns)

@@ -39,12 +39,6 @@ add-end c = omega (arith, c .before .before .before .before .before .before .bef
 mul-check-share : tie.Need-mul-check-share Inv-loop μ-loop
 mul-check-share c = omega (arith, c .before .before .before .before .before .before .before .before .before .before .good, band-fits (c .before .before .before .before .before .before .before .before .before .before .pre .3) (c .before .before .before .before .before .loop .i) (c .before .before .before .if1 .taken))
 
-sub-check-share : tie.Need-sub-check-share Inv-loop μ-loop
-sub-check-share c = omega arith
-
-part-check-share-start : tie.Need-part-check-share-start Inv-loop μ-loop
-part-check-share-start c = omega arith
-
 part-check-share-end : tie.Need-part-check-share-end Inv-loop μ-loop
 part-check-share-end c = band-fits (c .before .before .before .before .before .before .before .before .before .before .pre .3) (c .before .before .before .before .before .loop .i) (c .before .before .before .if1 .taken)
 
@@ -56,12 +50,6 @@ shared-slice-read-check-share c = key-there (c .before .before .before .before .
 
 mul-check-share-3 : tie.Need-mul-check-share-3 Inv-loop μ-loop
 mul-check-share-3 c = omega (arith, c .before .before .before .before .before .before .before .before .before .before .before .before .good, c .before .before .before .before .before .before .before .before .before .before .before .before .pre .4)
-
-sub-check-share-2 : tie.Need-sub-check-share-2 Inv-loop μ-loop
-sub-check-share-2 c = omega arith
-
-part-check-share-start-2 : tie.Need-part-check-share-start-2 Inv-loop μ-loop
-part-check-share-start-2 c = omega arith
 
 part-check-share-end-2 : tie.Need-part-check-share-end-2 Inv-loop μ-loop
 part-check-share-end-2 c = c .before .before .before .before .before .before .before .before .before .before .before .before .pre .4
@@ -93,29 +81,6 @@ returns c = gathered-all (c .before .before .before .before .before .before .bef
 pub check-shares-spec : {M : Type 1} → statement M
 check-shares-spec =
     tie.close
-    (tie.spec
-    Inv-loop
-    μ-loop
-    add-v
-    loop-holds
-    mul-key
-    mul-start
-    add-end
-    mul-check-share
-    sub-check-share
-    part-check-share-start
-    part-check-share-end
-    mul-check-share-2
-    shared-slice-read-check-share
-    mul-check-share-3
-    sub-check-share-2
-    part-check-share-start-2
-    part-check-share-end-2
-    check-share-requires
-    mul-held
-    slice-write-held
-    add-i
-    loop-less
-    loop-again
-    same-length
-    returns)
+    (tie.spec Inv-loop μ-loop add-v loop-holds mul-key mul-start add-end mul-check-share (λ c. omega arith) (λ c. omega arith) part-check-share-end
+        mul-check-share-2 shared-slice-read-check-share mul-check-share-3 (λ c. omega arith) (λ c. omega arith) part-check-share-end-2
+        check-share-requires mul-held slice-write-held add-i loop-less loop-again same-length returns)

@@ -44,12 +44,6 @@ add-end c = omega (arith, c .before .before .before .before .before .before .bef
 mul-opening-words : tie.Need-mul-opening-words Inv-loop μ-loop
 mul-opening-words c = omega (arith, c .before .before .before .before .before .before .before .before .before .before .before .good, band-fits (c .before .before .before .before .before .before .before .before .before .before .before .pre .3) (c .before .before .before .before .before .before .before .loop .i) (c .before .before .before .before .before .if1 .taken))
 
-sub-opening-words : tie.Need-sub-opening-words Inv-loop μ-loop
-sub-opening-words c = omega arith
-
-part-opening-words-start : tie.Need-part-opening-words-start Inv-loop μ-loop
-part-opening-words-start c = omega arith
-
 part-opening-words-end : tie.Need-part-opening-words-end Inv-loop μ-loop
 part-opening-words-end c = band-fits (c .before .before .before .before .before .before .before .before .before .before .before .pre .3) (c .before .before .before .before .before .before .before .loop .i) (c .before .before .before .before .before .if1 .taken)
 
@@ -67,12 +61,6 @@ part-opening-words-end-2 c = prep-end (c .before .before .before .before .before
 
 mul-opening-words-3 : tie.Need-mul-opening-words-3 Inv-loop μ-loop
 mul-opening-words-3 c = omega (arith, c .before .before .before .before .before .before .before .before .before .before .before .before .before .good, filled-fits _ _ _ _ (put-room (c .before .before .before .before .before .before .before .before .before .before .before .before .before .args .f .parties) (c .before .before .before .before .before .before .before .before .before .before .before .before .before .args .k) (now (c .before .before .before .before .before .before .before .before .before .before .before .before .before .args .out)) (c .before .before .before .before .before .before .before .before .before .before .before .before .before .pre .5)) (λ m h. opened-words ops _ _ _ _ _ _ (c .before .before .before .before .before .before .before .before .before .before .before .before .before .pre .0) (c .before .before .before .before .before .before .before .before .before .before .before .before .before .pre .1)) (c .before .before .before .before .before .before .before .before .before .loop .inv) (c .before .before .before .before .before .before .before .if1 .taken), filled-length _ _ _ _ (put-room (c .before .before .before .before .before .before .before .before .before .before .before .before .before .args .f .parties) (c .before .before .before .before .before .before .before .before .before .before .before .before .before .args .k) (now (c .before .before .before .before .before .before .before .before .before .before .before .before .before .args .out)) (c .before .before .before .before .before .before .before .before .before .before .before .before .before .pre .5)) (λ m h. opened-words ops _ _ _ _ _ _ (c .before .before .before .before .before .before .before .before .before .before .before .before .before .pre .0) (c .before .before .before .before .before .before .before .before .before .before .before .before .before .pre .1)) (c .before .before .before .before .before .before .before .before .before .loop .inv))
-
-sub-opening-words-3 : tie.Need-sub-opening-words-3 Inv-loop μ-loop
-sub-opening-words-3 c = omega arith
-
-part-opening-words-start-3 : tie.Need-part-opening-words-start-3 Inv-loop μ-loop
-part-opening-words-start-3 c = omega arith
 
 part-opening-words-end-3 : tie.Need-part-opening-words-end-3 Inv-loop μ-loop
 part-opening-words-end-3 c = filled-fits _ _ _ _ (put-room (c .before .before .before .before .before .before .before .before .before .before .before .before .before .args .f .parties) (c .before .before .before .before .before .before .before .before .before .before .before .before .before .args .k) (now (c .before .before .before .before .before .before .before .before .before .before .before .before .before .args .out)) (c .before .before .before .before .before .before .before .before .before .before .before .before .before .pre .5)) (λ m h. opened-words ops _ _ _ _ _ _ (c .before .before .before .before .before .before .before .before .before .before .before .before .before .pre .0) (c .before .before .before .before .before .before .before .before .before .before .before .before .before .pre .1)) (c .before .before .before .before .before .before .before .before .before .loop .inv) (c .before .before .before .before .before .before .before .if1 .taken)
@@ -98,32 +86,7 @@ returns c = put-done _ _ _ (c .before .before .before .before .before .before .p
 pub opening-words-spec : {M : Type 1} → statement M
 opening-words-spec =
     tie.close
-    (tie.spec
-    Inv-loop
-    μ-loop
-    loop-holds
-    add-b
-    mul-first
-    add-first
-    mul-last
-    add-last
-    mul-start
-    add-end
-    mul-opening-words
-    sub-opening-words
-    part-opening-words-start
-    part-opening-words-end
-    mul-opening-words-2
-    sub-opening-words-2
-    part-opening-words-start-2
-    part-opening-words-end-2
-    mul-opening-words-3
-    sub-opening-words-3
-    part-opening-words-start-3
-    part-opening-words-end-3
-    opening-words-requires
-    add-i
-    loop-less
-    loop-again
-    same-length
-    returns)
+    (tie.spec Inv-loop μ-loop loop-holds add-b mul-first add-first mul-last add-last mul-start add-end mul-opening-words (λ c. omega arith)
+        (λ c. omega arith) part-opening-words-end mul-opening-words-2 sub-opening-words-2 part-opening-words-start-2 part-opening-words-end-2
+        mul-opening-words-3 (λ c. omega arith) (λ c. omega arith) part-opening-words-end-3 opening-words-requires add-i loop-less loop-again
+        same-length returns)

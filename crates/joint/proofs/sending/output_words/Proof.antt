@@ -33,12 +33,6 @@ add-end c = omega (arith, c .before .before .before .before .before .before .bef
 mul-wire-at : tie.Need-mul-wire-at Inv-loop μ-loop
 mul-wire-at c = omega (arith, c .before .before .before .before .before .before .before .good, band-fits (c .before .before .before .before .before .before .before .pre .1) (c .before .before .before .before .loop .i) (c .before .before .if1 .taken))
 
-sub-wire-at : tie.Need-sub-wire-at Inv-loop μ-loop
-sub-wire-at c = omega arith
-
-part-wire-at-start : tie.Need-part-wire-at-start Inv-loop μ-loop
-part-wire-at-start c = omega arith
-
 part-wire-at-end : tie.Need-part-wire-at-end Inv-loop μ-loop
 part-wire-at-end c = band-fits (c .before .before .before .before .before .before .before .pre .1) (c .before .before .before .before .loop .i) (c .before .before .if1 .taken)
 
@@ -69,21 +63,5 @@ returns c = put-all _ _ (c .before .before .before .before .before .pre .3) (λ 
 pub output-words-spec : {M : Type 1} → statement M
 output-words-spec =
     tie.close
-    (tie.spec
-    Inv-loop
-    μ-loop
-    loop-holds
-    mul-start
-    add-end
-    mul-wire-at
-    sub-wire-at
-    part-wire-at-start
-    part-wire-at-end
-    wire-at-requires
-    mul-out
-    slice-write-out
-    add-i
-    loop-less
-    loop-again
-    same-length
-    returns)
+    (tie.spec Inv-loop μ-loop loop-holds mul-start add-end mul-wire-at (λ c. omega arith) (λ c. omega arith) part-wire-at-end wire-at-requires mul-out
+        slice-write-out add-i loop-less loop-again same-length returns)

@@ -15,9 +15,6 @@ use Rattle.joint.proofs.SendTurns.{put-asks, held-zero, check-asks, hel
 use Rattle.joint.proofs.sending.send_all.Statement.{statement}
 use Rattle.joint.proofs.sending.send_all.Tie as tie
 
-enum-told : tie.Need-enum-told
-enum-told c = search needs
-
 first-at-requires : tie.Need-first-at-requires
 first-at-requires c κs = gate-fits _ _ _ _ _ _ (c .before .before .before .before .before .before .before .before .before .before .before .before .pre .0)
 
@@ -27,9 +24,6 @@ is-in-requires c κs = search needs
 input-words-requires : tie.Need-input-words-requires
 unfolding roundOf
 input-words-requires c κs = let s = (rw (c .before .before .before .before .enum-told .given .1) at (c .before .before .before .before .before .before .before .before .before .before .before .before .before .before .before .before .pre)) in input-asks (s .0) (sends-in (s .0) (shape-class _ _ (s .2)) (sym (c .before .before .is-in .ensures) ∙ c .before .if1 .taken)) (s .1) (now (c .before .before .before .before .before .before .before .before .before .before .before .before .before .before .before .before .args .out)) (s .3)
-
-same-length : tie.Need-same-length
-same-length c = search needs
 
 returns : tie.Need-returns
 unfolding roundOf isCommit isReveal
@@ -42,18 +36,12 @@ opening-words-requires : tie.Need-opening-words-requires
 unfolding roundOf
 opening-words-requires c κs = let s = (rw (c .before .before .before .before .before .enum-told .given .1) at (c .before .before .before .before .before .before .before .before .before .before .before .before .before .before .before .before .before .pre)) in opening-asks (s .0) (sends-opens (s .0) (shape-class _ _ (s .2)) (sym (c .before .before .before .is-in .ensures) ∙ c .before .before .if1 .left)) (record { first = c .before .before .before .before .first-at .ensures; second = c .before .factor-at .ensures; openings = shape-openings _ _ (s .2) }) (now (c .before .before .before .before .before .before .before .before .before .before .before .before .before .before .before .before .before .args .out)) (s .3)
 
-enum-told-2 : tie.Need-enum-told-2
-enum-told-2 c = search needs
-
 first-at-requires-2 : tie.Need-first-at-requires-2
 first-at-requires-2 c κs = gate-fits _ _ _ _ _ _ (c .before .before .before .before .before .before .before .before .before .before .before .before .pre .0)
 
 output-words-requires : tie.Need-output-words-requires
 unfolding roundOf
 output-words-requires c κs = let s = (rw (c .before .before .enum-told2 .given .1) at (c .before .before .before .before .before .before .before .before .before .before .before .before .before .before .pre)) in output-asks (s .0) (c .before .first-at2 .ensures) (now (c .before .before .before .before .before .before .before .before .before .before .before .before .before .before .args .out)) (s .3)
-
-enum-told-3 : tie.Need-enum-told-3
-enum-told-3 c = search needs
 
 put-marks-requires : tie.Need-put-marks-requires
 unfolding roundOf shapeWords
@@ -66,42 +54,21 @@ check-shares-requires : tie.Need-check-shares-requires
 unfolding roundOf isCommit
 check-shares-requires c κs = let s = (rw (c .before .before .before .before .before .before .enum-told3 .given .1) at (c .before .before .before .before .before .before .before .before .before .before .before .before .before .before .before .before .before .before .pre)) in check-asks (s .0) refl (rw (c .before .before .before .before .before .before .enum-told3 .given .1) at (c .before .opened-in .ensures))
 
-enum-told-4 : tie.Need-enum-told-4
-enum-told-4 c = search needs
-
 put-held-requires : tie.Need-put-held-requires
 unfolding roundOf shapeWords
 put-held-requires c κs = let s = (rw (c .before .before .enum-told4 .given .1) at (c .before .before .before .before .before .before .before .before .before .before .before .before .before .before .pre)) in (s .0 .eight, s .0 .lent .few, put-asks (s .0) (now (c .before .before .before .before .before .before .before .before .before .before .before .before .before .before .args .out)) (s .3) refl .1)
-
-same-length-2 : tie.Need-same-length-2
-same-length-2 c = search needs
 
 returns-2 : tie.Need-returns-2
 unfolding roundOf isCommit isReveal
 returns-2 c = let s = (rw (c .before .before .before .before .before .before .before .before .enum-told .given .1) at (c .before .before .before .before .before .before .before .before .before .before .before .before .before .before .before .before .before .before .before .before .pre)) in rw (c .before .before .before .before .before .before .before .before .enum-told .given .1) (λ i h. held-zero (s .0) refl i (s .0 .held-none refl i h), said-opening (s .0) (sends-opens (s .0) (shape-class _ _ (s .2)) (sym (c .before .before .before .before .before .before .is-in .ensures) ∙ c .before .before .before .before .before .if1 .left)) (record { first = c .before .before .before .before .before .before .before .first-at .ensures; second = c .before .before .before .before .factor-at .ensures; openings = shape-openings _ _ (s .2) }) (c .before .before .opening-words .ensures))
 
-same-length-3 : tie.Need-same-length-3
-same-length-3 c = search needs
-
 returns-3 : tie.Need-returns-3
 unfolding roundOf isCommit isReveal
 returns-3 c = let s = (rw (c .before .before .before .before .before .enum-told2 .given .1) at (c .before .before .before .before .before .before .before .before .before .before .before .before .before .before .before .before .before .pre)) in rw (c .before .before .before .before .before .enum-told2 .given .1) (λ i h. held-zero (s .0) refl i (s .0 .held-none refl i h), said-output (s .0) (c .before .before .before .before .first-at2 .ensures) (c .before .before .output-words .ensures))
 
-same-length-4 : tie.Need-same-length-4
-same-length-4 c = search needs
-
-same-length-5 : tie.Need-same-length-5
-same-length-5 c = search needs
-
 returns-4 : tie.Need-returns-4
 unfolding roundOf isCommit sent
 returns-4 c = let s = (rw (c .before .before .before .before .before .before .before .before .before .enum-told3 .given .1) at (c .before .before .before .before .before .before .before .before .before .before .before .before .before .before .before .before .before .before .before .before .before .pre)) in rw (c .before .before .before .before .before .before .before .before .before .enum-told3 .given .1) (λ i h. held-made (s .0) refl (rw (c .before .before .before .before .before .before .before .before .before .enum-told3 .given .1) at (c .before .before .before .before .opened-in .ensures)) i (c .before .before .check-shares .ensures i h), said-by (s .0) (λ i. mark ∷ []) (λ i h. refl) (c .before .before .before .before .before .before .before .put-marks .ensures))
-
-same-length-6 : tie.Need-same-length-6
-same-length-6 c = search needs
-
-same-length-7 : tie.Need-same-length-7
-same-length-7 c = search needs
 
 returns-5 : tie.Need-returns-5
 unfolding roundOf isCommit sent stateOf
@@ -110,31 +77,7 @@ returns-5 c = let s = (rw (c .before .before .before .before .before .before .be
 pub send-all-spec : {M : Type 1} → statement M
 send-all-spec =
     tie.close
-    (tie.spec
-    enum-told
-    first-at-requires
-    is-in-requires
-    input-words-requires
-    same-length
-    returns
-    factor-at-requires
-    opening-words-requires
-    enum-told-2
-    first-at-requires-2
-    output-words-requires
-    enum-told-3
-    put-marks-requires
-    opened-in-requires
-    check-shares-requires
-    enum-told-4
-    put-held-requires
-    same-length-2
-    returns-2
-    same-length-3
-    returns-3
-    same-length-4
-    same-length-5
-    returns-4
-    same-length-6
-    same-length-7
-    returns-5)
+    (tie.spec (λ c. search needs) first-at-requires is-in-requires input-words-requires (λ c. search needs) returns factor-at-requires
+        opening-words-requires (λ c. search needs) first-at-requires-2 output-words-requires (λ c. search needs) put-marks-requires opened-in-requires
+        check-shares-requires (λ c. search needs) put-held-requires (λ c. search needs) returns-2 (λ c. search needs) returns-3 (λ c. search needs)
+        (λ c. search needs) returns-4 (λ c. search needs) (λ c. search needs) returns-5)

@@ -32,18 +32,9 @@ returns c = sym (each-all _ _ (λ k l. ask-yes _ _ (lt-ltb _ _ (c .before .all-e
 loop-holds : tie.Need-loop-holds Inv-loop μ-loop
 loop-holds c = asking-starts _ _
 
-mul-if2 : tie.Need-mul-if2 Inv-loop μ-loop
-mul-if2 c = search needs
-
-shared-slice-read-if2 : tie.Need-shared-slice-read-if2 Inv-loop μ-loop
-shared-slice-read-if2 c = search needs
-
 returns-2 : tie.Need-returns-2 Inv-loop μ-loop
 unfolding verdictOf elements
 returns-2 c = asking-refuses _ _ _ (c .before .before .before .loop .inv) (omega arith) (ask-no _ _ (le-ltb _ _ (c .if2 .taken)))
-
-add-k : tie.Need-add-k Inv-loop μ-loop
-add-k c = search needs
 
 loop-less : tie.Need-loop-less Inv-loop μ-loop
 loop-less c = search needs
@@ -58,16 +49,5 @@ returns-3 c = asking-ends _ _ _ (c .before .loop .inv) (omega arith)
 pub ask-elements-spec : {M : Type 1} → statement M
 ask-elements-spec =
     tie.close
-    (tie.spec
-    Inv-loop
-    μ-loop
-    all-elements-requires
-    returns
-    loop-holds
-    mul-if2
-    shared-slice-read-if2
-    returns-2
-    add-k
-    loop-less
-    loop-again
-    returns-3)
+    (tie.spec Inv-loop μ-loop all-elements-requires returns loop-holds (λ c. search needs) (λ c. search needs) returns-2 (λ c. search needs) loop-less
+        loop-again returns-3)

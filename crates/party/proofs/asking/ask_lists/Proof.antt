@@ -16,15 +16,9 @@ returns c = no-then 8 0 _ (ne-eqb _ _ (c .if1 .taken))
 ask-elements-requires : tie.Need-ask-elements-requires
 ask-elements-requires c κs = search needs
 
-enum-known-number : tie.Need-enum-known-number
-enum-known-number c = search needs
-
 returns-2 : tie.Need-returns-2
 unfolding verdictOf
 returns-2 c = yes-then 8 0 _ (eq-eqb _ _ (c .before .before .before .before .if1 .left)) (refused-then _ _ (c .before .before .before .ask-elements .ensures) (c .before .number .given .1))
-
-enum-told : tie.Need-enum-told
-enum-told c = search needs
 
 returns-3 : tie.Need-returns-3
 unfolding verdictOf
@@ -33,15 +27,9 @@ returns-3 c = yes-then 8 0 _ (eq-eqb _ _ (c .before .before .before .before .if1
 ask-elements-requires-2 : tie.Need-ask-elements-requires-2
 ask-elements-requires-2 c κs = search needs
 
-enum-known-number-2 : tie.Need-enum-known-number-2
-enum-known-number-2 c = search needs
-
 returns-4 : tie.Need-returns-4
 unfolding verdictOf
 returns-4 c = yes-then 8 0 _ (eq-eqb _ _ (c .before .before .before .before .before .before .before .before .if1 .left)) (call-then _ _ (c .before .before .before .before .before .before .before .ask-elements .ensures) (c .before .before .before .before .before .enum-told .given .1) (yes-then 10 0 _ (eq-eqb _ _ (c .before .before .before .before .if2 .left)) (refused-then _ _ (c .before .before .before .ask-elements2 .ensures) (c .before .number2 .given .1))))
-
-enum-told-2 : tie.Need-enum-told-2
-enum-told-2 c = search needs
 
 returns-5 : tie.Need-returns-5
 unfolding verdictOf
@@ -54,16 +42,5 @@ returns-6 c = yes-then 8 0 _ (eq-eqb _ _ (c .before .before .before .before .bef
 pub ask-lists-spec : {M : Type 1} → statement M
 ask-lists-spec =
     tie.close
-    (tie.spec
-    returns
-    ask-elements-requires
-    enum-known-number
-    returns-2
-    enum-told
-    returns-3
-    ask-elements-requires-2
-    enum-known-number-2
-    returns-4
-    enum-told-2
-    returns-5
-    returns-6)
+    (tie.spec returns ask-elements-requires (λ c. search needs) returns-2 (λ c. search needs) returns-3 ask-elements-requires-2 (λ c. search needs)
+        returns-4 (λ c. search needs) returns-5 returns-6)

@@ -10,15 +10,9 @@ use Rattle.party.proofs.asking.ask_party.Tie as tie
 ask-parties-requires : tie.Need-ask-parties-requires
 ask-parties-requires c κs = search needs
 
-enum-known-number : tie.Need-enum-known-number
-enum-known-number c = search needs
-
 returns : tie.Need-returns
 unfolding verdictOf
 returns c = refused-then _ _ (c .before .before .before .ask-parties .ensures) (c .before .number .given .1)
-
-enum-told : tie.Need-enum-told
-enum-told c = search needs
 
 returns-2 : tie.Need-returns-2
 unfolding verdictOf
@@ -34,11 +28,4 @@ returns-3 c = call-then _ _ (c .before .before .before .before .ask-parties .ens
 pub ask-party-spec : {M : Type 1} → statement M
 ask-party-spec =
     tie.close
-    (tie.spec
-    ask-parties-requires
-    enum-known-number
-    returns
-    enum-told
-    returns-2
-    ask-circuit-requires
-    returns-3)
+    (tie.spec ask-parties-requires (λ c. search needs) returns (λ c. search needs) returns-2 ask-circuit-requires returns-3)

@@ -11,12 +11,6 @@ use Rattle.party.proofs.asking.ask_place.Tie as tie
 ask-lent-requires : tie.Need-ask-lent-requires
 ask-lent-requires c κs = search needs
 
-enum-known-number : tie.Need-enum-known-number
-enum-known-number c = search needs
-
-enum-known-y : tie.Need-enum-known-y
-enum-known-y c = search needs
-
 can-occur-requires : tie.Need-can-occur-requires
 can-occur-requires c κs = can-asks _ _ _ _ _ (lent-to _ _ _ (c .before .before .before .ask-lent .ensures .0) (c .before .before .before .ask-lent .ensures .1) (c .before .y .given .1))
 
@@ -38,11 +32,4 @@ returns-3 c =
 pub ask-place-spec : {M : Type 1} → statement M
 ask-place-spec =
     tie.close
-    (tie.spec
-    ask-lent-requires
-    enum-known-number
-    enum-known-y
-    can-occur-requires
-    returns
-    returns-2
-    returns-3)
+    (tie.spec ask-lent-requires (λ c. search needs) (λ c. search needs) can-occur-requires returns returns-2 returns-3)

@@ -18,15 +18,9 @@ use Rattle.party.proofs.asking.ask_receive_round.Tie as tie
 ask-worked-requires : tie.Need-ask-worked-requires
 ask-worked-requires c κs = search needs
 
-enum-known-number : tie.Need-enum-known-number
-enum-known-number c = search needs
-
 returns : tie.Need-returns
 unfolding verdictOf askReceiveRound
 returns c = refused-then _ _ (c .before .before .before .ask-worked .ensures) (c .before .number .given .1)
-
-enum-told : tie.Need-enum-told
-enum-told c = search needs
 
 shape-at-requires : tie.Need-shape-at-requires
 shape-at-requires c κs = search needs
@@ -44,15 +38,9 @@ returns-2 c = call-then _ _ (c .before .before .before .before .before .ask-work
 ask-elements-requires : tie.Need-ask-elements-requires
 ask-elements-requires c κs = search needs
 
-enum-known-number-2 : tie.Need-enum-known-number-2
-enum-known-number-2 c = search needs
-
 returns-3 : tie.Need-returns-3
 unfolding verdictOf askReceiveRound
 returns-3 c = call-then _ _ (c .before .before .before .before .before .before .before .before .before .ask-worked .ensures) (c .before .before .before .before .before .before .before .enum-told .given .1) (yes-then 19 0 _ (eq-eqb _ _ (c .before .before .before .before .if1 .left ∙ (ap (λ (w : ℕ). c .before .before .before .before .before .before .before .before .before .before .before .before .before .args .parties * w) (c .before .before .before .before .before .words-in .ensures ∙ ap (λ (s : Shape). shapeWords s (roundOf (c .before .before .before .before .before .before .before .before .before .before .before .before .before .args .r))) (c .before .before .before .before .before .before .shape-at .ensures))))) (refused-then _ _ (c .before .before .before .ask-elements .ensures) (c .before .number2 .given .1)))
-
-enum-told-2 : tie.Need-enum-told-2
-enum-told-2 c = search needs
 
 is-commit-requires : tie.Need-is-commit-requires
 is-commit-requires c κs = search needs
@@ -71,20 +59,5 @@ returns-5 c = call-then _ _ (c .before .before .before .before .before .before .
 pub ask-receive-round-spec : {M : Type 1} → statement M
 ask-receive-round-spec =
     tie.close
-    (tie.spec
-    ask-worked-requires
-    enum-known-number
-    returns
-    enum-told
-    shape-at-requires
-    words-in-requires
-    mul-if1
-    returns-2
-    ask-elements-requires
-    enum-known-number-2
-    returns-3
-    enum-told-2
-    is-commit-requires
-    ask-marks-requires
-    returns-4
-    returns-5)
+    (tie.spec ask-worked-requires (λ c. search needs) returns (λ c. search needs) shape-at-requires words-in-requires mul-if1 returns-2
+        ask-elements-requires (λ c. search needs) returns-3 (λ c. search needs) is-commit-requires ask-marks-requires returns-4 returns-5)

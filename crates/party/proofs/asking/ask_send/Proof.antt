@@ -15,32 +15,8 @@ use Rattle.party.proofs.asking.ask_send.Tie as tie
 ask-place-requires : tie.Need-ask-place-requires
 ask-place-requires c κs = search needs
 
-enum-known-number : tie.Need-enum-known-number
-enum-known-number c = search needs
-
-enum-known-y : tie.Need-enum-known-y
-enum-known-y c = search needs
-
-enum-known-stage : tie.Need-enum-known-stage
-enum-known-stage c = search needs
-
 ask-send-round-requires : tie.Need-ask-send-round-requires
 ask-send-round-requires c κs = round-asks _ _ _ _ _ (round-at _ _ _ (c .before .before .before .before .before .before .ask-place .ensures .1) (c .before .before .before .before .y .given .1)) _
-
-enum-known-number-2 : tie.Need-enum-known-number-2
-enum-known-number-2 c = search needs
-
-enum-told : tie.Need-enum-told
-enum-told c = search needs
-
-enum-told-2 : tie.Need-enum-told-2
-enum-told-2 c = search needs
-
-enum-told-3 : tie.Need-enum-told-3
-enum-told-3 c = search needs
-
-enum-told-4 : tie.Need-enum-told-4
-enum-told-4 c = search needs
 
 returns : tie.Need-returns
 unfolding lentOf askedOf askSend
@@ -77,20 +53,5 @@ returns-6 c = let place = round-at _ _ _ (c .before .before .before .before .bef
 pub ask-send-spec : {M : Type 1} → statement M
 ask-send-spec =
     tie.close
-    (tie.spec
-    ask-place-requires
-    enum-known-number
-    enum-known-y
-    enum-known-stage
-    ask-send-round-requires
-    enum-known-number-2
-    enum-told
-    enum-told-2
-    enum-told-3
-    enum-told-4
-    returns
-    returns-2
-    returns-3
-    returns-4
-    returns-5
-    returns-6)
+    (tie.spec ask-place-requires (λ c. search needs) (λ c. search needs) (λ c. search needs) ask-send-round-requires (λ c. search needs)
+        (λ c. search needs) (λ c. search needs) (λ c. search needs) (λ c. search needs) returns returns-2 returns-3 returns-4 returns-5 returns-6)

@@ -16,15 +16,9 @@ use Rattle.party.proofs.asking.ask_send_round.Tie as tie
 ask-worked-requires : tie.Need-ask-worked-requires
 ask-worked-requires c κs = search needs
 
-enum-known-number : tie.Need-enum-known-number
-enum-known-number c = search needs
-
 returns : tie.Need-returns
 unfolding verdictOf askSendRound
 returns c = refused-then _ _ (c .before .before .before .ask-worked .ensures) (c .before .number .given .1)
-
-enum-told : tie.Need-enum-told
-enum-told c = search needs
 
 coefficients-in-requires : tie.Need-coefficients-in-requires
 coefficients-in-requires c κs = search needs
@@ -36,15 +30,9 @@ returns-2 c = call-then _ _ (c .before .before .before .before .ask-worked .ensu
 ask-elements-requires : tie.Need-ask-elements-requires
 ask-elements-requires c κs = search needs
 
-enum-known-number-2 : tie.Need-enum-known-number-2
-enum-known-number-2 c = search needs
-
 returns-3 : tie.Need-returns-3
 unfolding verdictOf askSendRound
 returns-3 c = call-then _ _ (c .before .before .before .before .before .before .before .before .ask-worked .ensures) (c .before .before .before .before .before .before .enum-told .given .1) (yes-then 16 0 _ (eq-eqb _ _ (c .before .before .before .before .if1 .left ∙ (c .before .before .before .before .before .coefficients-in .ensures ∙ ap (λ (u : ℕ). coefficientsIn u (roundOf (c .before .before .before .before .before .before .before .before .before .before .before .before .args .r))) (c .before .before .before .before .before .before .before .before .before .before .before .before .pre .waiting)))) (refused-then _ _ (c .before .before .before .ask-elements .ensures) (c .before .number2 .given .1)))
-
-enum-told-2 : tie.Need-enum-told-2
-enum-told-2 c = search needs
 
 shape-at-requires : tie.Need-shape-at-requires
 shape-at-requires c κs = search needs
@@ -63,18 +51,5 @@ returns-5 c = call-then _ _ (c .before .before .before .before .before .before .
 pub ask-send-round-spec : {M : Type 1} → statement M
 ask-send-round-spec =
     tie.close
-    (tie.spec
-    ask-worked-requires
-    enum-known-number
-    returns
-    enum-told
-    coefficients-in-requires
-    returns-2
-    ask-elements-requires
-    enum-known-number-2
-    returns-3
-    enum-told-2
-    shape-at-requires
-    words-in-requires
-    returns-4
-    returns-5)
+    (tie.spec ask-worked-requires (λ c. search needs) returns (λ c. search needs) coefficients-in-requires returns-2 ask-elements-requires
+        (λ c. search needs) returns-3 (λ c. search needs) shape-at-requires words-in-requires returns-4 returns-5)

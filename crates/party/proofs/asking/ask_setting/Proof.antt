@@ -9,15 +9,9 @@ use Rattle.party.proofs.asking.ask_setting.Tie as tie
 ask-parties-requires : tie.Need-ask-parties-requires
 ask-parties-requires c κs = search needs
 
-enum-known-number : tie.Need-enum-known-number
-enum-known-number c = search needs
-
 returns : tie.Need-returns
 unfolding verdictOf
 returns c = refused-then _ _ (c .before .before .before .ask-parties .ensures) (c .before .number .given .1)
-
-enum-told : tie.Need-enum-told
-enum-told c = search needs
 
 ask-circuit-requires : tie.Need-ask-circuit-requires
 ask-circuit-requires c κs = search needs
@@ -29,4 +23,4 @@ returns-2 c = call-then _ _ (c .before .before .before .ask-parties .ensures) (c
 pub ask-setting-spec : {M : Type 1} → statement M
 ask-setting-spec =
     tie.close
-    (tie.spec ask-parties-requires enum-known-number returns enum-told ask-circuit-requires returns-2)
+    (tie.spec ask-parties-requires (λ c. search needs) returns (λ c. search needs) ask-circuit-requires returns-2)

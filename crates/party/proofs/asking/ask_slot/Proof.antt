@@ -49,12 +49,4 @@ returns-3 c = unwanted _ _ _ _ _ (sym (c .before .is-wanted .ensures) ∙ c .if2
 pub ask-slot-spec : {M : Type 1} → statement M
 ask-slot-spec =
     tie.close
-    (tie.spec
-    slot-at-requires
-    offset-of-requires
-    mul-if1
-    shared-slice-read-if1
-    returns
-    is-wanted-requires
-    returns-2
-    returns-3)
+    (tie.spec slot-at-requires offset-of-requires mul-if1 shared-slice-read-if1 returns is-wanted-requires returns-2 returns-3)

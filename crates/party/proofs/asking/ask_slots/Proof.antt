@@ -24,18 +24,9 @@ loop-holds c = asking-starts _ _
 ask-slot-requires : tie.Need-ask-slot-requires Inv-loop μ-loop
 ask-slot-requires c κs = (c .before .before .before .before .pre .0, c .before .before .before .before .pre .1 _ (omega arith))
 
-enum-known-number : tie.Need-enum-known-number Inv-loop μ-loop
-enum-known-number c = search needs
-
 returns : tie.Need-returns Inv-loop μ-loop
 unfolding verdictOf askSlots
 returns c = asking-refuses _ _ _ (c .before .before .before .before .before .loop .inv) (omega arith) (sym (c .before .before .before .ask-slot .ensures) ∙ ap verdictOf (c .before .number .given .1))
-
-enum-told : tie.Need-enum-told Inv-loop μ-loop
-enum-told c = search needs
-
-add-t : tie.Need-add-t Inv-loop μ-loop
-add-t c = search needs
 
 loop-less : tie.Need-loop-less Inv-loop μ-loop
 loop-less c = search needs
@@ -51,15 +42,5 @@ returns-2 c = asking-ends _ _ _ (c .before .loop .inv) (omega arith)
 pub ask-slots-spec : {M : Type 1} → statement M
 ask-slots-spec =
     tie.close
-    (tie.spec
-    Inv-loop
-    μ-loop
-    loop-holds
-    ask-slot-requires
-    enum-known-number
-    returns
-    enum-told
-    add-t
-    loop-less
-    loop-again
-    returns-2)
+    (tie.spec Inv-loop μ-loop loop-holds ask-slot-requires (λ c. search needs) returns (λ c. search needs) (λ c. search needs) loop-less loop-again
+        returns-2)

@@ -20,43 +20,25 @@ ask-slots-requires : tie.Need-ask-slots-requires
 unfolding sortOf layout
 ask-slots-requires c κs = (c .before .before .before .pre .laid, λ t h. omega (arith, c .before .before .before .pre .within))
 
-enum-known-number : tie.Need-enum-known-number
-enum-known-number c = search needs
-
 returns : tie.Need-returns
 unfolding verdictOf askWorked wantedOf sortOf
 returns c = refused-then _ _ (c .before .before .before .ask-slots .ensures) (c .before .number .given .1)
-
-enum-told : tie.Need-enum-told
-enum-told c = search needs
 
 ask-slots-requires-2 : tie.Need-ask-slots-requires-2
 unfolding sortOf layout
 ask-slots-requires-2 c κs = (c .before .before .before .before .before .before .pre .laid, λ t h. omega (arith, c .before .before .before .before .before .before .pre .within))
 
-enum-known-number-2 : tie.Need-enum-known-number-2
-enum-known-number-2 c = search needs
-
 returns-2 : tie.Need-returns-2
 unfolding verdictOf askWorked wantedOf sortOf
 returns-2 c = call-then _ _ (c .before .before .before .before .before .before .ask-slots .ensures) (c .before .before .before .before .enum-told .given .1) (refused-then _ _ (c .before .before .before .ask-slots2 .ensures) (c .before .number2 .given .1))
-
-enum-told-2 : tie.Need-enum-told-2
-enum-told-2 c = search needs
 
 ask-slots-requires-3 : tie.Need-ask-slots-requires-3
 unfolding sortOf layout
 ask-slots-requires-3 c κs = (c .before .before .before .before .before .before .before .before .before .pre .laid, λ t h. omega (arith, c .before .before .before .before .before .before .before .before .before .pre .fits, (c .before .before .before .before .before .before .opened-in .ensures ∙ ap (λ (u : ℕ). openedIn u (roundOf (c .before .before .before .before .before .before .before .before .before .args .r))) (c .before .before .before .before .before .before .before .before .before .pre .waiting))))
 
-enum-known-number-3 : tie.Need-enum-known-number-3
-enum-known-number-3 c = search needs
-
 returns-3 : tie.Need-returns-3
 unfolding verdictOf askWorked wantedOf sortOf
 returns-3 c = call-then _ _ (c .before .before .before .before .before .before .before .before .before .ask-slots .ensures) (c .before .before .before .before .before .before .before .enum-told .given .1) (call-then _ _ (c .before .before .before .before .before .before .ask-slots2 .ensures) (c .before .before .before .before .enum-told2 .given .1) (refused-then _ _ (rw (c .before .before .before .before .before .before .before .before .before .before .opened-in .ensures ∙ ap (λ (u : ℕ). openedIn u (roundOf (c .before .before .before .before .before .before .before .before .before .before .before .before .before .args .r))) (c .before .before .before .before .before .before .before .before .before .before .before .before .before .pre .waiting)) at (c .before .before .before .ask-slots3 .ensures)) (c .before .number3 .given .1)))
-
-enum-told-3 : tie.Need-enum-told-3
-enum-told-3 c = search needs
 
 ask-slots-requires-4 : tie.Need-ask-slots-requires-4
 unfolding sortOf layout
@@ -69,19 +51,5 @@ returns-4 c = call-then _ _ (c .before .before .before .before .before .before .
 pub ask-worked-spec : {M : Type 1} → statement M
 ask-worked-spec =
     tie.close
-    (tie.spec
-    opened-in-requires
-    ask-slots-requires
-    enum-known-number
-    returns
-    enum-told
-    ask-slots-requires-2
-    enum-known-number-2
-    returns-2
-    enum-told-2
-    ask-slots-requires-3
-    enum-known-number-3
-    returns-3
-    enum-told-3
-    ask-slots-requires-4
-    returns-4)
+    (tie.spec opened-in-requires ask-slots-requires (λ c. search needs) returns (λ c. search needs) ask-slots-requires-2 (λ c. search needs) returns-2
+        (λ c. search needs) ask-slots-requires-3 (λ c. search needs) returns-3 (λ c. search needs) ask-slots-requires-4 returns-4)

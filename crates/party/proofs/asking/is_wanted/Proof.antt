@@ -10,9 +10,6 @@ use borrow.Author.Needs.{needs}
 use Rattle.party.proofs.asking.is_wanted.Statement.{statement}
 use Rattle.party.proofs.asking.is_wanted.Tie as tie
 
-enum-told : tie.Need-enum-told
-enum-told c = search needs
-
 class-at-requires : tie.Need-class-at-requires
 unfolding sortOf layout
 class-at-requires c κs = omega (arith, c .before .before .before .pre .0, (rw (c .enum-told .given .1) at (c .before .before .before .pre .1)))
@@ -20,21 +17,12 @@ class-at-requires c κs = omega (arith, c .before .before .before .pre .0, (rw (
 is-out-requires : tie.Need-is-out-requires
 is-out-requires c κs = search needs
 
-enum-told-2 : tie.Need-enum-told-2
-enum-told-2 c = search needs
-
 class-at-requires-2 : tie.Need-class-at-requires-2
 unfolding sortOf layout
 class-at-requires-2 c κs = omega (arith, c .before .before .before .pre .0, (rw (c .enum-told2 .given .1) at (c .before .before .before .pre .1)))
 
 is-out-requires-2 : tie.Need-is-out-requires-2
 is-out-requires-2 c κs = search needs
-
-enum-told-3 : tie.Need-enum-told-3
-enum-told-3 c = search needs
-
-enum-told-4 : tie.Need-enum-told-4
-enum-told-4 c = search needs
 
 returns : tie.Need-returns
 unfolding wantedOf sortOf
@@ -55,16 +43,5 @@ returns-4 c = rw (c .enum-told4 .given .1)
 pub is-wanted-spec : {M : Type 1} → statement M
 is-wanted-spec =
     tie.close
-    (tie.spec
-    enum-told
-    class-at-requires
-    is-out-requires
-    enum-told-2
-    class-at-requires-2
-    is-out-requires-2
-    enum-told-3
-    enum-told-4
-    returns
-    returns-2
-    returns-3
-    returns-4)
+    (tie.spec (λ c. search needs) class-at-requires is-out-requires (λ c. search needs) class-at-requires-2 is-out-requires-2 (λ c. search needs)
+        (λ c. search needs) returns returns-2 returns-3 returns-4)

@@ -12,26 +12,11 @@ use Rattle.party.proofs.asking.stage_occurs.Tie as tie
 class-at-requires : tie.Need-class-at-requires
 class-at-requires c κs = search needs
 
-enum-known-stage : tie.Need-enum-known-stage
-enum-known-stage c = search needs
-
 has-round-requires : tie.Need-has-round-requires
 has-round-requires c κs = search needs
 
-enum-known-stage-2 : tie.Need-enum-known-stage-2
-enum-known-stage-2 c = search needs
-
 has-round-requires-2 : tie.Need-has-round-requires-2
 has-round-requires-2 c κs = search needs
-
-enum-told : tie.Need-enum-told
-enum-told c = search needs
-
-add-result : tie.Need-add-result
-add-result c = search needs
-
-enum-told-2 : tie.Need-enum-told-2
-enum-told-2 c = search needs
 
 has-round-requires-3 : tie.Need-has-round-requires-3
 has-round-requires-3 c κs = search needs
@@ -55,17 +40,5 @@ returns-4 c = rw (c .before .enum-told2 .given .1) (round-occurs _ _ _ (c .befor
 pub stage-occurs-spec : {M : Type 1} → statement M
 stage-occurs-spec =
     tie.close
-    (tie.spec
-    class-at-requires
-    enum-known-stage
-    has-round-requires
-    enum-known-stage-2
-    has-round-requires-2
-    enum-told
-    add-result
-    enum-told-2
-    has-round-requires-3
-    returns
-    returns-2
-    returns-3
-    returns-4)
+    (tie.spec class-at-requires (λ c. search needs) has-round-requires (λ c. search needs) has-round-requires-2 (λ c. search needs)
+        (λ c. search needs) (λ c. search needs) has-round-requires-3 returns returns-2 returns-3 returns-4)

@@ -20,18 +20,12 @@ loop-holds : tie.Need-loop-holds Inv-loop μ-loop
 unfolding entryNamed
 loop-holds c = refl
 
-slice-aggregate-spell-nth : tie.Need-slice-aggregate-spell-nth Inv-loop μ-loop
-slice-aggregate-spell-nth c = search needs
-
 spell-nth-requires : tie.Need-spell-nth-requires Inv-loop μ-loop
 spell-nth-requires c κs = search needs
 
 returns : tie.Need-returns Inv-loop μ-loop
 unfolding bytes entryName spelled
 returns c = first-here (λ entry. alike (c .before .before .before .before .before .before .args .word .now) (entryName entry)) _ _ _ (c .before .before .before .loop-test .taken) (sym (c .before .spell-nth .ensures) ∙ c .if1 .taken) ∙ c .before .before .before .before .loop .inv
-
-add-entry : tie.Need-add-entry Inv-loop μ-loop
-add-entry c = search needs
 
 loop-less : tie.Need-loop-less Inv-loop μ-loop
 loop-less c = search needs
@@ -46,14 +40,4 @@ returns-2 c = first-none (λ entry. alike (c .before .before .before .args .word
 pub entry-named-spec : {M : Type 1} → statement M
 entry-named-spec =
     tie.close
-    (tie.spec
-    Inv-loop
-    μ-loop
-    loop-holds
-    slice-aggregate-spell-nth
-    spell-nth-requires
-    returns
-    add-entry
-    loop-less
-    loop-again
-    returns-2)
+    (tie.spec Inv-loop μ-loop loop-holds (λ c. search needs) spell-nth-requires returns (λ c. search needs) loop-less loop-again returns-2)

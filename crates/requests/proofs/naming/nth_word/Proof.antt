@@ -26,9 +26,6 @@ loop-holds c = (c .word-from .ensures, omega arith)
 word-from-requires-2 : tie.Need-word-from-requires-2 Inv-loop μ-loop
 word-from-requires-2 c κs = c .before .loop .inv .0 .inside
 
-add-i : tie.Need-add-i Inv-loop μ-loop
-add-i c = search needs
-
 loop-less : tie.Need-loop-less Inv-loop μ-loop
 loop-less c = search needs
 
@@ -41,13 +38,4 @@ returns c = let same : c .before .loop .i ≡ c .before .before .before .before 
 pub nth-word-spec : {M : Type 1} → statement M
 nth-word-spec =
     tie.close
-    (tie.spec
-    Inv-loop
-    μ-loop
-    word-from-requires
-    loop-holds
-    word-from-requires-2
-    add-i
-    loop-less
-    loop-again
-    returns)
+    (tie.spec Inv-loop μ-loop word-from-requires loop-holds word-from-requires-2 (λ c. search needs) loop-less loop-again returns)

@@ -6,18 +6,12 @@ use borrow.Author.Needs.{needs}
 use Rattle.requests.proofs.naming.spell_field.Statement.{statement}
 use Rattle.requests.proofs.naming.spell_field.Tie as tie
 
-slice-aggregate-spell-nth : tie.Need-slice-aggregate-spell-nth
-slice-aggregate-spell-nth c = search needs
-
 spell-nth-requires : tie.Need-spell-nth-requires
 spell-nth-requires c κs = search needs
 
 returns : tie.Need-returns
 unfolding bytes row fieldName
 returns c = rw (eq-eqb (c .before .before .before .before .args .entry) opening (c .before .before .if1 .taken)) (c .spell-nth .ensures)
-
-slice-aggregate-spell-nth-2 : tie.Need-slice-aggregate-spell-nth-2
-slice-aggregate-spell-nth-2 c = search needs
 
 spell-nth-requires-2 : tie.Need-spell-nth-requires-2
 spell-nth-requires-2 c κs = search needs
@@ -26,18 +20,12 @@ returns-2 : tie.Need-returns-2
 unfolding bytes row fieldName
 returns-2 c = rw (ne-eqb (c .before .before .before .before .before .args .entry) opening (c .before .before .before .if1 .left), eq-eqb (c .before .before .before .before .before .args .entry) sending (c .before .before .if2 .taken)) (c .spell-nth2 .ensures)
 
-slice-aggregate-spell-nth-3 : tie.Need-slice-aggregate-spell-nth-3
-slice-aggregate-spell-nth-3 c = search needs
-
 spell-nth-requires-3 : tie.Need-spell-nth-requires-3
 spell-nth-requires-3 c κs = search needs
 
 returns-3 : tie.Need-returns-3
 unfolding bytes row fieldName
 returns-3 c = rw (ne-eqb (c .before .before .before .before .before .before .args .entry) opening (c .before .before .before .before .if1 .left), ne-eqb (c .before .before .before .before .before .before .args .entry) sending (c .before .before .before .if2 .left), eq-eqb (c .before .before .before .before .before .before .args .entry) receiving (c .before .before .if3 .taken)) (c .spell-nth3 .ensures)
-
-slice-aggregate-spell-nth-4 : tie.Need-slice-aggregate-spell-nth-4
-slice-aggregate-spell-nth-4 c = search needs
 
 spell-nth-requires-4 : tie.Need-spell-nth-requires-4
 spell-nth-requires-4 c κs = search needs
@@ -49,16 +37,5 @@ returns-4 c = rw (ne-eqb (c .before .before .before .before .before .before .arg
 pub spell-field-spec : {M : Type 1} → statement M
 spell-field-spec =
     tie.close
-    (tie.spec
-    slice-aggregate-spell-nth
-    spell-nth-requires
-    returns
-    slice-aggregate-spell-nth-2
-    spell-nth-requires-2
-    returns-2
-    slice-aggregate-spell-nth-3
-    spell-nth-requires-3
-    returns-3
-    slice-aggregate-spell-nth-4
-    spell-nth-requires-4
-    returns-4)
+    (tie.spec (λ c. search needs) spell-nth-requires returns (λ c. search needs) spell-nth-requires-2 returns-2 (λ c. search needs)
+        spell-nth-requires-3 returns-3 (λ c. search needs) spell-nth-requires-4 returns-4)

@@ -31,15 +31,6 @@ same-requires c κs = search needs
 returns-3 : tie.Need-returns-3
 returns-3 c = half-other (roundName (c .before .before .before .before .before .before .before .args .r)) (c .before .before .before .before .before .before .before .args .word .now) (c .before .before .before .before .before .before .before .args .half .now) (c .before .before .before .before .if1 .left) (c .before .same .ensures) (c .if3 .taken)
 
-sub-spell-round : tie.Need-sub-spell-round
-sub-spell-round c = search needs
-
-part-spell-round-start : tie.Need-part-spell-round-start
-part-spell-round-start c = search needs
-
-part-spell-round-end : tie.Need-part-spell-round-end
-part-spell-round-end c = search needs
-
 spell-round-requires-2 : tie.Need-spell-round-requires-2
 spell-round-requires-2 c κs = search needs
 
@@ -49,16 +40,5 @@ returns-4 c = half-same (roundName (c .before .before .before .before .before .b
 pub spell-half-spec : {M : Type 1} → statement M
 spell-half-spec =
     tie.close
-    (tie.spec
-    print-requires
-    spell-round-requires
-    returns
-    returns-2
-    slice-aggregate-same
-    same-requires
-    returns-3
-    sub-spell-round
-    part-spell-round-start
-    part-spell-round-end
-    spell-round-requires-2
-    returns-4)
+    (tie.spec print-requires spell-round-requires returns returns-2 slice-aggregate-same same-requires returns-3 (λ c. search needs)
+        (λ c. search needs) (λ c. search needs) spell-round-requires-2 returns-4)

@@ -10,15 +10,6 @@ use Rattle.requests.proofs.naming.spell_nth.Tie as tie
 nth-word-requires : tie.Need-nth-word-requires
 nth-word-requires c κs = search needs
 
-sub-spell : tie.Need-sub-spell
-sub-spell c = search needs
-
-part-spell-start : tie.Need-part-spell-start
-part-spell-start c = search needs
-
-part-spell-end : tie.Need-part-spell-end
-part-spell-end c = search needs
-
 spell-requires : tie.Need-spell-requires
 spell-requires c κs = search needs
 
@@ -28,4 +19,4 @@ returns c = c .spell .ensures ∙ ap (spelled _ _) (nth-text _ (c .before .befor
 pub spell-nth-spec : {M : Type 1} → statement M
 spell-nth-spec =
     tie.close
-    (tie.spec nth-word-requires sub-spell part-spell-start part-spell-end spell-requires returns)
+    (tie.spec nth-word-requires (λ c. search needs) (λ c. search needs) (λ c. search needs) spell-requires returns)

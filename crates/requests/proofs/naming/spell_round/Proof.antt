@@ -5,62 +5,20 @@ use Rattle.requests.specs.Names.{bytes, roundName}
 use Rattle.requests.proofs.naming.spell_round.Statement.{statement}
 use Rattle.requests.proofs.naming.spell_round.Tie as tie
 
-enum-told : tie.Need-enum-told
-enum-told c = search needs
-
-slice-aggregate-spell : tie.Need-slice-aggregate-spell
-slice-aggregate-spell c = search needs
-
 spell-requires : tie.Need-spell-requires
 spell-requires c κs = search needs
-
-enum-told-2 : tie.Need-enum-told-2
-enum-told-2 c = search needs
-
-slice-aggregate-spell-2 : tie.Need-slice-aggregate-spell-2
-slice-aggregate-spell-2 c = search needs
 
 spell-requires-2 : tie.Need-spell-requires-2
 spell-requires-2 c κs = search needs
 
-enum-known-r : tie.Need-enum-known-r
-enum-known-r c = search needs
-
-enum-told-3 : tie.Need-enum-told-3
-enum-told-3 c = search needs
-
-slice-aggregate-spell-3 : tie.Need-slice-aggregate-spell-3
-slice-aggregate-spell-3 c = search needs
-
 spell-requires-3 : tie.Need-spell-requires-3
 spell-requires-3 c κs = search needs
-
-enum-told-4 : tie.Need-enum-told-4
-enum-told-4 c = search needs
-
-slice-aggregate-spell-4 : tie.Need-slice-aggregate-spell-4
-slice-aggregate-spell-4 c = search needs
 
 spell-requires-4 : tie.Need-spell-requires-4
 spell-requires-4 c κs = search needs
 
-enum-known-r-2 : tie.Need-enum-known-r-2
-enum-known-r-2 c = search needs
-
-enum-told-5 : tie.Need-enum-told-5
-enum-told-5 c = search needs
-
-slice-aggregate-spell-5 : tie.Need-slice-aggregate-spell-5
-slice-aggregate-spell-5 c = search needs
-
 spell-requires-5 : tie.Need-spell-requires-5
 spell-requires-5 c κs = search needs
-
-enum-told-6 : tie.Need-enum-told-6
-enum-told-6 c = search needs
-
-slice-aggregate-spell-6 : tie.Need-slice-aggregate-spell-6
-slice-aggregate-spell-6 c = search needs
 
 spell-requires-6 : tie.Need-spell-requires-6
 spell-requires-6 c κs = search needs
@@ -92,30 +50,7 @@ returns-6 c = rw (c .before .before .before .before .before .r2 .given .1, c .be
 pub spell-round-spec : {M : Type 1} → statement M
 spell-round-spec =
     tie.close
-    (tie.spec
-    enum-told
-    slice-aggregate-spell
-    spell-requires
-    enum-told-2
-    slice-aggregate-spell-2
-    spell-requires-2
-    enum-known-r
-    enum-told-3
-    slice-aggregate-spell-3
-    spell-requires-3
-    enum-told-4
-    slice-aggregate-spell-4
-    spell-requires-4
-    enum-known-r-2
-    enum-told-5
-    slice-aggregate-spell-5
-    spell-requires-5
-    enum-told-6
-    slice-aggregate-spell-6
-    spell-requires-6
-    returns
-    returns-2
-    returns-3
-    returns-4
-    returns-5
-    returns-6)
+    (tie.spec (λ c. search needs) (λ c. search needs) spell-requires (λ c. search needs) (λ c. search needs) spell-requires-2 (λ c. search needs)
+        (λ c. search needs) (λ c. search needs) spell-requires-3 (λ c. search needs) (λ c. search needs) spell-requires-4 (λ c. search needs)
+        (λ c. search needs) (λ c. search needs) spell-requires-5 (λ c. search needs) (λ c. search needs) spell-requires-6 returns returns-2 returns-3
+        returns-4 returns-5 returns-6)

@@ -5,38 +5,14 @@ use borrow.Author.Needs.{needs}
 use Rattle.requests.proofs.naming.spell_stage.Statement.{statement}
 use Rattle.requests.proofs.naming.spell_stage.Tie as tie
 
-enum-known-stage : tie.Need-enum-known-stage
-enum-known-stage c = search needs
-
-slice-aggregate-spell-half : tie.Need-slice-aggregate-spell-half
-slice-aggregate-spell-half c = search needs
-
 spell-half-requires : tie.Need-spell-half-requires
 spell-half-requires c κs = search needs
-
-enum-known-stage-2 : tie.Need-enum-known-stage-2
-enum-known-stage-2 c = search needs
-
-slice-aggregate-spell-half-2 : tie.Need-slice-aggregate-spell-half-2
-slice-aggregate-spell-half-2 c = search needs
 
 spell-half-requires-2 : tie.Need-spell-half-requires-2
 spell-half-requires-2 c κs = search needs
 
-enum-told : tie.Need-enum-told
-enum-told c = search needs
-
-slice-aggregate-spell : tie.Need-slice-aggregate-spell
-slice-aggregate-spell c = search needs
-
 spell-requires : tie.Need-spell-requires
 spell-requires c κs = search needs
-
-enum-told-2 : tie.Need-enum-told-2
-enum-told-2 c = search needs
-
-slice-aggregate-spell-2 : tie.Need-slice-aggregate-spell-2
-slice-aggregate-spell-2 c = search needs
 
 spell-requires-2 : tie.Need-spell-requires-2
 spell-requires-2 c κs = search needs
@@ -60,20 +36,6 @@ returns-4 c = rw (c .before .before .enum-told2 .given .1) (c .spell2 .ensures)
 pub spell-stage-spec : {M : Type 1} → statement M
 spell-stage-spec =
     tie.close
-    (tie.spec
-    enum-known-stage
-    slice-aggregate-spell-half
-    spell-half-requires
-    enum-known-stage-2
-    slice-aggregate-spell-half-2
-    spell-half-requires-2
-    enum-told
-    slice-aggregate-spell
-    spell-requires
-    enum-told-2
-    slice-aggregate-spell-2
-    spell-requires-2
-    returns
-    returns-2
-    returns-3
-    returns-4)
+    (tie.spec (λ c. search needs) (λ c. search needs) spell-half-requires (λ c. search needs) (λ c. search needs) spell-half-requires-2
+        (λ c. search needs) (λ c. search needs) spell-requires (λ c. search needs) (λ c. search needs) spell-requires-2 returns returns-2 returns-3
+        returns-4)

@@ -36,13 +36,5 @@ returns c = rw (c .try-round6 .ensures, c .before .try-round5 .ensures, c .befor
 pub stage-named-spec : {M : Type 1} → statement M
 stage-named-spec =
     tie.close
-    (tie.spec
-    try-stage-requires
-    try-stage-requires-2
-    try-round-requires
-    try-round-requires-2
-    try-round-requires-3
-    try-round-requires-4
-    try-round-requires-5
-    try-round-requires-6
-    returns)
+    (tie.spec try-stage-requires try-stage-requires-2 try-round-requires try-round-requires-2 try-round-requires-3 try-round-requires-4
+        try-round-requires-5 try-round-requires-6 returns)

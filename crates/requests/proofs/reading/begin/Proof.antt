@@ -8,9 +8,6 @@ use Rattle.requests.proofs.reading.begin.Tie as tie
 complain-wanted-requires : tie.Need-complain-wanted-requires
 complain-wanted-requires c κs = search needs
 
-slice-aggregate-complain : tie.Need-slice-aggregate-complain
-slice-aggregate-complain c = search needs
-
 complain-requires : tie.Need-complain-requires
 complain-requires c κs = search needs
 
@@ -29,11 +26,4 @@ returns-2 c = begun-bare _ (c .before .before .before .before .args .bare) _ (c 
 pub begin-spec : {M : Type 1} → statement M
 begin-spec =
     tie.close
-    (tie.spec
-    complain-wanted-requires
-    slice-aggregate-complain
-    complain-requires
-    dropped-requires
-    returns
-    started-requires
-    returns-2)
+    (tie.spec complain-wanted-requires (λ c. search needs) complain-requires dropped-requires returns started-requires returns-2)

@@ -6,29 +6,11 @@ use borrow.Author.Needs.{needs}
 use Rattle.requests.proofs.reading.one_number.Statement.{statement}
 use Rattle.requests.proofs.reading.one_number.Tie as tie
 
-slice-aggregate-read-numbers : tie.Need-slice-aggregate-read-numbers
-slice-aggregate-read-numbers c = search needs
-
 read-numbers-requires : tie.Need-read-numbers-requires
 read-numbers-requires c κs = search needs
 
-enum-known-read : tie.Need-enum-known-read
-enum-known-read c = search needs
-
-array-read-t11 : tie.Need-array-read-t11
-array-read-t11 c = search needs
-
 returns : tie.Need-returns
 returns c = one-number _ (c .before .before .before .before .before .read-numbers .ensures .0) (c .before .before .before .before .before .read-numbers .ensures .1) (c .before .before .read .given .1) (c .if1 .taken)
-
-enum-told : tie.Need-enum-told
-enum-told c = search needs
-
-enum-told-2 : tie.Need-enum-told-2
-enum-told-2 c = search needs
-
-enum-told-3 : tie.Need-enum-told-3
-enum-told-3 c = search needs
 
 returns-2 : tie.Need-returns-2
 returns-2 c = not-one _ (c .before .before .before .before .before .read-numbers .ensures .0) (c .before .before .read .given .1) (c .if1 .left)
@@ -48,16 +30,5 @@ returns-5 c = faulty _ (c .before .before .before .read-numbers .ensures .0) (ap
 pub one-number-spec : {M : Type 1} → statement M
 one-number-spec =
     tie.close
-    (tie.spec
-    slice-aggregate-read-numbers
-    read-numbers-requires
-    enum-known-read
-    array-read-t11
-    returns
-    enum-told
-    enum-told-2
-    enum-told-3
-    returns-2
-    returns-3
-    returns-4
-    returns-5)
+    (tie.spec (λ c. search needs) read-numbers-requires (λ c. search needs) (λ c. search needs) returns (λ c. search needs) (λ c. search needs)
+        (λ c. search needs) returns-2 returns-3 returns-4 returns-5)

@@ -5,27 +5,6 @@ use borrow.Author.Needs.{needs}
 use Rattle.requests.proofs.reading.position_of.Statement.{statement}
 use Rattle.requests.proofs.reading.position_of.Tie as tie
 
-enum-known-gate : tie.Need-enum-known-gate
-enum-known-gate c = search needs
-
-enum-known-stage : tie.Need-enum-known-stage
-enum-known-stage c = search needs
-
-enum-known-held : tie.Need-enum-known-held
-enum-known-held c = search needs
-
-cast-t10 : tie.Need-cast-t10
-cast-t10 c = search needs
-
-enum-told : tie.Need-enum-told
-enum-told c = search needs
-
-enum-told-2 : tie.Need-enum-told-2
-enum-told-2 c = search needs
-
-enum-told-3 : tie.Need-enum-told-3
-enum-told-3 c = search needs
-
 returns : tie.Need-returns
 unfolding placed
 returns c = rw (c .before .before .before .before .before .before .before .gate .given .1, c .before .before .before .before .stage .given .1, c .before .held .given .1)
@@ -45,15 +24,5 @@ returns-4 c = rw (c .enum-told3 .given .1)
 pub position-of-spec : {M : Type 1} → statement M
 position-of-spec =
     tie.close
-    (tie.spec
-    enum-known-gate
-    enum-known-stage
-    enum-known-held
-    cast-t10
-    enum-told
-    enum-told-2
-    enum-told-3
-    returns
-    returns-2
-    returns-3
-    returns-4)
+    (tie.spec (λ c. search needs) (λ c. search needs) (λ c. search needs) (λ c. search needs) (λ c. search needs) (λ c. search needs)
+        (λ c. search needs) returns returns-2 returns-3 returns-4)

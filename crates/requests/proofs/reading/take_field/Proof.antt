@@ -35,13 +35,5 @@ returns-3 c = field-wanted _ _ _ _ (c .before .before .before .if1 .left) (c .be
 pub take-field-spec : {M : Type 1} → statement M
 take-field-spec =
     tie.close
-    (tie.spec
-    goes-requires
-    returns
-    spell-field-requires
-    complain-wanted-requires
-    dropped-requires
-    goes-requires-2
-    returns-2
-    take-wanted-requires
-    returns-3)
+    (tie.spec goes-requires returns spell-field-requires complain-wanted-requires dropped-requires goes-requires-2 returns-2 take-wanted-requires
+        returns-3)

@@ -8,17 +8,11 @@ use Rattle.requests.proofs.reading.take_number.Tie as tie
 one-number-requires : tie.Need-one-number-requires
 one-number-requires c κs = search needs
 
-enum-known-n : tie.Need-enum-known-n
-enum-known-n c = search needs
-
 with-number-requires : tie.Need-with-number-requires
 with-number-requires c κs = search needs
 
 moved-on-requires : tie.Need-moved-on-requires
 moved-on-requires c κs = search needs
-
-enum-known-read : tie.Need-enum-known-read
-enum-known-read c = search needs
 
 complain-one-requires : tie.Need-complain-one-requires
 complain-one-requires c κs = search needs
@@ -35,13 +29,5 @@ returns-2 c = number-refused _ _ (c .before .before .before .before .before .one
 pub take-number-spec : {M : Type 1} → statement M
 take-number-spec =
     tie.close
-    (tie.spec
-    one-number-requires
-    enum-known-n
-    with-number-requires
-    moved-on-requires
-    enum-known-read
-    complain-one-requires
-    dropped-requires
-    returns
-    returns-2)
+    (tie.spec one-number-requires (λ c. search needs) with-number-requires moved-on-requires (λ c. search needs) complain-one-requires
+        dropped-requires returns returns-2)

@@ -8,20 +8,11 @@ use Rattle.requests.proofs.reading.take_position.Tie as tie
 position-in-requires : tie.Need-position-in-requires
 position-in-requires c κs = search needs
 
-enum-known-at : tie.Need-enum-known-at
-enum-known-at c = search needs
-
 with-position-requires : tie.Need-with-position-requires
 with-position-requires c κs = search needs
 
 moved-on-requires : tie.Need-moved-on-requires
 moved-on-requires c κs = search needs
-
-enum-told : tie.Need-enum-told
-enum-told c = search needs
-
-slice-aggregate-complain : tie.Need-slice-aggregate-complain
-slice-aggregate-complain c = search needs
 
 complain-requires : tie.Need-complain-requires
 complain-requires c κs = search needs
@@ -38,14 +29,5 @@ returns-2 c = position-refused _ _ (c .before .before .before .before .before .p
 pub take-position-spec : {M : Type 1} → statement M
 take-position-spec =
     tie.close
-    (tie.spec
-    position-in-requires
-    enum-known-at
-    with-position-requires
-    moved-on-requires
-    enum-told
-    slice-aggregate-complain
-    complain-requires
-    dropped-requires
-    returns
-    returns-2)
+    (tie.spec position-in-requires (λ c. search needs) with-position-requires moved-on-requires (λ c. search needs) (λ c. search needs)
+        complain-requires dropped-requires returns returns-2)

@@ -29,11 +29,4 @@ returns-3 c = list-wanted _ _ _ (c .before .if1 .left) (c .if2 .left)
 pub take-wanted-spec : {M : Type 1} → statement M
 take-wanted-spec =
     tie.close
-    (tie.spec
-    take-number-requires
-    goes-requires
-    returns
-    take-position-requires
-    goes-requires-2
-    returns-2
-    returns-3)
+    (tie.spec take-number-requires goes-requires returns take-position-requires goes-requires-2 returns-2 returns-3)

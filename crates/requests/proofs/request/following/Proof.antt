@@ -20,12 +20,6 @@ abbrev μ-loop : tie.MeasureT-loop
 loop-holds : tie.Need-loop-holds Inv-loop μ-loop
 loop-holds c = refl
 
-add-next : tie.Need-add-next Inv-loop μ-loop
-add-next c = search needs
-
-slice-aggregate-spell-field : tie.Need-slice-aggregate-spell-field Inv-loop μ-loop
-slice-aggregate-spell-field c = search needs
-
 spell-field-requires : tie.Need-spell-field-requires Inv-loop μ-loop
 spell-field-requires c κs = search needs
 
@@ -47,14 +41,4 @@ returns-2 c = first-none (O.has (c .before .before .args .entry)) _ _ (c .before
 pub following-spec : {M : Type 1} → statement M
 following-spec =
     tie.close
-    (tie.spec
-    Inv-loop
-    μ-loop
-    loop-holds
-    add-next
-    slice-aggregate-spell-field
-    spell-field-requires
-    returns
-    loop-less
-    loop-again
-    returns-2)
+    (tie.spec Inv-loop μ-loop loop-holds (λ c. search needs) (λ c. search needs) spell-field-requires returns loop-less loop-again returns-2)

@@ -6,12 +6,6 @@ use borrow.Author.Needs.{needs}
 use Rattle.requests.proofs.request.with_number.Statement.{statement}
 use Rattle.requests.proofs.request.with_number.Tie as tie
 
-mul-next : tie.Need-mul-next
-mul-next c = search needs
-
-element-write-next : tie.Need-element-write-next
-element-write-next c = search needs
-
 returns : tie.Need-returns
 unfolding withNumber
 returns c = rw (lt-ltb (c .before .args .request .wanted) complete (c .if1 .taken))
@@ -21,4 +15,4 @@ unfolding withNumber
 returns-2 c = rw (le-ltb (c .before .args .request .wanted) complete (c .if1 .left))
 
 pub with-number-spec : {M : Type 1} → statement M
-with-number-spec = tie.close (tie.spec mul-next element-write-next returns returns-2)
+with-number-spec = tie.close (tie.spec (λ c. search needs) (λ c. search needs) returns returns-2)

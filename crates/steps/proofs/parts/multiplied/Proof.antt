@@ -30,9 +30,4 @@ returns c =
 pub multiplied-spec : {M : Type 1} → statement M
 multiplied-spec =
     tie.close
-    (tie.spec
-    mul-requires
-    known-share-requires
-    add-products-requires
-    add-products-requires-2
-    returns)
+    (tie.spec mul-requires known-share-requires add-products-requires add-products-requires-2 returns)

@@ -14,13 +14,10 @@ shifted-requires c κs = search needs
 put-wire-requires : tie.Need-put-wire-requires
 put-wire-requires c κs = search needs
 
-same-length : tie.Need-same-length
-same-length c = search needs
-
 returns : tie.Need-returns
 unfolding afterInput
 returns c = cc
 
 pub after-input-spec : {M : Type 1} → statement M
 after-input-spec =
-    tie.close (tie.spec part-at-requires shifted-requires put-wire-requires same-length returns)
+    tie.close (tie.spec part-at-requires shifted-requires put-wire-requires (λ c. search needs) returns)

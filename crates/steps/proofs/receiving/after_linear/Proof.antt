@@ -9,12 +9,6 @@ use Rattle.protocol.specs.Receive.{linear, afterLinear}
 use Rattle.steps.proofs.receiving.after_linear.Statement.{statement}
 use Rattle.steps.proofs.receiving.after_linear.Tie as tie
 
-enum-told : tie.Need-enum-told
-enum-told c = search needs
-
-enum-told-2 : tie.Need-enum-told-2
-enum-told-2 c = search needs
-
 wire-at-requires : tie.Need-wire-at-requires
 unfolding kindOf kindShape
 wire-at-requires c κs = (c .before .before .before .before .pre .1, rw (c .before .enum-told2 .given .1) at (c .before .before .before .before .pre .4 .first))
@@ -28,9 +22,6 @@ add-requires c κs = search needs
 
 put-wire-requires : tie.Need-put-wire-requires
 put-wire-requires c κs = search needs
-
-enum-told-3 : tie.Need-enum-told-3
-enum-told-3 c = search needs
 
 wire-at-requires-3 : tie.Need-wire-at-requires-3
 unfolding kindOf kindShape
@@ -46,9 +37,6 @@ sub-requires c κs = search needs
 put-wire-requires-2 : tie.Need-put-wire-requires-2
 put-wire-requires-2 c κs = search needs
 
-enum-told-4 : tie.Need-enum-told-4
-enum-told-4 c = search needs
-
 wire-at-requires-5 : tie.Need-wire-at-requires-5
 unfolding kindOf kindShape
 wire-at-requires-5 c κs = (c .before .before .before .before .pre .1, rw (c .before .enum-told4 .given .1) at (c .before .before .before .before .pre .4 .first))
@@ -59,9 +47,6 @@ shifted-requires c κs = (c .before .before .before .before .before .pre .0, c .
 
 put-wire-requires-3 : tie.Need-put-wire-requires-3
 put-wire-requires-3 c κs = search needs
-
-enum-told-5 : tie.Need-enum-told-5
-enum-told-5 c = search needs
 
 wire-at-requires-6 : tie.Need-wire-at-requires-6
 unfolding kindOf kindShape
@@ -74,39 +59,21 @@ times-requires c κs = (rw (c .before .before .enum-told5 .given .1) at (c .befo
 put-wire-requires-4 : tie.Need-put-wire-requires-4
 put-wire-requires-4 c κs = search needs
 
-enum-told-6 : tie.Need-enum-told-6
-enum-told-6 c = search needs
-
-enum-told-7 : tie.Need-enum-told-7
-enum-told-7 c = search needs
-
 returns : tie.Need-returns
 unfolding kindOf kindShape isClass classNumber
 returns c = false-no (rw (c .enum-told .given .1) at (c .before .before .before .pre .3))
-
-same-length : tie.Need-same-length
-same-length c = search needs
 
 returns-2 : tie.Need-returns-2
 unfolding afterLinear linear kindOf
 returns-2 c = rw (c .before .before .before .before .before .before .before .before .before .enum-told2 .given .1) (cc)
 
-same-length-2 : tie.Need-same-length-2
-same-length-2 c = search needs
-
 returns-3 : tie.Need-returns-3
 unfolding afterLinear linear kindOf
 returns-3 c = rw (c .before .before .before .before .before .before .before .before .before .enum-told3 .given .1) (cc)
 
-same-length-3 : tie.Need-same-length-3
-same-length-3 c = search needs
-
 returns-4 : tie.Need-returns-4
 unfolding afterLinear linear kindOf
 returns-4 c = rw (c .before .before .before .before .before .before .before .enum-told4 .given .1) (cc)
-
-same-length-4 : tie.Need-same-length-4
-same-length-4 c = search needs
 
 returns-5 : tie.Need-returns-5
 unfolding afterLinear linear kindOf
@@ -123,36 +90,7 @@ returns-7 c = false-no (rw (c .enum-told7 .given .1) at (c .before .before .befo
 pub after-linear-spec : {M : Type 1} → statement M
 after-linear-spec =
     tie.close
-    (tie.spec
-    enum-told
-    enum-told-2
-    wire-at-requires
-    wire-at-requires-2
-    add-requires
-    put-wire-requires
-    enum-told-3
-    wire-at-requires-3
-    wire-at-requires-4
-    sub-requires
-    put-wire-requires-2
-    enum-told-4
-    wire-at-requires-5
-    shifted-requires
-    put-wire-requires-3
-    enum-told-5
-    wire-at-requires-6
-    times-requires
-    put-wire-requires-4
-    enum-told-6
-    enum-told-7
-    returns
-    same-length
-    returns-2
-    same-length-2
-    returns-3
-    same-length-3
-    returns-4
-    same-length-4
-    returns-5
-    returns-6
-    returns-7)
+    (tie.spec (λ c. search needs) (λ c. search needs) wire-at-requires wire-at-requires-2 add-requires put-wire-requires (λ c. search needs)
+        wire-at-requires-3 wire-at-requires-4 sub-requires put-wire-requires-2 (λ c. search needs) wire-at-requires-5 shifted-requires
+        put-wire-requires-3 (λ c. search needs) wire-at-requires-6 times-requires put-wire-requires-4 (λ c. search needs) (λ c. search needs) returns
+        (λ c. search needs) returns-2 (λ c. search needs) returns-3 (λ c. search needs) returns-4 (λ c. search needs) returns-5 returns-6 returns-7)

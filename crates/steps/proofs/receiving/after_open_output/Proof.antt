@@ -13,13 +13,10 @@ wire-at-requires c κs = search needs
 put-opened-requires : tie.Need-put-opened-requires
 put-opened-requires c κs = search needs
 
-same-length : tie.Need-same-length
-same-length c = search needs
-
 returns : tie.Need-returns
 unfolding afterOpenOutput
 returns c = c .before .before .put-opened .ensures ∙ rw (mac-is (c .before .before .before .before .wire-at .ensures))
 
 pub after-open-output-spec : {M : Type 1} → statement M
 after-open-output-spec =
-    tie.close (tie.spec wire-at-requires put-opened-requires same-length returns)
+    tie.close (tie.spec wire-at-requires put-opened-requires (λ c. search needs) returns)

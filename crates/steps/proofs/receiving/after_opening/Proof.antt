@@ -20,9 +20,6 @@ put-wire-requires : tie.Need-put-wire-requires
 unfolding layoutOf
 put-wire-requires c κs = (omega (arith, c .before .before .before .before .before .before .before .before .pre .room, c .before .before .before .put-differences .kept .1), c .before .before .before .before .before .before .before .before .pre .within)
 
-same-length : tie.Need-same-length
-same-length c = search needs
-
 returns : tie.Need-returns
 unfolding partOf
 returns c = opening-made ops _ _ _ _ _ _ _ _ _ _ _ _ (c .before .before .before .before .before .before .before .before .record-product .ensures .is) (c .before .before .before .before .before .before .put-differences .ensures) (c .before .before .put-wire .ensures)
@@ -30,9 +27,4 @@ returns c = opening-made ops _ _ _ _ _ _ _ _ _ _ _ _ (c .before .before .before 
 pub after-opening-spec : {M : Type 1} → statement M
 after-opening-spec =
     tie.close
-    (tie.spec
-    record-product-requires
-    put-differences-requires
-    put-wire-requires
-    same-length
-    returns)
+    (tie.spec record-product-requires put-differences-requires put-wire-requires (λ c. search needs) returns)

@@ -12,9 +12,6 @@ use Rattle.protocol.proofs.Following.{enter-at, enter-end}
 use Rattle.steps.proofs.receiving.enter.Statement.{statement}
 use Rattle.steps.proofs.receiving.enter.Tie as tie
 
-sub-t7 : tie.Need-sub-t7
-sub-t7 c = search needs
-
 returns : tie.Need-returns
 unfolding pointOf stageOf finished
 returns c = rw (c .before .before .pre .0) (enter-end _ _ (omega (arith, c .before .before .pre .0, c .if1 .taken)))
@@ -22,23 +19,11 @@ returns c = rw (c .before .before .pre .0) (enter-end _ _ (omega (arith, c .befo
 class-at-requires : tie.Need-class-at-requires
 class-at-requires c κs = search needs
 
-enum-told : tie.Need-enum-told
-enum-told c = search needs
-
-enum-told-2 : tie.Need-enum-told-2
-enum-told-2 c = search needs
-
 sending-at-requires : tie.Need-sending-at-requires
 sending-at-requires c κs = search needs
 
-enum-told-3 : tie.Need-enum-told-3
-enum-told-3 c = search needs
-
 sending-at-requires-2 : tie.Need-sending-at-requires-2
 sending-at-requires-2 c κs = search needs
-
-enum-told-4 : tie.Need-enum-told-4
-enum-told-4 c = search needs
 
 sending-at-requires-3 : tie.Need-sending-at-requires-3
 sending-at-requires-3 c κs = search needs
@@ -69,20 +54,5 @@ returns-6 c = c .sending-at4 .ensures ∙ (rw (ne-eqb _ 0 (c .before .if2 .left)
 pub enter-spec : {M : Type 1} → statement M
 enter-spec =
     tie.close
-    (tie.spec
-    sub-t7
-    returns
-    class-at-requires
-    enum-told
-    enum-told-2
-    sending-at-requires
-    enum-told-3
-    sending-at-requires-2
-    enum-told-4
-    sending-at-requires-3
-    returns-2
-    sending-at-requires-4
-    returns-3
-    returns-4
-    returns-5
-    returns-6)
+    (tie.spec (λ c. search needs) returns class-at-requires (λ c. search needs) (λ c. search needs) sending-at-requires (λ c. search needs)
+        sending-at-requires-2 (λ c. search needs) sending-at-requires-3 returns-2 sending-at-requires-4 returns-3 returns-4 returns-5 returns-6)

@@ -5,17 +5,8 @@ use borrow.Author.Needs.{needs}
 use Rattle.steps.proofs.receiving.first_word.Statement.{statement}
 use Rattle.steps.proofs.receiving.first_word.Tie as tie
 
-mul-at : tie.Need-mul-at
-mul-at c = search needs
-
-mul-result : tie.Need-mul-result
-mul-result c = search needs
-
-shared-slice-read-result : tie.Need-shared-slice-read-result
-shared-slice-read-result c = search needs
-
 returns : tie.Need-returns
 returns c = record { is = refl; below = c .before .pre .1 _ }
 
 pub first-word-spec : {M : Type 1} → statement M
-first-word-spec = tie.close (tie.spec mul-at mul-result shared-slice-read-result returns)
+first-word-spec = tie.close (tie.spec (λ c. search needs) (λ c. search needs) (λ c. search needs) returns)

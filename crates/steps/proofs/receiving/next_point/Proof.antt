@@ -10,26 +10,14 @@ use Rattle.protocol.proofs.HeardWords.{reveal-heard}
 use Rattle.steps.proofs.receiving.next_point.Statement.{statement}
 use Rattle.steps.proofs.receiving.next_point.Tie as tie
 
-enum-told : tie.Need-enum-told
-enum-told c = search needs
-
 resume-requires : tie.Need-resume-requires
 resume-requires c κs = c .before .before .before .before .pre .1
-
-enum-told-2 : tie.Need-enum-told-2
-enum-told-2 c = search needs
 
 sending-at-requires : tie.Need-sending-at-requires
 sending-at-requires c κs = search needs
 
-enum-known-r : tie.Need-enum-known-r
-enum-known-r c = search needs
-
 sending-at-requires-2 : tie.Need-sending-at-requires-2
 sending-at-requires-2 c κs = search needs
-
-enum-known-r-2 : tie.Need-enum-known-r-2
-enum-known-r-2 c = search needs
 
 aborted-at-requires : tie.Need-aborted-at-requires
 aborted-at-requires c κs = search needs
@@ -38,14 +26,8 @@ returns : tie.Need-returns
 unfolding roundOf isReveal
 returns c = let s = (rw (c .before .before .before .r2 .given .1) at (c .before .before .before .before .before .before .before .pre)) in rw (c .before .before .before .r2 .given .1) (next-stops _ ops _ _ _ (Reveal _) (passes-not ops _ _ (Reveal _) refl (s .2 ∙ reveal-heard ops _ (s .0)) (c .before .if1 .taken)) (c .aborted-at .ensures))
 
-enum-told-3 : tie.Need-enum-told-3
-enum-told-3 c = search needs
-
 sending-at-requires-3 : tie.Need-sending-at-requires-3
 sending-at-requires-3 c κs = search needs
-
-enum-told-4 : tie.Need-enum-told-4
-enum-told-4 c = search needs
 
 resume-requires-2 : tie.Need-resume-requires-2
 resume-requires-2 c κs = c .before .before .before .before .before .before .before .before .pre .1
@@ -73,22 +55,6 @@ returns-6 c = let s = (rw (c .before .before .before .before .before .r2 .given 
 pub next-point-spec : {M : Type 1} → statement M
 next-point-spec =
     tie.close
-    (tie.spec
-    enum-told
-    resume-requires
-    enum-told-2
-    sending-at-requires
-    enum-known-r
-    sending-at-requires-2
-    enum-known-r-2
-    aborted-at-requires
-    returns
-    enum-told-3
-    sending-at-requires-3
-    enum-told-4
-    resume-requires-2
-    returns-2
-    returns-3
-    returns-4
-    returns-5
-    returns-6)
+    (tie.spec (λ c. search needs) resume-requires (λ c. search needs) sending-at-requires (λ c. search needs) sending-at-requires-2
+        (λ c. search needs) aborted-at-requires returns (λ c. search needs) sending-at-requires-3 (λ c. search needs) resume-requires-2 returns-2
+        returns-3 returns-4 returns-5 returns-6)

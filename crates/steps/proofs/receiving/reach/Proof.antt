@@ -28,9 +28,6 @@ is-linear-requires c κs = search needs
 returns : tie.Need-returns Inv-loop μ-loop
 returns c = reaching-stop _ _ _ _ (c .before .before .before .before .loop .inv) (omega arith) (sym (c .before .is-linear .ensures ∙ ap (isClass Local) (c .before .before .class-at .ensures)) ∙ not-true (c .before .is-linear .result) (c .if1 .taken))
 
-add-j : tie.Need-add-j Inv-loop μ-loop
-add-j c = omega arith
-
 loop-less : tie.Need-loop-less Inv-loop μ-loop
 loop-less c = omega arith
 
@@ -43,14 +40,4 @@ returns-2 c = reaching-done _ _ _ _ (c .before .loop .inv) (omega arith)
 pub reach-spec : {M : Type 1} → statement M
 reach-spec =
     tie.close
-    (tie.spec
-    Inv-loop
-    μ-loop
-    loop-holds
-    class-at-requires
-    is-linear-requires
-    returns
-    add-j
-    loop-less
-    loop-again
-    returns-2)
+    (tie.spec Inv-loop μ-loop loop-holds class-at-requires is-linear-requires returns (λ c. omega arith) loop-less loop-again returns-2)

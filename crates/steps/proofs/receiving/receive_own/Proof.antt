@@ -26,9 +26,6 @@ sub-after-input c = omega (arith, record-fits _ _ _ _ _ (c .before .before .befo
 part-after-input-start : tie.Need-part-after-input-start
 part-after-input-start c = omega (arith, record-fits _ _ _ _ _ (c .before .before .before .before .before .before .before .before .before .pre .0 .ready), c .before .before .before .before .before .before .before .before .before .good)
 
-part-after-input-end : tie.Need-part-after-input-end
-part-after-input-end c = search needs
-
 after-input-requires : tie.Need-after-input-requires
 after-input-requires c κs = input-asks _ _ _ _ (c .before .before .before .before .before .before .before .before .before .before .pre .0 .ready) (own-owned (c .before .before .before .before .before .before .before .before .before .before .pre .0 .ready) (c .before .before .before .before .before .before .before .before .before .before .pre .2) (sym (c .before .before .before .is-in .ensures) ∙ c .before .before .if1 .taken)) (c .before .before .before .before .before .before .before .before .before .before .pre .4 .first .below) (tail-part (c .before .before .before .before .before .before .before .before .before .before .args .at .prep) (now (c .before .before .before .before .before .before .before .before .before .before .args .prep)))
 
@@ -37,9 +34,6 @@ add-settle c = omega (arith, (c .before .before .before .before .before .before 
 
 settle-requires : tie.Need-settle-requires
 settle-requires c κs = (input-settles laws _ _ _ _ (c .before .before .before .before .before .before .before .before .before .before .before .before .before .before .pre .0 .ready) _ _ _ (c .before .before .before .after-input .ensures), c .before .before .before .before .before .before .before .before .before .before .before .before .before .before .pre .1)
-
-same-length : tie.Need-same-length
-same-length c = search needs
 
 returns : tie.Need-returns
 returns c = input-made ops _ _ _ _ _ (c .before .before .before .before .before .before .before .before .before .before .before .before .before .before .before .before .before .pre .0 .ready) (own-owned (c .before .before .before .before .before .before .before .before .before .before .before .before .before .before .before .before .before .pre .0 .ready) (c .before .before .before .before .before .before .before .before .before .before .before .before .before .before .before .before .before .pre .2) (sym (c .before .before .before .before .before .before .before .before .before .before .is-in .ensures) ∙ c .before .before .before .before .before .before .before .before .before .if1 .taken)) (tail-part (c .before .before .before .before .before .before .before .before .before .before .before .before .before .before .before .before .before .args .at .prep) (now (c .before .before .before .before .before .before .before .before .before .before .before .before .before .before .before .before .before .args .prep))) (c .before .before .before .before .before .before .before .before .before .before .before .before .before .before .before .before .before .pre .4 .first .is) (c .before .before .before .before .before .before .after-input .ensures) (c .before .before .settle .ensures)
@@ -53,9 +47,6 @@ sub-after-opening c = omega (arith, record-fits _ _ _ _ _ (c .before .before .be
 part-after-opening-start : tie.Need-part-after-opening-start
 part-after-opening-start c = omega (arith, record-fits _ _ _ _ _ (c .before .before .before .before .before .before .before .before .before .pre .0 .ready), c .before .before .before .before .before .before .before .before .before .good)
 
-part-after-opening-end : tie.Need-part-after-opening-end
-part-after-opening-end c = search needs
-
 after-opening-requires : tie.Need-after-opening-requires
 after-opening-requires c κs = (opening-asks _ _ _ _ (c .before .before .before .before .before .before .before .before .before .before .pre .0 .ready) (own-opens (c .before .before .before .before .before .before .before .before .before .before .pre .0 .ready) (c .before .before .before .before .before .before .before .before .before .before .pre .2) (sym (c .before .before .before .is-in .ensures) ∙ c .before .before .if1 .left)) (tail-part (c .before .before .before .before .before .before .before .before .before .before .args .at .prep) (now (c .before .before .before .before .before .before .before .before .before .before .args .prep))) (c .before .before .before .before .before .before .before .before .before .before .pre .3) (c .before .before .before .before .before .before .before .before .before .before .pre .4 .first .below) (c .before .before .before .before .before .before .before .before .before .before .pre .4 .second .below))
 
@@ -65,33 +56,12 @@ add-settle-2 c = omega (arith, (c .before .before .before .before .before .befor
 settle-requires-2 : tie.Need-settle-requires-2
 settle-requires-2 c κs = (opening-settles laws _ _ _ _ (c .before .before .before .before .before .before .before .before .before .before .before .before .before .before .pre .0 .ready) _ _ _ _ _ _ _ (opening-asks _ _ _ _ (c .before .before .before .before .before .before .before .before .before .before .before .before .before .before .pre .0 .ready) (own-opens (c .before .before .before .before .before .before .before .before .before .before .before .before .before .before .pre .0 .ready) (c .before .before .before .before .before .before .before .before .before .before .before .before .before .before .pre .2) (sym (c .before .before .before .before .before .before .before .is-in .ensures) ∙ c .before .before .before .before .before .before .if1 .left)) (tail-part (c .before .before .before .before .before .before .before .before .before .before .before .before .before .before .args .at .prep) (now (c .before .before .before .before .before .before .before .before .before .before .before .before .before .before .args .prep))) (c .before .before .before .before .before .before .before .before .before .before .before .before .before .before .pre .3) (c .before .before .before .before .before .before .before .before .before .before .before .before .before .before .pre .4 .first .below) (c .before .before .before .before .before .before .before .before .before .before .before .before .before .before .pre .4 .second .below)) (c .before .before .before .after-opening .ensures), c .before .before .before .before .before .before .before .before .before .before .before .before .before .before .pre .1)
 
-same-length-2 : tie.Need-same-length-2
-same-length-2 c = search needs
-
 returns-2 : tie.Need-returns-2
 returns-2 c = opening-received ops _ _ _ _ _ (c .before .before .before .before .before .before .before .before .before .before .before .before .before .before .before .before .before .pre .0 .ready) (own-opens (c .before .before .before .before .before .before .before .before .before .before .before .before .before .before .before .before .before .pre .0 .ready) (c .before .before .before .before .before .before .before .before .before .before .before .before .before .before .before .before .before .pre .2) (sym (c .before .before .before .before .before .before .before .before .before .before .is-in .ensures) ∙ c .before .before .before .before .before .before .before .before .before .if1 .left)) (tail-part (c .before .before .before .before .before .before .before .before .before .before .before .before .before .before .before .before .before .args .at .prep) (now (c .before .before .before .before .before .before .before .before .before .before .before .before .before .before .before .before .before .args .prep))) (c .before .before .before .before .before .before .before .before .before .before .before .before .before .before .before .before .before .pre .3) (c .before .before .before .before .before .before .before .before .before .before .before .before .before .before .before .before .before .pre .4) (c .before .before .before .before .before .before .after-opening .ensures) (c .before .before .settle2 .ensures)
 
 pub receive-own-spec : {M : Type 1} → statement M
 receive-own-spec =
     tie.close
-    (tie.spec
-    shared-slice-read-key
-    is-in-requires
-    mul-after-input
-    sub-after-input
-    part-after-input-start
-    part-after-input-end
-    after-input-requires
-    add-settle
-    settle-requires
-    same-length
-    returns
-    mul-after-opening
-    sub-after-opening
-    part-after-opening-start
-    part-after-opening-end
-    after-opening-requires
-    add-settle-2
-    settle-requires-2
-    same-length-2
-    returns-2)
+    (tie.spec shared-slice-read-key is-in-requires mul-after-input sub-after-input part-after-input-start (λ c. search needs) after-input-requires
+        add-settle settle-requires (λ c. search needs) returns mul-after-opening sub-after-opening part-after-opening-start (λ c. search needs)
+        after-opening-requires add-settle-2 settle-requires-2 (λ c. search needs) returns-2)

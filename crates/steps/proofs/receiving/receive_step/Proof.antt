@@ -43,25 +43,11 @@ next-point-requires c κs = ((hears _ _ _ _ (c .before .before .before .before .
 receive-summed-requires : tie.Need-receive-summed-requires
 receive-summed-requires c κs = (c .before .before .before .before .before .before .before .before .before .before .before .before .before .before .pre, c .before .before .reach .ensures, (shape-class _ _ (c .before .before .before .before .before .before .before .before .shape-at .ensures)), record { first = c .before .before .before .before .before .before .before .first-at .ensures; second = c .before .before .before .before .before .before .factor-at .ensures; openings = (shape-openings _ _ (c .before .before .before .before .before .before .before .before .shape-at .ensures)) }, record { first = first-found (hears _ _ _ _ (c .before .before .before .before .before .before .before .before .before .before .before .before .before .before .pre)) (shape-class _ _ (c .before .before .before .before .before .before .before .before .shape-at .ensures)) (c .before .before .before .before .before .words-in .ensures ∙ ap (λ z. shapeWords z (roundOf (c .before .before .before .before .before .before .before .before .before .before .before .before .before .before .args .r))) (c .before .before .before .before .before .before .before .before .shape-at .ensures)) ops (c .before .before .before .before .before .before .before .first-at .ensures) (c .before .before .before .before .heard-first .ensures); second = second-found (hears _ _ _ _ (c .before .before .before .before .before .before .before .before .before .before .before .before .before .before .pre)) (shape-class _ _ (c .before .before .before .before .before .before .before .before .shape-at .ensures)) (c .before .before .before .before .before .words-in .ensures ∙ ap (λ z. shapeWords z (roundOf (c .before .before .before .before .before .before .before .before .before .before .before .before .before .before .args .r))) (c .before .before .before .before .before .before .before .before .shape-at .ensures)) ops (shape-openings _ _ (c .before .before .before .before .before .before .before .before .shape-at .ensures)) (c .before .before .before .heard-second .ensures) })
 
-same-length : tie.Need-same-length
-same-length c = search needs
-
 returns : tie.Need-returns
 returns c = (c .before .before .before .before .next-point .ensures, c .before .before .receive-summed .ensures)
 
 pub receive-step-spec : {M : Type 1} → statement M
 receive-step-spec =
     tie.close
-    (tie.spec
-    shape-at-requires
-    first-at-requires
-    factor-at-requires
-    words-in-requires
-    heard-first-requires
-    heard-second-requires
-    add-reach
-    reach-requires
-    next-point-requires
-    receive-summed-requires
-    same-length
-    returns)
+    (tie.spec shape-at-requires first-at-requires factor-at-requires words-in-requires heard-first-requires heard-second-requires add-reach
+        reach-requires next-point-requires receive-summed-requires (λ c. search needs) returns)

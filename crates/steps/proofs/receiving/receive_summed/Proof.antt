@@ -13,35 +13,17 @@ use Rattle.protocol.proofs.Received.{hears, output-asks, output-received, revea
 use Rattle.steps.proofs.receiving.receive_summed.Statement.{statement}
 use Rattle.steps.proofs.receiving.receive_summed.Tie as tie
 
-enum-told : tie.Need-enum-told
-enum-told c = search needs
-
 receive-own-requires : tie.Need-receive-own-requires
 unfolding roundOf
 receive-own-requires c κs = (rw (c .before .enum-told .given .1) at (c .before .before .before .before .before .before .before .before .pre))
-
-enum-told-2 : tie.Need-enum-told-2
-enum-told-2 c = search needs
 
 after-open-output-requires : tie.Need-after-open-output-requires
 unfolding roundOf
 after-open-output-requires c κs = let s = (rw (c .before .enum-told2 .given .1) at (c .before .before .before .before .before .before .before .before .pre)) in output-asks _ _ _ _ (s .0 .ready) (s .3 .first)
 
-enum-told-3 : tie.Need-enum-told-3
-enum-told-3 c = search needs
-
-enum-known-r : tie.Need-enum-known-r
-enum-known-r c = search needs
-
 returns : tie.Need-returns
 unfolding roundOf checkOf isReveal
 returns c = let s = (rw (c .before .before .r .given .1) at (c .before .before .before .before .before .before .before .before .before .pre)) in rw (c .before .before .r .given .1) (stopped-received ops _ _ _ _ _ (passes-not ops _ _ (Reveal _) refl (s .4 .first .is ∙ reveal-heard ops _ (hears _ _ _ _ (s .0))) (c .if1 .taken)))
-
-enum-told-4 : tie.Need-enum-told-4
-enum-told-4 c = search needs
-
-enum-told-5 : tie.Need-enum-told-5
-enum-told-5 c = search needs
 
 shared-slice-read-settle : tie.Need-shared-slice-read-settle
 shared-slice-read-settle c = prep-some _ _ _ _ _ (c .before .before .before .before .before .before .before .before .before .before .before .before .pre .0 .ready)
@@ -53,15 +35,9 @@ settle-requires : tie.Need-settle-requires
 unfolding roundOf checkOf
 settle-requires c κs = let s = (rw (c .before .before .before .before .before .before .before .r .given .1, c .before .before .before .enum-told5 .given .1) at (c .before .before .before .before .before .before .before .before .before .before .before .before .before .before .pre)) in (output-settles _ _ _ _ (s .0 .ready), s .1)
 
-same-length : tie.Need-same-length
-same-length c = search needs
-
 returns-2 : tie.Need-returns-2
 unfolding roundOf
 returns-2 c = rw (c .before .before .before .before .enum-told .given .1) (c .before .before .receive-own .ensures)
-
-same-length-2 : tie.Need-same-length-2
-same-length-2 c = search needs
 
 returns-3 : tie.Need-returns-3
 unfolding roundOf
@@ -75,9 +51,6 @@ returns-5 : tie.Need-returns-5
 unfolding roundOf checkOf
 returns-5 c = rw (c .before .before .before .before .r .given .1, c .enum-told4 .given .1) (first-received ops _ _ _ _)
 
-same-length-3 : tie.Need-same-length-3
-same-length-3 c = search needs
-
 returns-6 : tie.Need-returns-6
 unfolding roundOf checkOf isReveal
 returns-6 c = let s = (rw (c .before .before .before .before .before .before .before .before .before .before .r .given .1, c .before .before .before .before .before .before .enum-told5 .given .1) at (c .before .before .before .before .before .before .before .before .before .before .before .before .before .before .before .before .before .pre)) in rw (c .before .before .before .before .before .before .before .before .before .before .r .given .1, c .before .before .before .before .before .before .enum-told5 .given .1) (reveal-received ops _ _ _ _ _ (s .0 .ready) (passes-zero ops _ _ (Reveal Second) refl (s .4 .first .is ∙ reveal-heard ops Second (hears _ _ _ _ (s .0))) (c .before .before .before .before .before .before .before .before .if1 .left)) (c .before .before .settle .ensures))
@@ -85,24 +58,6 @@ returns-6 c = let s = (rw (c .before .before .before .before .before .before .be
 pub receive-summed-spec : {M : Type 1} → statement M
 receive-summed-spec =
     tie.close
-    (tie.spec
-    enum-told
-    receive-own-requires
-    enum-told-2
-    after-open-output-requires
-    enum-told-3
-    enum-known-r
-    returns
-    enum-told-4
-    enum-told-5
-    shared-slice-read-settle
-    add-settle
-    settle-requires
-    same-length
-    returns-2
-    same-length-2
-    returns-3
-    returns-4
-    returns-5
-    same-length-3
-    returns-6)
+    (tie.spec (λ c. search needs) receive-own-requires (λ c. search needs) after-open-output-requires (λ c. search needs) (λ c. search needs) returns
+        (λ c. search needs) (λ c. search needs) shared-slice-read-settle add-settle settle-requires (λ c. search needs) returns-2 (λ c. search needs)
+        returns-3 returns-4 returns-5 (λ c. search needs) returns-6)

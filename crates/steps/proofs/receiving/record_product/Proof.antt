@@ -4,14 +4,8 @@ use borrow.Author.Needs.{needs}
 use Rattle.steps.proofs.receiving.record_product.Statement.{statement}
 use Rattle.steps.proofs.receiving.record_product.Tie as tie
 
-mul-at : tie.Need-mul-at
-mul-at c = search needs
-
 part-at-requires : tie.Need-part-at-requires
 part-at-requires c κs = search needs
-
-sub-part-at : tie.Need-sub-part-at
-sub-part-at c = search needs
 
 part-at-requires-2 : tie.Need-part-at-requires-2
 part-at-requires-2 c κs = search needs
@@ -28,11 +22,4 @@ returns c = record { is = cc; low = c .multiplied .ensures .low }
 pub record-product-spec : {M : Type 1} → statement M
 record-product-spec =
     tie.close
-    (tie.spec
-    mul-at
-    part-at-requires
-    sub-part-at
-    part-at-requires-2
-    part-at-requires-3
-    multiplied-requires
-    returns)
+    (tie.spec (λ c. search needs) part-at-requires (λ c. search needs) part-at-requires-2 part-at-requires-3 multiplied-requires returns)

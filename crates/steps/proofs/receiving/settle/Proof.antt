@@ -62,17 +62,5 @@ returns c = settling-end _ _ _ _ _ _ _ _ (c .before .loop .inv .0) (c .before .l
 pub settle-spec : {M : Type 1} → statement M
 settle-spec =
     tie.close
-    (tie.spec
-    Inv-loop
-    μ-loop
-    loop-holds
-    kind-at-requires
-    first-at-requires
-    second-at-requires
-    constant-at-requires
-    after-linear-requires
-    add-j
-    loop-less
-    loop-again
-    same-length
-    returns)
+    (tie.spec Inv-loop μ-loop loop-holds kind-at-requires first-at-requires second-at-requires constant-at-requires after-linear-requires add-j
+        loop-less loop-again same-length returns)

@@ -15,13 +15,10 @@ write-slot-requires-2 : tie.Need-write-slot-requires-2
 unfolding slotOf layoutOf
 write-slot-requires-2 c κs = (omega arith, c .before .before .before .before .before .before .pre .1)
 
-same-length : tie.Need-same-length
-same-length c = search needs
-
 returns : tie.Need-returns
 unfolding putOpened slotOf
 returns c = cc
 
 pub put-opened-spec : {M : Type 1} → statement M
 put-opened-spec =
-    tie.close (tie.spec write-slot-requires write-slot-requires-2 same-length returns)
+    tie.close (tie.spec write-slot-requires write-slot-requires-2 (λ c. search needs) returns)

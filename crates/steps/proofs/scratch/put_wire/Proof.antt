@@ -16,12 +16,9 @@ write-slot-requires-2 : tie.Need-write-slot-requires-2
 unfolding slotOf layoutOf
 write-slot-requires-2 c κs = (omega arith, c .before .before .before .before .before .before .pre .1)
 
-same-length : tie.Need-same-length
-same-length c = search needs
-
 returns : tie.Need-returns
 unfolding putWire partOf slotOf
 returns c = cc
 
 pub put-wire-spec : {M : Type 1} → statement M
-put-wire-spec = tie.close (tie.spec write-slot-requires write-slot-requires-2 same-length returns)
+put-wire-spec = tie.close (tie.spec write-slot-requires write-slot-requires-2 (λ c. search needs) returns)

@@ -17,12 +17,9 @@ mul-l c = omega (arith, slot-fits _ (slotOf (c .before .before .args .s)) (c .be
 slice-write-l : tie.Need-slice-write-l
 slice-write-l c = rw (c .offset-of .ensures) (slot-fits _ (slotOf (c .before .before .args .s)) (c .before .before .pre .0) (c .before .before .pre .1))
 
-same-length : tie.Need-same-length
-same-length c = search needs
-
 returns : tie.Need-returns
 unfolding write
 returns c = rw (c .offset-of .ensures)
 
 pub write-slot-spec : {M : Type 1} → statement M
-write-slot-spec = tie.close (tie.spec offset-of-requires mul-l slice-write-l same-length returns)
+write-slot-spec = tie.close (tie.spec offset-of-requires mul-l slice-write-l (λ c. search needs) returns)

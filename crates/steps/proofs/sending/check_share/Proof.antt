@@ -21,12 +21,6 @@ abbrev μ-loop : tie.MeasureT-loop
 loop-holds : tie.Need-loop-holds Inv-loop μ-loop
 loop-holds c = (omega arith, running-start laws _ (omega arith), running-start laws _ (omega arith))
 
-mul-w : tie.Need-mul-w Inv-loop μ-loop
-mul-w c = omega arith
-
-shared-slice-read-w : tie.Need-shared-slice-read-w Inv-loop μ-loop
-shared-slice-read-w c = omega arith
-
 opened-value-requires : tie.Need-opened-value-requires Inv-loop μ-loop
 opened-value-requires c κs = (c .before .before .before .before .before .pre .0, c .before .before .before .before .before .pre .4 _ (c .before .loop-test .taken))
 
@@ -38,9 +32,6 @@ opened-mac-requires c κs = (c .before .before .before .before .before .before .
 
 add-product-requires-2 : tie.Need-add-product-requires-2 Inv-loop μ-loop
 add-product-requires-2 c κs = (c .before .before .before .before .before .loop .inv .2 .below, c .before .before .before .before .before .before .before .before .pre .3 _, c .opened-mac .ensures .below)
-
-add-t : tie.Need-add-t Inv-loop μ-loop
-add-t c = omega arith
 
 loop-less : tie.Need-loop-less Inv-loop μ-loop
 loop-less c = omega arith
@@ -76,21 +67,5 @@ returns c =
 pub check-share-spec : {M : Type 1} → statement M
 check-share-spec =
     tie.close
-    (tie.spec
-    Inv-loop
-    μ-loop
-    loop-holds
-    mul-w
-    shared-slice-read-w
-    opened-value-requires
-    add-product-requires
-    opened-mac-requires
-    add-product-requires-2
-    add-t
-    loop-less
-    loop-again
-    reduce-requires
-    reduce-requires-2
-    mul-requires
-    sub-requires
-    returns)
+    (tie.spec Inv-loop μ-loop loop-holds (λ c. omega arith) (λ c. omega arith) opened-value-requires add-product-requires opened-mac-requires
+        add-product-requires-2 (λ c. omega arith) loop-less loop-again reduce-requires reduce-requires-2 mul-requires sub-requires returns)

@@ -10,9 +10,6 @@ use Rattle.steps.proofs.sending.input_word.Tie as tie
 number-at-requires : tie.Need-number-at-requires
 number-at-requires c κs = search needs
 
-shared-slice-read-sub : tie.Need-shared-slice-read-sub
-shared-slice-read-sub c = search needs
-
 sub-requires : tie.Need-sub-requires
 sub-requires c κs = (c .before .number-at .ensures .below, c .before .before .before .before .before .pre .1 _)
 
@@ -25,4 +22,4 @@ unfolding inputWord
 returns-2 c = record { is = rw (ne-eqb _ _ (c .if1 .left)); below = omega arith }
 
 pub input-word-spec : {M : Type 1} → statement M
-input-word-spec = tie.close (tie.spec number-at-requires shared-slice-read-sub sub-requires returns returns-2)
+input-word-spec = tie.close (tie.spec number-at-requires (λ c. search needs) sub-requires returns returns-2)

@@ -8,12 +8,6 @@ use borrow.Author.Needs.{needs}
 use Rattle.steps.proofs.sending.number_at.Statement.{statement}
 use Rattle.steps.proofs.sending.number_at.Tie as tie
 
-mul-result : tie.Need-mul-result
-mul-result c = search needs
-
-shared-slice-read-result : tie.Need-shared-slice-read-result
-shared-slice-read-result c = search needs
-
 returns : tie.Need-returns
 returns c = record { is = refl; below = c .before .before .pre _ }
 
@@ -21,4 +15,4 @@ returns-2 : tie.Need-returns-2
 returns-2 c = record { is = sym (List·getD-eq-default (now (c .before .args .xs)) 0 (c .if1 .left)); below = omega arith }
 
 pub number-at-spec : {M : Type 1} → statement M
-number-at-spec = tie.close (tie.spec mul-result shared-slice-read-result returns returns-2)
+number-at-spec = tie.close (tie.spec (λ c. search needs) (λ c. search needs) returns returns-2)

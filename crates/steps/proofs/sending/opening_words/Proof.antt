@@ -14,29 +14,14 @@ use Rattle.steps.proofs.sending.opening_words.Tie as tie
 masked-requires : tie.Need-masked-requires
 masked-requires c κs = search needs
 
-slice-write-out : tie.Need-slice-write-out
-slice-write-out c = search needs
-
-mul-masked : tie.Need-mul-masked
-mul-masked c = search needs
-
-sub-masked : tie.Need-sub-masked
-sub-masked c = search needs
-
 masked-requires-2 : tie.Need-masked-requires-2
 masked-requires-2 c κs = search needs
 
 slice-write-out-2 : tie.Need-slice-write-out-2
 slice-write-out-2 c = let h : 1 < length (now (c .before .before .before .before .before .before .args .out)) = omega (arith, c .before .before .before .before .before .before .pre .7, c .before .if1 .taken) in search needs
 
-same-length : tie.Need-same-length
-same-length c = search needs
-
 returns : tie.Need-returns
 returns c = opening-two ops _ _ _ _ _ _ _ (share-is (c .before .before .masked .ensures)) (c .before .if1 .taken) (share-is (c .masked2 .ensures)) (omega (arith, c .before .before .before .before .before .before .pre .7, c .before .if1 .taken))
-
-same-length-2 : tie.Need-same-length-2
-same-length-2 c = search needs
 
 returns-2 : tie.Need-returns-2
 returns-2 c = opening-one ops _ _ _ _ _ _ _ (share-is (c .before .masked .ensures)) (c .if1 .left) (omega (arith, c .before .before .before .before .before .pre .3, c .before .before .before .before .before .pre .7))
@@ -44,14 +29,5 @@ returns-2 c = opening-one ops _ _ _ _ _ _ _ (share-is (c .before .masked .ensure
 pub opening-words-spec : {M : Type 1} → statement M
 opening-words-spec =
     tie.close
-    (tie.spec
-    masked-requires
-    slice-write-out
-    mul-masked
-    sub-masked
-    masked-requires-2
-    slice-write-out-2
-    same-length
-    returns
-    same-length-2
-    returns-2)
+    (tie.spec masked-requires (λ c. search needs) (λ c. search needs) (λ c. search needs) masked-requires-2 slice-write-out-2 (λ c. search needs)
+        returns (λ c. search needs) returns-2)

@@ -12,15 +12,9 @@ first-at-requires c κs = search needs
 wire-at-requires : tie.Need-wire-at-requires
 wire-at-requires c κs = (c .before .before .before .before .pre .1, rw (c .first-at .ensures) (c .before .before .before .before .pre .2))
 
-slice-write-out : tie.Need-slice-write-out
-slice-write-out c = search needs
-
-same-length : tie.Need-same-length
-same-length c = search needs
-
 returns : tie.Need-returns
 returns c = rw (share-is (c .wire-at .ensures), c .before .first-at .ensures) (overwrite-one _ _ (c .before .before .before .before .before .pre .3))
 
 pub send-output-spec : {M : Type 1} → statement M
 send-output-spec =
-    tie.close (tie.spec first-at-requires wire-at-requires slice-write-out same-length returns)
+    tie.close (tie.spec first-at-requires wire-at-requires (λ c. search needs) (λ c. search needs) returns)

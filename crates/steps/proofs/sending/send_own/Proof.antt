@@ -31,17 +31,11 @@ sub-input-word c = omega (arith, sends-input _ _ _ _ 0 [] _ (own-sends _ _ _ _ (
 part-input-word-start : tie.Need-part-input-word-start
 part-input-word-start c = omega (arith, sends-input _ _ _ _ 0 [] _ (own-sends _ _ _ _ (c .before .before .before .before .before .before .before .before .before .pre .0) (c .before .before .before .before .before .before .before .before .before .pre .1)) (own-owned (c .before .before .before .before .before .before .before .before .before .pre .0) (shape-class _ _ (c .before .before .before .shape-at .ensures)) (sym (c .before .is-in .ensures) ∙ c .if1 .taken)) .1)
 
-part-input-word-end : tie.Need-part-input-word-end
-part-input-word-end c = search needs
-
 input-word-requires : tie.Need-input-word-requires
 input-word-requires c κs = let s = sends-input _ _ _ _ 0 [] _ (own-sends _ _ _ _ (c .before .before .before .before .before .before .before .before .before .before .pre .0) (c .before .before .before .before .before .before .before .before .before .before .pre .1)) (own-owned (c .before .before .before .before .before .before .before .before .before .before .pre .0) (shape-class _ _ (c .before .before .before .before .shape-at .ensures)) (sym (c .before .before .is-in .ensures) ∙ c .before .if1 .taken)) in let e = tail-part (c .before .before .before .before .before .before .before .before .before .before .args .at .prep) (now (c .before .before .before .before .before .before .before .before .before .before .args .prep)) in (part-longer (c .before .before .before .before .before .before .before .before .before .before .args .at .prep) 3 (now (c .before .before .before .before .before .before .before .before .before .before .args .prep)) e (omega (arith, s .1)), part-below (c .before .before .before .before .before .before .before .before .before .before .args .at .prep) (now (c .before .before .before .before .before .before .before .before .before .before .args .prep)) e (s .2), s .3)
 
 slice-write-out : tie.Need-slice-write-out
 slice-write-out c = sends-input _ _ _ _ 0 [] _ (own-sends _ _ _ _ (c .before .before .before .before .before .before .before .before .before .before .before .pre .0) (c .before .before .before .before .before .before .before .before .before .before .before .pre .1)) (own-owned (c .before .before .before .before .before .before .before .before .before .before .before .pre .0) (shape-class _ _ (c .before .before .before .before .before .shape-at .ensures)) (sym (c .before .before .before .is-in .ensures) ∙ c .before .before .if1 .taken)) .4
-
-same-length : tie.Need-same-length
-same-length c = search needs
 
 returns : tie.Need-returns
 unfolding sent
@@ -59,14 +53,8 @@ sub-opening-words c = omega (arith, sends-opening _ _ _ _ 0 [] _ (own-sends _ _ 
 part-opening-words-start : tie.Need-part-opening-words-start
 part-opening-words-start c = omega (arith, sends-opening _ _ _ _ 0 [] _ (own-sends _ _ _ _ (c .before .before .before .before .before .before .before .before .before .before .pre .0) (c .before .before .before .before .before .before .before .before .before .before .pre .1)) (own-opens (c .before .before .before .before .before .before .before .before .before .before .pre .0) (shape-class _ _ (c .before .before .before .before .shape-at .ensures)) (sym (c .before .before .is-in .ensures) ∙ c .before .if1 .left)) (record { first = c .before .before .before .first-at .ensures; second = c .factor-at .ensures; openings = shape-openings _ _ (c .before .before .before .before .shape-at .ensures) }) .3)
 
-part-opening-words-end : tie.Need-part-opening-words-end
-part-opening-words-end c = search needs
-
 opening-words-requires : tie.Need-opening-words-requires
 opening-words-requires c κs = let s = sends-opening _ _ _ _ 0 [] _ (own-sends _ _ _ _ (c .before .before .before .before .before .before .before .before .before .before .before .before .pre .0) (c .before .before .before .before .before .before .before .before .before .before .before .before .pre .1)) (own-opens (c .before .before .before .before .before .before .before .before .before .before .before .before .pre .0) (shape-class _ _ (c .before .before .before .before .before .before .shape-at .ensures)) (sym (c .before .before .before .before .is-in .ensures) ∙ c .before .before .before .if1 .left)) (record { first = c .before .before .before .before .before .first-at .ensures; second = c .before .before .factor-at .ensures; openings = shape-openings _ _ (c .before .before .before .before .before .before .shape-at .ensures) }) in let e = tail-part (c .before .before .before .before .before .before .before .before .before .before .before .before .args .at .prep) (now (c .before .before .before .before .before .before .before .before .before .before .before .before .args .prep)) in (s .5, s .6, s .7, s .1, s .2, part-longer (c .before .before .before .before .before .before .before .before .before .before .before .before .args .at .prep) _ (now (c .before .before .before .before .before .before .before .before .before .before .before .before .args .prep)) e (omega (arith, s .3)), part-below (c .before .before .before .before .before .before .before .before .before .before .before .before .args .at .prep) (now (c .before .before .before .before .before .before .before .before .before .before .before .before .args .prep)) e (s .4), s .8)
-
-same-length-2 : tie.Need-same-length-2
-same-length-2 c = search needs
 
 returns-2 : tie.Need-returns-2
 unfolding sent
@@ -75,23 +63,6 @@ returns-2 c = sent-opening ops _ _ _ _ 0 _ (c .before .before .before .before .b
 pub send-own-spec : {M : Type 1} → statement M
 send-own-spec =
     tie.close
-    (tie.spec
-    shape-at-requires
-    first-at-requires
-    is-in-requires
-    mul-input-word
-    sub-input-word
-    part-input-word-start
-    part-input-word-end
-    input-word-requires
-    slice-write-out
-    same-length
-    returns
-    factor-at-requires
-    mul-opening-words
-    sub-opening-words
-    part-opening-words-start
-    part-opening-words-end
-    opening-words-requires
-    same-length-2
-    returns-2)
+    (tie.spec shape-at-requires first-at-requires is-in-requires mul-input-word sub-input-word part-input-word-start (λ c. search needs)
+        input-word-requires slice-write-out (λ c. search needs) returns factor-at-requires mul-opening-words sub-opening-words
+        part-opening-words-start (λ c. search needs) opening-words-requires (λ c. search needs) returns-2)

@@ -11,22 +11,13 @@ use Rattle.protocol.proofs.Readiness.{prep-some}
 use Rattle.steps.proofs.sending.send_step.Statement.{statement}
 use Rattle.steps.proofs.sending.send_step.Tie as tie
 
-enum-told : tie.Need-enum-told
-enum-told c = search needs
-
 send-own-requires : tie.Need-send-own-requires
 unfolding roundOf
 send-own-requires c κs = let s = (rw (c .before .enum-told .given .1) at (c .before .before .before .before .before .before .before .before .before .pre)) in (s .ready, s .space)
 
-enum-told-2 : tie.Need-enum-told-2
-enum-told-2 c = search needs
-
 send-output-requires : tie.Need-send-output-requires
 unfolding roundOf
 send-output-requires c κs = sends-output _ _ _ _ _ _ _ (rw (c .before .enum-told2 .given .1) at (c .before .before .before .before .before .before .before .before .before .pre))
-
-enum-told-3 : tie.Need-enum-told-3
-enum-told-3 c = search needs
 
 slice-write-out : tie.Need-slice-write-out
 unfolding roundOf shapeWords
@@ -42,36 +33,21 @@ check-share-requires : tie.Need-check-share-requires
 unfolding roundOf isCommit
 check-share-requires c κs = sends-check _ _ _ _ _ _ _ _ (c .before .before .before .before .before .before .before .before .before .before .pre) (rw (c .before .before .enum-told3 .given .1)) (c .before .opened-in .ensures ∙ rw (c .before .before .before .before .before .before .before .before .before .before .pre .ready .sited .unchecked))
 
-enum-told-4 : tie.Need-enum-told-4
-enum-told-4 c = search needs
-
 slice-write-out-2 : tie.Need-slice-write-out-2
 unfolding roundOf shapeWords
 slice-write-out-2 c = (rw (c .enum-told4 .given .1) at (c .before .before .before .before .before .before .before .before .pre)) .space
-
-same-length : tie.Need-same-length
-same-length c = search needs
 
 returns : tie.Need-returns
 unfolding roundOf isCommit sent
 returns c = let s = (rw (c .before .before .before .before .enum-told .given .1) at (c .before .before .before .before .before .before .before .before .before .before .before .before .pre)) in rw (c .before .before .before .before .enum-told .given .1) (holds-none ops _ _ _ _ Own (s .ready) _ refl, c .before .before .send-own .ensures)
 
-same-length-2 : tie.Need-same-length-2
-same-length-2 c = search needs
-
 returns-2 : tie.Need-returns-2
 unfolding roundOf isCommit
 returns-2 c = let s = (rw (c .before .before .before .before .enum-told2 .given .1) at (c .before .before .before .before .before .before .before .before .before .before .before .before .pre)) in rw (c .before .before .before .before .enum-told2 .given .1) (holds-none ops _ _ _ _ Open (s .ready) _ refl, sent-output ops _ _ _ _ _ _ (s .ready) (c .before .before .send-output .ensures))
 
-same-length-3 : tie.Need-same-length-3
-same-length-3 c = search needs
-
 returns-3 : tie.Need-returns-3
 unfolding roundOf isCommit sent shapeWords
 returns-3 c = let s = (rw (c .before .before .before .enum-told3 .given .1) at (c .before .before .before .before .before .before .before .before .before .before .before .pre)) in rw (c .before .before .before .enum-told3 .given .1) (holds-check ops _ _ _ _ (Commit _) (s .ready) _ refl (rw (c .before .before .before .enum-told3 .given .1, c .before .before .before .before .before .before .before .before .before .before .before .pre .ready .sited .unchecked) at (c .before .before .opened-in .ensures)) (c .check-share .ensures), overwrite-one _ _ (s .space))
-
-same-length-4 : tie.Need-same-length-4
-same-length-4 c = search needs
 
 returns-4 : tie.Need-returns-4
 unfolding roundOf isCommit sent shapeWords
@@ -80,23 +56,6 @@ returns-4 c = let s = (rw (c .enum-told4 .given .1) at (c .before .before .befor
 pub send-step-spec : {M : Type 1} → statement M
 send-step-spec =
     tie.close
-    (tie.spec
-    enum-told
-    send-own-requires
-    enum-told-2
-    send-output-requires
-    enum-told-3
-    slice-write-out
-    opened-in-requires
-    shared-slice-read-check-share
-    check-share-requires
-    enum-told-4
-    slice-write-out-2
-    same-length
-    returns
-    same-length-2
-    returns-2
-    same-length-3
-    returns-3
-    same-length-4
-    returns-4)
+    (tie.spec (λ c. search needs) send-own-requires (λ c. search needs) send-output-requires (λ c. search needs) slice-write-out opened-in-requires
+        shared-slice-read-check-share check-share-requires (λ c. search needs) slice-write-out-2 (λ c. search needs) returns (λ c. search needs)
+        returns-2 (λ c. search needs) returns-3 (λ c. search needs) returns-4)
