@@ -2,11 +2,11 @@
 -- Assumes nothing.
 use Rattle.circuit.specs.Verdict.{ask, _then_, each, elements}
 use Rattle.circuit.specs.Gate.{decode, entry, gate, gates}
-use Rattle.circuit.specs.Kind.{kindShape, classNumber, isClass, ownedBy, role, factor}
+use Rattle.circuit.specs.Kind.{kindShape, isClass, ownedBy, role, factor}
 use Rattle.circuit.specs.Count.{total, count, prepAt, prepSize, capacity, inputAt, inputCount, inCount, outCount, uncheckedAfter, unchecked}
-use Rattle.circuit.specs.Round.{roundNumber, isCommit, isReveal, hasCheck, checkRounds, classRounds, rounds, among, following, shapeWords, checked, openedIn, coefficientsIn, overRounds, overRun, roundCount, wordCount, coefficientCount}
+use Rattle.circuit.specs.Round.{roundNumber, checkRounds, classRounds, rounds, among, following, shapeWords, coefficientsIn, overRounds, overRun, roundCount, wordCount, coefficientCount}
 use Rattle.circuit.specs.Accept.{isKind, mayName, nameOk, restOk, askName, askRest, askGate, askSize, askLast, askCircuit}
 
 unfoldable pub computing : Unit {0}
-unfolding ask _then_ each elements decode entry gate gates kindShape classNumber isClass ownedBy role factor total count prepAt prepSize capacity inputAt inputCount inCount outCount uncheckedAfter unchecked roundNumber isCommit isReveal hasCheck checkRounds classRounds rounds among following shapeWords checked openedIn coefficientsIn overRounds overRun roundCount wordCount coefficientCount isKind mayName nameOk restOk askName askRest askGate askSize askLast askCircuit
+unfolding ask _then_ each elements decode entry gate gates kindShape isClass ownedBy role factor total count prepAt prepSize capacity inputAt inputCount inCount outCount uncheckedAfter unchecked roundNumber checkRounds classRounds rounds among following shapeWords coefficientsIn overRounds overRun roundCount wordCount coefficientCount isKind mayName nameOk restOk askName askRest askGate askSize askLast askCircuit
 computing = tt

@@ -62,7 +62,7 @@ classAt (suc (suc zero)) = Opens
 classAt (suc (suc (suc n))) = Output
 
 class-at : (k : Class) → classAt (classNumber k) ≡ k
-unfolding classAt classNumber
+unfolding classAt
 class-at Local = refl
 class-at Owned = refl
 class-at Opens = refl
@@ -80,27 +80,27 @@ class-is {k} e = ap (isClass k) e ∙ eq-eqb (classNumber k) (classNumber k) ref
 -- what a class is not
 module _ {h : Class} where
   pub local-no-in : h ≡ Local → isClass Owned h ≡ false
-  unfolding isClass classNumber
+  unfolding isClass
   local-no-in = ap (isClass Owned)
 
   pub local-no-out : h ≡ Local → isClass Output h ≡ false
-  unfolding isClass classNumber
+  unfolding isClass
   local-no-out = ap (isClass Output)
 
   pub owned-no-out : h ≡ Owned → isClass Output h ≡ false
-  unfolding isClass classNumber
+  unfolding isClass
   owned-no-out = ap (isClass Output)
 
   pub opens-no-in : h ≡ Opens → isClass Owned h ≡ false
-  unfolding isClass classNumber
+  unfolding isClass
   opens-no-in = ap (isClass Owned)
 
   pub opens-no-out : h ≡ Opens → isClass Output h ≡ false
-  unfolding isClass classNumber
+  unfolding isClass
   opens-no-out = ap (isClass Output)
 
   pub output-no-in : h ≡ Output → isClass Owned h ≡ false
-  unfolding isClass classNumber
+  unfolding isClass
   output-no-in = ap (isClass Owned)
 
 module _ (g : Gate) where

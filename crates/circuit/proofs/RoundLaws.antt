@@ -10,9 +10,9 @@ use native.Mathlib.Omega.{arith}
 use lib.Dec.{eqb}
 use borrow.Author.Tests.{eqb-true, eqb-false}
 use Rattle.circuit.specs.Gate.{Kind, gate}
-use Rattle.circuit.specs.Kind.{Class, Local, Owned, Opens, Output, Shape, kindShape, shape, classNumber, isClass}
+use Rattle.circuit.specs.Kind.{Class, Local, Owned, Opens, Output, Shape, kindShape, shape, isClass}
 use Rattle.circuit.specs.Count.{unchecked, uncheckedAfter}
-use Rattle.circuit.specs.Round.{Check, First, Second, Round, Own, Open, Commit, Reveal, roundNumber, isCommit, hasCheck, checkRounds, classRounds, rounds, among, following, shapeWords, words, checked, openedIn, coefficientsIn, overRounds, overRun}
+use Rattle.circuit.specs.Round.{Check, First, Second, Round, Own, Open, Commit, Reveal, roundNumber, hasCheck, checkRounds, classRounds, rounds, among, following, shapeWords, words, coefficientsIn, overRounds, overRun}
 use Rattle.circuit.proofs.Tests.{false-no, by-cases}
 use Rattle.circuit.proofs.Counts.{unchecked-after-le, unchecked-out}
 use Rattle.circuit.proofs.KindLaws.{Low, class-is, kind-low, shape-low}
@@ -52,7 +52,7 @@ after (Reveal h) = afterCheck h
 module _ (u : ℕ) where
   -- only an output's rounds depend on u
   pub is-among : (r : Round) (k : Class) → among r (classRounds u k) ≡ Has r u k
-  unfolding among roundNumber classRounds checkRounds hasCheck isClass classNumber
+  unfolding among roundNumber classRounds checkRounds isClass
   is-among Own Local = refl
   is-among Own Owned = refl
   is-among Own Opens = refl
@@ -79,14 +79,14 @@ module _ (u : ℕ) where
   is-among (Reveal Second) Output = by-cases (eqb u 0) (λ e. rw e) (λ e. rw e)
 
   check-pending : (h : Check) (k : Class) → (isClass Output k && hasCheck u h) ≡ true → (k ≡ Output) × (hasCheck u h ≡ true)
-  unfolding isClass classNumber
+  unfolding isClass
   check-pending h Local e = false-no e
   check-pending h Owned e = false-no e
   check-pending h Opens e = false-no e
   check-pending h Output e = (refl, e)
 
   pub round-class : (r : Round) (k : Class) → among r (classRounds u k) ≡ true → RoundClass r k
-  unfolding isClass classNumber
+  unfolding isClass
   round-class r k e = go r k (sym (is-among r k) ∙ e)
     where
       go : (r : Round) (k : Class) → Has r u k ≡ true → RoundClass r k
@@ -109,7 +109,7 @@ module _ (u : ℕ) where
 
   -- what follows a round in the rounds of an output, and in those of the other classes
   output-after : (r : Round) → among r (classRounds u Output) ≡ true → following r (classRounds u Output) ≡ after r
-  unfolding following among roundNumber classRounds checkRounds hasCheck
+  unfolding following among roundNumber classRounds checkRounds
   output-after Own e = false-no (by-cases (eqb u 0) (λ h. rw h at e) (λ h. rw h at e))
   output-after Open e = by-cases (eqb u 0) (λ h. rw h) (λ h. rw h)
   output-after (Commit First) e = by-cases (eqb u 0) (λ h. false-no (rw h at e)) (λ h. rw h)
@@ -150,18 +150,18 @@ module _ (u : ℕ) where
 
     -- of a class that is neither local nor an output
     pub words-valued : (k : Class) → isClass Local k ≡ false → isClass Output k ≡ false → overRounds (shapeWords s) (classRounds u k) ≡ s .words
-    unfolding isClass classNumber
+    unfolding isClass
     words-valued Local e h = false-no (sym e)
     words-valued Owned e h = words-owned
     words-valued Opens e h = words-opens
     words-valued Output e h = false-no (sym h)
 
     pub words-first : u ≡ 0 → overRounds (shapeWords s) (classRounds u Output) ≡ s .words + 2
-    unfolding overRounds shapeWords classRounds checkRounds hasCheck
+    unfolding overRounds shapeWords classRounds checkRounds
     words-first z = rw z (omega arith)
 
     pub words-later : eqb u 0 ≡ false → overRounds (shapeWords s) (classRounds u Output) ≡ 2 + s .words + 2
-    unfolding overRounds shapeWords classRounds checkRounds hasCheck
+    unfolding overRounds shapeWords classRounds checkRounds
     words-later z = rw z (omega arith)
 
     pub words-le : (k : Class) → overRounds (shapeWords s) (classRounds u k) ≤ s .words + 4
@@ -175,19 +175,19 @@ module _ (u : ℕ) where
   coefficients-local = refl
 
   pub coefficients-owned : overRounds (coefficientsIn u) (classRounds u Owned) ≡ 0
-  unfolding overRounds coefficientsIn isCommit classRounds
+  unfolding overRounds coefficientsIn classRounds
   coefficients-owned = refl
 
   pub coefficients-opens : overRounds (coefficientsIn u) (classRounds u Opens) ≡ 0
-  unfolding overRounds coefficientsIn isCommit classRounds
+  unfolding overRounds coefficientsIn classRounds
   coefficients-opens = refl
 
   pub coefficients-all : overRounds (coefficientsIn u) (classRounds u Output) ≡ u + 1
-  unfolding overRounds coefficientsIn isCommit openedIn checked classRounds checkRounds hasCheck
+  unfolding overRounds coefficientsIn classRounds checkRounds
   coefficients-all = by-cases (eqb u 0) (λ h. let z : u ≡ 0 = eqb-true u 0 h in rw (h, z)) (λ h. rw h (omega arith))
 
   pub coefficients-valued : (k : Class) → isClass Output k ≡ false → overRounds (coefficientsIn u) (classRounds u k) ≡ 0
-  unfolding isClass classNumber
+  unfolding isClass
   coefficients-valued Local e = coefficients-local
   coefficients-valued Owned e = coefficients-owned
   coefficients-valued Opens e = coefficients-opens

@@ -29,7 +29,7 @@ unfoldable pub verdictOf : Verdict → Q.Verdict
 verdictOf Accepted = Q.Accepted
 verdictOf (Refused number index) = Q.Refused number index
 
-unfoldable pub kindOf : Kind → G.Kind
+abbrev pub kindOf : Kind → G.Kind
 kindOf In = G.In
 kindOf Add = G.Add
 kindOf Sub = G.Sub
@@ -38,23 +38,23 @@ kindOf Times = G.Times
 kindOf Mul = G.Mul
 kindOf Out = G.Out
 
-unfoldable pub classOf : Class → K.Class
+abbrev pub classOf : Class → K.Class
 classOf Local = K.Local
 classOf Owned = K.Owned
 classOf Opens = K.Opens
 classOf Output = K.Output
 
-unfoldable pub roleOf : Role → K.Role
+abbrev pub roleOf : Role → K.Role
 roleOf Unused = K.Unused
 roleOf Party = K.Party
 roleOf Wire = K.Wire
 roleOf Constant = K.Constant
 
-unfoldable pub checkOf : Check → R.Check
+abbrev pub checkOf : Check → R.Check
 checkOf First = R.First
 checkOf Second = R.Second
 
-unfoldable pub roundOf : Round → R.Round
+abbrev pub roundOf : Round → R.Round
 roundOf Own = R.Own
 roundOf Open = R.Open
 roundOf (Commit k) = R.Commit (checkOf k)

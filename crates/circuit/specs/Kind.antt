@@ -44,7 +44,7 @@ abbrev pub shape : Gate → Shape
 shape g = kindShape (g .kind)
 
 -- a number for each class, by which two are told apart
-unfoldable pub classNumber : Class → ℕ
+abbrev pub classNumber : Class → ℕ
 classNumber Local = 0
 classNumber Owned = 1
 classNumber Opens = 2

@@ -26,20 +26,20 @@ roundNumber (Reveal First) = 3
 roundNumber (Commit Second) = 4
 roundNumber (Reveal Second) = 5
 
-unfoldable pub isCommit : Round → Bool
+abbrev pub isCommit : Round → Bool
 isCommit Own = false
 isCommit Open = false
 isCommit (Commit k) = true
 isCommit (Reveal k) = false
 
-unfoldable pub isReveal : Round → Bool
+abbrev pub isReveal : Round → Bool
 isReveal Own = false
 isReveal Open = false
 isReveal (Commit k) = false
 isReveal (Reveal k) = true
 
 -- "if anything is opened and unchecked, a check (seal, reveal); then show ..; then a check of it": the second there is always
-unfoldable pub hasCheck : ℕ → Check → Bool
+abbrev pub hasCheck : ℕ → Check → Bool
 hasCheck u First = not (eqb u 0)
 hasCheck u Second = true
 
@@ -85,12 +85,12 @@ abbrev pub words : Gate → Round → ℕ
 words g r = shapeWords (shape g) r
 
 -- how many entries a check is of, where u are opened and unchecked when its gate is reached
-unfoldable pub checked : ℕ → Check → ℕ
+abbrev pub checked : ℕ → Check → ℕ
 checked u First = u
 checked u Second = 1
 
 -- how many entries are opened and unchecked in a round: u until the first check has passed, none at the show, and then the shown value alone
-unfoldable pub openedIn : ℕ → Round → ℕ
+abbrev pub openedIn : ℕ → Round → ℕ
 openedIn u Own = u
 openedIn u Open = 0
 openedIn u (Commit k) = checked u k

@@ -23,7 +23,6 @@ use Rattle.joint.specs.Code.{freed, writtenAt}
 
 -- The round that releases is a reveal.
 release-reveals : (r : Round) → releases r ≡ true → isReveal r ≡ true
-unfolding releases isReveal
 release-reveals Own e = e
 release-reveals Open e = e
 release-reveals (Commit k) e = e

@@ -59,7 +59,7 @@ coefficients-there {r = r} g d = omega (arith, d ∙ ap (λ (u : ℕ). coefficie
 
 -- the round that releases has one word
 released-words : (c : List ℕ) (j : ℕ) (r : Round) → releases r ≡ true → words (gate c j) r ≡ 1
-unfolding releases shapeWords
+unfolding shapeWords
 released-words c j Own e = false-no e
 released-words c j Open e = false-no e
 released-words c j (Commit k) e = refl

@@ -10,7 +10,7 @@ use lib.ListN.{length, drop, replicate}
 use Rattle.field.specs.Words.{size, ops}
 use Rattle.circuit.specs.Gate.{gate, gates}
 use Rattle.circuit.specs.Count.{unchecked}
-use Rattle.circuit.specs.Round.{Round, Own, isCommit, words, openedIn, coefficientsIn, overRun, wordCount, coefficientCount}
+use Rattle.circuit.specs.Round.{Round, Own, words, openedIn, coefficientsIn, overRun, wordCount, coefficientCount}
 use Rattle.protocol.specs.Scratch.{layout, scratchSize}
 use Rattle.protocol.specs.Position.{Point, Stage, Send, Receive, Finished, Aborted, follow, start}
 use Rattle.protocol.specs.Code.{pointOf, stageOf}
@@ -327,7 +327,7 @@ module _ (J : Joint) (f : Frame) (l t o : List ℕ) (able : Runnable J f l t o) 
   nothing-spent h = rw gate-zero (goes .spent-is h)
 
   none-opened : openedIn (unchecked (J .circuit) 0) Own ≡ 0
-  unfolding openedIn unchecked
+  unfolding unchecked
   none-opened = refl
 
   ready-first : (i : ℕ) → i < J .parties → Ready size (party J i) (band (f .scratch) l i) (f .layout) (siteOf (J .circuit) s i) Own
@@ -398,4 +398,4 @@ module _ (J : Joint) (f : Frame) (l t o : List ℕ) (able : Runnable J f l t o) 
       }
     where
       nothing-drawn : coefficientsIn (unchecked (J .circuit) (s .point .gate)) Own ≡ 0
-      nothing-drawn = unfold coefficientsIn isCommit in refl
+      nothing-drawn = unfold coefficientsIn in refl

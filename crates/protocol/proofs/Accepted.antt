@@ -110,12 +110,11 @@ module _ (q : ℕ) (c l : List ℕ) (j : ℕ) (r : Round) (e : askWorked q c l j
 
 -- the opened entries of a round fit
 pub entries-fit : (c : List ℕ) (j : ℕ) (r : Round) → j < gates c → openedIn (unchecked c j) r ≤ capacity c
-unfolding openedIn
 entries-fit c j r h = go r (unchecked-fits c j (omega arith))
   where
     check : (k : Check) → unchecked c j < capacity c → checked (unchecked c j) k ≤ capacity c
-    check First f = unfold checked in omega arith
-    check Second f = unfold checked in omega arith
+    check First f = omega arith
+    check Second f = omega arith
 
     go : (r : Round) → unchecked c j < capacity c → openedIn (unchecked c j) r ≤ capacity c
     go Own f = omega arith

@@ -9,7 +9,7 @@ use mathlib.Core.List.{List}
 use native.Mathlib.Omega.{arith}
 use Rattle.algebra.specs.Ops.{Ops}
 use Rattle.circuit.specs.Verdict.{Verdict, Accepted, Refused, ask, _then_}
-use Rattle.circuit.specs.Round.{First, Second, Round, Own, Open, Commit, Reveal, isCommit, isReveal, revealWords}
+use Rattle.circuit.specs.Round.{First, Second, Round, Own, Open, Commit, Reveal, isReveal, revealWords}
 use Rattle.circuit.proofs.Tests.{false-no}
 use Rattle.circuit.proofs.Verdicts.{refused-no, ask-true, then-left, then-right}
 use Rattle.protocol.specs.Scratch.{layout, read, Value}
@@ -64,7 +64,6 @@ abort-only false d w y h = (refl, cc)
 
 -- only the second check's reveal releases
 release-second : (r : Round) → releases r ≡ true → r ≡ (Reveal Second)
-unfolding releases
 release-second Own e = false-no e
 release-second Open e = false-no e
 release-second (Commit k) e = false-no e
@@ -132,7 +131,7 @@ module _ (O : Ops) (P : Party) (l : List ℕ) (at : Position) where
 
     -- the position after a second check that passes, and after a round that does not
     goes-on : passes O (P .parties) (Reveal Second) heard ≡ true → goesTo (Reveal Second) ≡ holding (follow (P .circuit) (at .gate) (Reveal Second)) 0
-    unfolding nextPosition next keep isCommit
+    unfolding nextPosition next keep
     goes-on e = rw e
 
     goes-nowhere : (r : Round) → passes O (P .parties) r heard ≡ false → goesTo r ≡ record { gate = at .gate; stage = Aborted; held = 0 }
@@ -141,7 +140,7 @@ module _ (O : Ops) (P : Party) (l : List ℕ) (at : Position) where
 
     -- "no score is released before its own check"
     pub output-exactly : (v : ℕ) (x : Position) → (receiveAnswer O P l at heard ≡ Output v x) ↔ Releases v x
-    unfolding outcome releases isReveal
+    unfolding outcome
     output-exactly v x = (there, back)
       where
         there : receiveAnswer O P l at heard ≡ Output v x → Releases v x

@@ -9,9 +9,9 @@ use lib.Dec.{eqb, ltb}
 use borrow.Author.Tests.{ltb-true, lt-ltb, le-ltb, eqb-true, eq-eqb, ne-eqb}
 use Rattle.algebra.specs.Ops.{Ops}
 use Rattle.circuit.specs.Gate.{Gate, gate, gates}
-use Rattle.circuit.specs.Kind.{Class, Local, Owned, Opens, Output, shape, classNumber, isClass, isLinear}
+use Rattle.circuit.specs.Kind.{Class, Local, Owned, Opens, Output, shape, isClass, isLinear}
 use Rattle.circuit.specs.Count.{unchecked, uncheckedAfter}
-use Rattle.circuit.specs.Round.{Check, First, Second, Round, Own, Open, Commit, Reveal, roundNumber, isCommit, isReveal, hasCheck, checkRounds, classRounds, rounds, among, revealWords}
+use Rattle.circuit.specs.Round.{Check, First, Second, Round, Own, Open, Commit, Reveal, roundNumber, isCommit, isReveal, checkRounds, classRounds, rounds, among, revealWords}
 use Rattle.circuit.specs.Valid.{Valid}
 use Rattle.circuit.proofs.Tests.{false-no, by-cases}
 use Rattle.circuit.proofs.KindLaws.{is-class, local-no-out, local-facts}
@@ -129,7 +129,7 @@ module _ (c : List ℕ) where
 
   -- no check share is held where a gate is entered
   begin-free : (k u : ℕ) (h : Class) → mayHold (begin c k (classRounds u h) .stage) ≡ false
-  unfolding begin classRounds checkRounds hasCheck mayHold isReveal finished
+  unfolding begin classRounds checkRounds mayHold finished
   begin-free k u Local = refl
   begin-free k u Owned = refl
   begin-free k u Opens = refl
@@ -150,7 +150,7 @@ module _ (c : List ℕ) where
   output-has j o r e = is-among (unchecked c j) r (shape (gate c j) .class) ∙ rw o e
 
   followed-possible : (j : ℕ) (r : Round) → among r (rounds c j) ≡ true → j < gates c → Possible (followed c j r)
-  unfolding rounds stageOccurs isClass classNumber hasCheck
+  unfolding rounds stageOccurs isClass
   followed-possible j Own e h = resume-possible (omega arith) (suc j)
   followed-possible j Open e h =
       record { within = h; occurs = output-has j (class-at-round c j Open e) (Commit Second) refl }
@@ -167,7 +167,7 @@ module _ (c : List ℕ) where
   followed-possible j (Reveal Second) e h = resume-possible (omega arith) (suc j)
 
   followed-holds : (j : ℕ) (r : Round) → mayHold (followed c j r .stage) ≡ isCommit r
-  unfolding mayHold isCommit isReveal
+  unfolding mayHold
   followed-holds j Own = resume-free (suc j)
   followed-holds j Open = refl
   followed-holds j (Commit k) = refl
@@ -176,7 +176,7 @@ module _ (c : List ℕ) where
 
   module _ (O : Ops) (n j : ℕ) (heard : List ℕ) where
     aborted-possible : (r : Round) → among r (rounds c j) ≡ true → passes O n r heard ≡ false → j < gates c → Possible (aborted j)
-    unfolding passes isReveal aborted stageOccurs isClass classNumber hasCheck
+    unfolding passes aborted stageOccurs isClass
     aborted-possible Own e z h = false-no (sym z)
     aborted-possible Open e z h = false-no (sym z)
     aborted-possible (Commit k) e z h = false-no (sym z)
@@ -185,7 +185,7 @@ module _ (c : List ℕ) where
 
     -- a check share is held after a commitment alone, so a commitment is followed by its reveal or by nothing
     pub aborted-holds : (r : Round) → passes O n r heard ≡ false → false ≡ isCommit r
-    unfolding passes isReveal isCommit
+    unfolding passes
     aborted-holds Own z = refl
     aborted-holds Open z = refl
     aborted-holds (Commit k) z = false-no (sym z)

@@ -7,8 +7,8 @@ use mathlib.Core.List.{List, [], _∷_}
 use native.Mathlib.Omega.{arith}
 use lib.Dec.{eqb}
 use borrow.Author.Tests.{eqb-true, eq-eqb}
-use Rattle.circuit.specs.Kind.{Class, Local, Owned, Opens, Output, classNumber, isClass}
-use Rattle.circuit.specs.Round.{First, Second, Round, Own, Open, Commit, Reveal, roundNumber, hasCheck, checkRounds, classRounds, among, following, overRounds}
+use Rattle.circuit.specs.Kind.{Class, Local, Owned, Opens, Output, isClass}
+use Rattle.circuit.specs.Round.{First, Second, Round, Own, Open, Commit, Reveal, roundNumber, checkRounds, classRounds, among, following, overRounds}
 use Rattle.circuit.proofs.Tests.{false-no, by-cases}
 
 -- No test both holds and does not.
@@ -50,7 +50,7 @@ Distinct (s ∷ rs) = (among s rs ≡ false) × Distinct rs
 
 -- No round of a gate comes twice.
 pub distinct-rounds : (u : ℕ) (k : Class) → Distinct (classRounds u k)
-unfolding classRounds checkRounds hasCheck among roundNumber
+unfolding classRounds checkRounds among roundNumber
 distinct-rounds u Local = tt
 distinct-rounds u Owned = (refl, tt)
 distinct-rounds u Opens = (refl, tt)
@@ -136,7 +136,7 @@ pub record Rounds (rs : List Round) : Type 0 where
 
 -- A gate that is not linear has a round.
 pub has-round : (u : ℕ) (k : Class) → isClass Local k ≡ false → Rounds (classRounds u k)
-unfolding classRounds checkRounds hasCheck isClass classNumber begins
+unfolding classRounds checkRounds isClass begins
 has-round u Local e = differ refl e
 has-round u Owned e = record { first = Own; rest = []; are = refl; first-begins = refl }
 has-round u Opens e = record { first = Own; rest = []; are = refl; first-begins = refl }

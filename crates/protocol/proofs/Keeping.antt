@@ -14,7 +14,7 @@ use Rattle.algebra.proofs.Sums.{sum-lt}
 use Rattle.circuit.specs.Gate.{gate, gates}
 use Rattle.circuit.specs.Kind.{Class, Local, Owned, Opens, Output, shape, isClass}
 use Rattle.circuit.specs.Count.{unchecked}
-use Rattle.circuit.specs.Round.{First, Second, Round, Own, Open, Commit, Reveal, isReveal, hasCheck, checkRounds, classRounds, rounds, among, checked, openedIn}
+use Rattle.circuit.specs.Round.{First, Second, Round, Own, Open, Commit, Reveal, checkRounds, classRounds, rounds, among, openedIn}
 use Rattle.circuit.specs.Valid.{Valid}
 use Rattle.circuit.proofs.Counts.{unchecked-valued, unchecked-out, unchecked-fits, unchecked-within}
 use Rattle.circuit.proofs.KindLaws.{class-is, owned-no-out, opens-no-out, owned-facts, opens-facts}
@@ -75,7 +75,7 @@ module _ {q : ℕ} (c l : List ℕ) where
       → Worked q c (layout c) l k
       → OpenedTo q (layout c) l (unchecked c k)
       → Stands q c l (begin c k (classRounds (unchecked c k) h) .gate) (begin c k (classRounds (unchecked c k) h) .stage)
-  unfolding begin classRounds checkRounds hasCheck finished openedIn checked
+  unfolding begin classRounds checkRounds finished
   begin-stands k Local w o = tt
   begin-stands k Owned w o = (w, o)
   begin-stands k Opens w o = (w, o)
@@ -138,7 +138,7 @@ module _ {O : Ops} (F : Field O) where
     owned-stands : Stood (P .parties) size (P .circuit) l j Own
         → shape (gate (P .circuit) j) .class ≡ Owned
         → Standing size (P .circuit) l (ownReceived O P l j heard Owned) (resume (P .circuit) (suc j))
-    unfolding ownReceived openedIn layout
+    unfolding ownReceived layout
     owned-stands k e =
         onward-stands P l j (k .room) (k .within) (unchecked (P .circuit) j) _
         (input-keeps F (P .circuit) (layout (P .circuit)) l j (k .room) (k .worked) (unchecked (P .circuit) j) _ _ _ _ (k .within) (k .opened))
@@ -147,7 +147,7 @@ module _ {O : Ops} (F : Field O) where
     opens-stands : Stood (P .parties) size (P .circuit) l j Own
         → shape (gate (P .circuit) j) .class ≡ Opens
         → Standing size (P .circuit) l (ownReceived O P l j heard Opens) (resume (P .circuit) (suc j))
-    unfolding ownReceived openedIn layout
+    unfolding ownReceived layout
     opens-stands k e =
         let f = opens-facts (gate (P .circuit) j) e in
         onward-stands P l j (k .room) (k .within) (unchecked (P .circuit) j + shape (gate (P .circuit) j) .openings) _
@@ -167,7 +167,7 @@ module _ {O : Ops} (F : Field O) where
         → Stood (P .parties) size (P .circuit) l j r
         → passes O (P .parties) r heard ≡ true
         → Standing size (P .circuit) l (received O P l j r heard) (followed (P .circuit) j r)
-    unfolding received revealed openedIn checked layout
+    unfolding received revealed layout
     followed-stands Own k e = own-stands k (class-at-round (P .circuit) j Own (k .occurs))
     followed-stands Open k e =
         let s =
@@ -189,7 +189,7 @@ module _ {O : Ops} (F : Field O) where
 
     -- a round that stops the run writes nothing
     pub stopped : (r : Round) → passes O (P .parties) r heard ≡ false → received O P l j r heard ≡ l
-    unfolding received revealed passes isReveal
+    unfolding received revealed passes
     stopped Own e = false-no (sym e)
     stopped Open e = false-no (sym e)
     stopped (Commit k) e = refl
@@ -251,5 +251,5 @@ received-ready {O} F P l y at at′ r r′ heard s sited e f =
 
 -- nothing is asked of the scratch where a run starts
 pub start-stands : (q : ℕ) (c l : List ℕ) → Stands q c l 0 (Send Own)
-unfolding openedIn unchecked
+unfolding unchecked
 start-stands q c l = (λ x h v. absurd (omega arith), λ t h. absurd (omega arith))

@@ -9,7 +9,7 @@ use native.Mathlib.Omega.{arith}
 use lib.Dec.{ltb}
 use borrow.Author.Tests.{ltb-true, ltb-false, eq-eqb}
 use Rattle.circuit.specs.Gate.{gate, gates}
-use Rattle.circuit.specs.Kind.{Local, shape, classNumber, isClass, isLinear}
+use Rattle.circuit.specs.Kind.{Local, shape, isClass, isLinear}
 use Rattle.circuit.specs.Count.{unchecked}
 use Rattle.circuit.specs.Round.{Round, roundNumber, classRounds, rounds, among, following, overRounds, overRun}
 use Rattle.circuit.specs.Valid.{Valid}
@@ -208,7 +208,7 @@ module _ (c : List ℕ) where
 
   -- A run starts at the first round of gate 0: an accepted circuit's gate 0 is an input.
   pub entered-start : {n q : ℕ} → Valid n q c → Entered 0 (start c)
-  unfolding start isClass classNumber
+  unfolding start isClass
   entered-start ok = entered 0 (omega arith) (λ l. ap (isClass Local) (gate-zero ok))
 
   -- Nothing lies behind it.

@@ -186,7 +186,6 @@ module _ {O : Ops} (F : Field O) (P : Party) (l : List ℕ) (y : Layout) (at : S
       → Opening (O .size) (getD (P .prep) 0 0) (layoutOf y) l (at .gate) x z m o (at .unchecked) e d
       → l′ ≡ afterOpening O i (getD (P .prep) 0 0) (layoutOf y) l (at .gate) x z m o (at .unchecked) e d
       → Settles (O .size) (P .circuit) (layoutOf y) (getD (P .prep) 0 0) l′ (at .gate + 1)
-  unfolding openedIn
   opening-settles i x z m o e d a f =
       let s =
       opening-keeps F (P .circuit) (layoutOf y) l (at .gate) (a .room) (worked-there P l y at Own k) i (getD (P .prep) 0 0) x z m o (at .unchecked) e d

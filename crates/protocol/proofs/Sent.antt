@@ -54,7 +54,7 @@ module _ (O : Ops) (y : S.Layout) (l : List ℕ) (x z : ℕ) (m : List ℕ) (k :
 pub own-sends : {q : ℕ} (P : Party) (l : List ℕ) (y : Layout) (at : Site) {room : ℕ} → Ready q P l y at Own
     → words (gate (P .circuit) (at .gate)) Own ≤ room
     → Sends q P l y at Own 0 [] room
-unfolding coefficientsIn isCommit
+unfolding coefficientsIn
 own-sends P l y at k h = record { ready = k; coefficient-count = refl; coefficients-low = λ t. omega (arith, k .prep-low 0); space = h }
 
 -- what the steps ask

@@ -10,7 +10,7 @@ use lib.ListN.{length}
 use Rattle.algebra.specs.Ops.{Ops}
 use Rattle.algebra.specs.Field.{Field}
 use Rattle.circuit.specs.Gate.{Kind, In, Add, Sub, Plus, Times, Mul, Out, Gate, gate}
-use Rattle.circuit.specs.Kind.{Local, Role, Unused, Party, Wire, Constant, kindShape, shape, classNumber, isClass, isLinear}
+use Rattle.circuit.specs.Kind.{Local, Role, Unused, Party, Wire, Constant, kindShape, shape, isClass, isLinear}
 use Rattle.circuit.specs.Valid.{Fits, ValidGate}
 use Rattle.circuit.proofs.Tests.{false-no}
 use Rattle.protocol.specs.Part.{Part, plus, minus}
@@ -32,7 +32,7 @@ pub record Written (q : ℕ) (y : Layout) (l : List ℕ) (j : ℕ) (l′ : List 
 linear-elements : {O : Ops} (F : Field O) (i key : ℕ) (k : Kind) (x z : Part) (a : ℕ)
     → isClass Local (kindShape k .class) ≡ true
     → Elements (O .size) (linear O i key k x z a)
-unfolding linear kindShape isClass classNumber
+unfolding linear kindShape isClass
 linear-elements F i key In x z a e = false-no e
 linear-elements F i key Add x z a e = plus-elements F x z
 linear-elements F i key Sub x z a e = minus-elements F x z

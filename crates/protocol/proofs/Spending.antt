@@ -8,9 +8,9 @@ use native.Mathlib.Nat.{mul-suc}
 use native.Mathlib.Omega.{arith}
 use lib.Dec.{eqb}
 use Rattle.circuit.specs.Gate.{gate, gates}
-use Rattle.circuit.specs.Kind.{Class, Local, Owned, Opens, Output, shape, classNumber, isClass, isOut}
+use Rattle.circuit.specs.Kind.{Class, Local, Owned, Opens, Output, shape, isClass, isOut}
 use Rattle.circuit.specs.Count.{total, count, outCount, unchecked}
-use Rattle.circuit.specs.Round.{Round, hasCheck, checkRounds, classRounds, rounds, overRounds, overRun}
+use Rattle.circuit.specs.Round.{Round, checkRounds, classRounds, rounds, overRounds, overRun}
 use Rattle.circuit.proofs.Tests.{by-cases}
 use Rattle.protocol.specs.Entry.{releases}
 
@@ -23,7 +23,7 @@ module _ (c : List ℕ) where
 
   -- A gate has five rounds at most.
   rounds-few : (u : ℕ) (k : Class) → overRounds (λ r. 1) (classRounds u k) ≤ 5
-  unfolding overRounds classRounds checkRounds hasCheck
+  unfolding overRounds classRounds checkRounds
   rounds-few u Local = omega arith
   rounds-few u Owned = omega arith
   rounds-few u Opens = omega arith
@@ -35,7 +35,7 @@ module _ (c : List ℕ) where
 
   -- An out gate releases one output, and no other gate any.
   one-output : (u : ℕ) (k : Class) → overRounds (λ r. cond (releases r) 1 0) (classRounds u k) ≡ cond (isClass Output k) 1 0
-  unfolding overRounds classRounds checkRounds hasCheck releases isClass classNumber
+  unfolding overRounds classRounds checkRounds isClass
   one-output u Local = refl
   one-output u Owned = refl
   one-output u Opens = refl

@@ -22,13 +22,13 @@ use Rattle.protocol.specs.declared.Site.{Site}
 unfoldable pub layoutOf : Layout → S.Layout
 layoutOf y = record { gates = y .gates; capacity = y .capacity }
 
-unfoldable pub slotOf : Slot → S.Slot
+abbrev pub slotOf : Slot → S.Slot
 slotOf (Share j) = S.Share j
 slotOf (Mac j) = S.Mac j
 slotOf (Value t) = S.Value t
 slotOf (ValueMac t) = S.ValueMac t
 
-unfoldable pub stageOf : Stage → P.Stage
+abbrev pub stageOf : Stage → P.Stage
 stageOf (Send r) = P.Send (roundOf r)
 stageOf (Receive r) = P.Receive (roundOf r)
 stageOf Finished = P.Finished

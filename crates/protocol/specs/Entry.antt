@@ -36,7 +36,7 @@ leave Accepted later before = later
 leave (Refused number index) later before = before
 
 -- the second check's reveal releases an output
-unfoldable pub releases : Round → Bool
+abbrev pub releases : Round → Bool
 releases Own = false
 releases Open = false
 releases (Commit k) = false

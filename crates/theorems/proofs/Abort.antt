@@ -204,7 +204,7 @@ module _ (O : Ops) (J : Joint) (scratch : List ℕ) where
       -- A failing reveal writes nothing into a scratch ..
       unwritten : (i : ℕ) (l : List ℕ) (t : Round) → isReveal t ≡ true → (heard : List ℕ) → passes O (J .parties) t heard ≡ false
           → received O (party J i) l (state k .point .gate) t heard ≡ l
-      unfolding received revealed party isReveal
+      unfolding received revealed party
       unwritten i l Own e heard h = false-no e
       unwritten i l Open e heard h = false-no e
       unwritten i l (Commit c) e heard h = false-no e

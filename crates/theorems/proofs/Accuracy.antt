@@ -175,7 +175,7 @@ module _ {O : Ops} (F : Field O) (J : Joint) (scratch : List ℕ) (honest : Hone
     -- What the last check of an output releases is the output's value on plain inputs.
     releases-value : s .point .stage ≡ Send (Reveal Second) → shape (gate (J .circuit) at) .class ≡ Output
         → released O J s (Reveal Second) ≡ value O J (gate (J .circuit) at .first) ∷ []
-    unfolding released releases
+    unfolding released
     releases-value e k =
         rw (passing F J has s (Reveal Second) e inv) (ap (λ (v : ℕ). v ∷ []) (stored ∙ shown))
       where
@@ -213,7 +213,7 @@ module _ {O : Ops} (F : Field O) (J : Joint) (scratch : List ℕ) (honest : Hone
     -- A round releases the scores that it completes.
     score-step : (r : Round) → s .point .stage ≡ Send r
         → scores O J (done (J .circuit) (follow (J .circuit) at r)) ≡ scores O J at ++ released O J s r
-    unfolding releases scoreOf
+    unfolding scoreOf
     score-step r e = go r e (Order.class-at-round (J .circuit) at r (fits-at O J s r e inv .1)) (Order.after-round (J .circuit) at r (fits-at O J s r e inv .1))
       where
         score : shape (gate (J .circuit) at) .class ≡ Output → scoreOf O J (gate (J .circuit) at) ≡ value O J (gate (J .circuit) at .first) ∷ []

@@ -87,7 +87,7 @@ joined-nothing (suc n) f e = ap₂ {C = List ℕ} (λ (x y : List ℕ). x ++ y) 
 
 -- The round that releases an output checks it.
 releases-checks : (r : Round) → releases r ≡ true → checksOutput r ≡ true
-unfolding releases checksOutput isSecond
+unfolding checksOutput isSecond
 releases-checks Own h = false-no h
 releases-checks Open h = false-no h
 releases-checks (Commit k) h = false-no h
@@ -96,7 +96,7 @@ releases-checks (Reveal Second) h = refl
 
 -- The word of a commitment is the mark.
 commits-mark : (O : Ops) (P : Party) (l : List ℕ) (j held : ℕ) (r : Round) → isCommit r ≡ true → sent O P l j held r ≡ mark ∷ []
-unfolding sent isCommit
+unfolding sent
 commits-mark O P l j held Own h = false-no h
 commits-mark O P l j held Open h = false-no h
 commits-mark O P l j held (Commit k) h = refl

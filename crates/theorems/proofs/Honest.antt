@@ -56,12 +56,12 @@ pending c j (Reveal k) = underCheck c j k
 
 -- As many values are opened and unchecked in a round as the circuit says.
 length-check : (c : List ℕ) (j : ℕ) (k : Check) → length (underCheck c j k) ≡ checked (unchecked c j) k
-unfolding underCheck checked
+unfolding underCheck
 length-check c j First = length-openings c j
 length-check c j Second = refl
 
 pub length-pending : (c : List ℕ) (j : ℕ) (r : Round) → length (pending c j r) ≡ openedIn (unchecked c j) r
-unfolding pending openedIn
+unfolding pending
 length-pending c j Own = length-openings c j
 length-pending c j Open = refl
 length-pending c j (Commit k) = length-check c j k
@@ -117,7 +117,7 @@ module _ (O : Ops) (J : Joint) where
 
   -- No reveal begins a gate.
   begin-no-reveal : {A : Type 0} (r : Round) → begins r ≡ true → isReveal r ≡ true → A
-  unfolding begins isReveal
+  unfolding begins
   begin-no-reveal Own b h = false-no h
   begin-no-reveal Open b h = false-no h
   begin-no-reveal (Commit k) b h = false-no h
@@ -404,15 +404,15 @@ module _ {O : Ops} (F : Field O) (J : Joint) (has : Given O J) where
         go Own e (inl k) f = leaves Own _ _ e f (after-input e k)
         go Own e (inr k) f = leaves Own _ _ e f (after-product e k)
         go Open e k f =
-            stays Open (Commit Second) _ _ _ e f (λ i l. unfold pending in after-open e k i l) (λ z. unfold isReveal in false-no z)
+            stays Open (Commit Second) _ _ _ e f (λ i l. unfold pending in after-open e k i l) (λ z. false-no z)
         go (Commit h) e k f =
             stays (Commit h) (Reveal h) _ _ _ e f
             (λ i l. unfold received pending in (unfold pending in holds-at O J s (Commit h) e inv i l))
-            (λ z. committed (Commit h) e (unfold isCommit in refl) taken)
+            (λ z. committed (Commit h) e refl taken)
         go (Reveal First) e k f =
             stays (Reveal First) Open _ _ _ e f
             (λ i l. unfold received revealed pending in holds-checked O J (holds-at O J s (Reveal First) e inv i l))
-            (λ z. unfold isReveal in false-no z)
+            (λ z. false-no z)
         go (Reveal Second) e k f = leaves (Reveal Second) _ _ e f (after-output e k)
 
     -- A round leads to what follows it.

@@ -11,7 +11,7 @@ use Rattle.algebra.specs.Ops.{Ops}
 use Rattle.algebra.specs.Field.{Field}
 use Rattle.algebra.proofs.Ring.{norm-sub}
 use Rattle.circuit.specs.Gate.{Kind, In, Add, Sub, Plus, Times, Mul, Out, Gate, gate, gates}
-use Rattle.circuit.specs.Kind.{Class, Local, Owned, Opens, Output, Wire, Unused, kindShape, shape, classNumber, isClass, factor}
+use Rattle.circuit.specs.Kind.{Class, Local, Owned, Opens, Output, Wire, Unused, kindShape, shape, isClass, factor}
 use Rattle.circuit.specs.Valid.{Ref, Valid}
 use Rattle.circuit.proofs.Tests.{by-cases}
 use Rattle.circuit.proofs.KindLaws.{owned-no-out}
@@ -23,7 +23,7 @@ use Rattle.protocol.proofs.Wires.{Carries, carries-plus, carries-minus, carries
 
 -- Document 01's M: of its kinds mul alone opens values, and it opens two.
 pub two-of : (k : Kind) → kindShape k .openings ≡ 2 * cond (isClass Opens (kindShape k .class)) 1 0
-unfolding kindShape isClass classNumber
+unfolding kindShape isClass
 two-of In = refl
 two-of Add = refl
 two-of Sub = refl

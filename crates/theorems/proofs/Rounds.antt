@@ -11,9 +11,9 @@ use borrow.Author.Tests.{eqb-true}
 use Rattle.field.specs.Words.{size}
 use Rattle.circuit.specs.Verdict.{Accepted}
 use Rattle.circuit.specs.Gate.{Gate, gate, gates}
-use Rattle.circuit.specs.Kind.{Class, Local, Owned, Opens, Output, shape, classNumber, isClass, isIn, opens, isOut}
+use Rattle.circuit.specs.Kind.{Class, Local, Owned, Opens, Output, shape, isClass, isIn, opens, isOut}
 use Rattle.circuit.specs.Count.{total, count, prepAt, prepSize, capacity, inCount, outCount, unchecked, uncheckedAfter}
-use Rattle.circuit.specs.Round.{Round, hasCheck, checkRounds, classRounds, rounds, shapeWords, words, coefficientsIn, overRounds, overRun, roundCount, wordCount, coefficientCount}
+use Rattle.circuit.specs.Round.{Round, checkRounds, classRounds, rounds, shapeWords, words, coefficientsIn, overRounds, overRun, roundCount, wordCount, coefficientCount}
 use Rattle.circuit.specs.Accept.{fewestGates, mostGates, askCircuit}
 use Rattle.circuit.specs.Valid.{Valid}
 use Rattle.circuit.proofs.Tests.{by-cases}
@@ -34,7 +34,7 @@ ones j r = 1
 rounds-of : (u : ℕ) (k : Class)
     → overRounds (λ r. 1) (classRounds u k) + 2 * cond (isClass Output k && eqb u 0) 1 0
     ≡ cond (isClass Owned k) 1 0 + cond (isClass Opens k) 1 0 + 5 * cond (isClass Output k) 1 0
-unfolding classRounds checkRounds hasCheck overRounds isClass classNumber
+unfolding classRounds checkRounds overRounds isClass
 rounds-of u Local = refl
 rounds-of u Owned = refl
 rounds-of u Opens = refl
@@ -68,7 +68,7 @@ unchanged g u e h = unchecked-valued (shape g) u e ∙ omega arith
 -- A gate adds at most 3 to rounds and what is owed together.
 three-a-gate : (u : ℕ) (g : Gate) (k : Class) → shape g .class ≡ k
     → overRounds (λ r. 1) (classRounds u k) + owed (uncheckedAfter (shape g) u) ≤ 3 + owed u
-unfolding classRounds checkRounds hasCheck overRounds
+unfolding classRounds checkRounds overRounds
 three-a-gate u g Local e = rw (unchanged g u (local-no-out e) (local-facts g e .openings)) (omega arith)
 three-a-gate u g Owned e = rw (unchanged g u (owned-no-out e) (owned-facts g e .openings)) (omega arith)
 three-a-gate u g Opens e = omega (arith, owed-le (eqb (uncheckedAfter (shape g) u) 0))
@@ -108,7 +108,7 @@ opened c j = total (λ g. shape g .openings) c j
 words-of : (u : ℕ) (g : Gate) (k : Class) → shape g .class ≡ k
     → overRounds (shapeWords (shape g)) (classRounds u k)
     ≡ cond (isClass Owned k) 1 0 + shape g .openings + 3 * cond (isClass Output k) 1 0 + 2 * cond (isClass Output k && not (eqb u 0)) 1 0
-unfolding isClass classNumber
+unfolding isClass
 words-of u g Local e = let f = local-facts g e in omega (arith, words-local u (shape g), f .openings)
 words-of u g Owned e = let f = owned-facts g e in omega (arith, words-owned u (shape g), f .openings, f .words)
 words-of u g Opens e = omega (arith, words-opens u (shape g), opens-facts g e .words)
@@ -127,7 +127,7 @@ words-before c (suc j) = omega (arith, words-before c j, words-of (unchecked c j
 -- The coefficients of a gate: an output takes one for each unchecked value, and one for its own.
 coefficients-of : (u : ℕ) (g : Gate) (k : Class) → shape g .class ≡ k
     → overRounds (coefficientsIn u) (classRounds u k) + uncheckedAfter (shape g) u ≡ u + shape g .openings + cond (isClass Output k) 1 0
-unfolding isClass classNumber
+unfolding isClass
 coefficients-of u g Local e = omega (arith, coefficients-local u, unchecked-valued (shape g) u (local-no-out e))
 coefficients-of u g Owned e = omega (arith, coefficients-owned u, unchecked-valued (shape g) u (owned-no-out e))
 coefficients-of u g Opens e = omega (arith, coefficients-opens u, unchecked-valued (shape g) u (opens-no-out e))
@@ -156,7 +156,7 @@ coefficients-opened {n} {q} {c} ok = go (gates c) (ok .two) (ok .last)
 -- What a gate takes of the preprocessing: 3 numbers of an input, and of a gate that opens values 2 for each and 2 more.
 prep-of : (g : Gate) (k : Class) → shape g .class ≡ k
     → shape g .prep ≡ 3 * cond (isClass Owned k) 1 0 + 2 * shape g .openings + 2 * cond (isClass Opens k) 1 0
-unfolding isClass classNumber
+unfolding isClass
 prep-of g Local e = let f = local-facts g e in omega (arith, f .prep, f .openings)
 prep-of g Owned e = let f = owned-facts g e in omega (arith, f .prep, f .openings)
 prep-of g Opens e = omega (arith, opens-facts g e .prep)

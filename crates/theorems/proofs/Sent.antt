@@ -69,9 +69,9 @@ unfolding said
 revealed-sum {O} F J s r e = heard-sum F (J .parties) revealWords 0 _ (λ i l. shown i .0) (omega arith) ∙ ap (sum O (J .parties)) (λ t i. shown i .1 t)
   where
     word : (P : Party) (l : List ℕ) (j held : ℕ) (r : Round) → isReveal r ≡ true → sent O P l j held r ≡ held ∷ []
-    word P l j held Own e = unfold isReveal in false-no e
-    word P l j held Open e = unfold isReveal in false-no e
-    word P l j held (Commit k) e = unfold isReveal in false-no e
+    word P l j held Own e = false-no e
+    word P l j held Open e = false-no e
+    word P l j held (Commit k) e = false-no e
     word P l j held (Reveal k) e = unfold sent in refl
 
     shown : (i : ℕ) → (length (sent O (party J i) (s .scratch i) (s .point .gate) (s .held i) r) ≡ revealWords)

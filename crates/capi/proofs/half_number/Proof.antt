@@ -1,25 +1,24 @@
 -- `capi::half_number` meets its contract: one number for each half and each end.
 -- Assumes nothing.
 use borrow.Author.Needs.{needs}
-use Rattle.protocol.specs.Code.{stageOf}
 use Rattle.capi.specs.Stages.{halfNumber}
 use Rattle.capi.proofs.half_number.Statement.{statement}
 use Rattle.capi.proofs.half_number.Tie as tie
 
 returns : tie.Need-returns
-unfolding stageOf halfNumber
+unfolding halfNumber
 returns c = rw (c .enum-told .given .1)
 
 returns-2 : tie.Need-returns-2
-unfolding stageOf halfNumber
+unfolding halfNumber
 returns-2 c = rw (c .enum-told2 .given .1)
 
 returns-3 : tie.Need-returns-3
-unfolding stageOf halfNumber
+unfolding halfNumber
 returns-3 c = rw (c .enum-told3 .given .1)
 
 returns-4 : tie.Need-returns-4
-unfolding stageOf halfNumber
+unfolding halfNumber
 returns-4 c = rw (c .enum-told4 .given .1)
 
 pub half-number-spec : {M : Type 1} → statement M

@@ -2,7 +2,6 @@
 -- Assumes nothing.
 use borrow.Author.Tests.{lt-ltb, le-ltb, eq-eqb, ne-eqb}
 use borrow.Author.Needs.{needs}
-use Rattle.protocol.specs.Code.{stageOf}
 use Rattle.party.specs.Code.{positionOf}
 use Rattle.capi.specs.Stages.{position, positionAt}
 use Rattle.capi.proofs.position_at.Statement.{statement}
@@ -15,36 +14,36 @@ half-at-requires : tie.Need-half-at-requires
 half-at-requires c κs = search needs
 
 returns : tie.Need-returns
-unfolding positionOf stageOf position positionAt
+unfolding positionOf position positionAt
 returns c = rw (lt-ltb _ _ (c .before .before .before .if1 .taken), lt-ltb _ _ (c .before .before .if2 .taken), c .half-at .ensures, c .before .round-at .ensures)
 
 nowhere-requires : tie.Need-nowhere-requires
 nowhere-requires c κs = search needs
 
 returns-2 : tie.Need-returns-2
-unfolding positionOf stageOf position positionAt
+unfolding positionOf position positionAt
 returns-2 c = rw (lt-ltb _ _ (c .before .before .if1 .taken), le-ltb _ _ (c .before .if2 .left)) (c .nowhere .ensures)
 
 nowhere-requires-2 : tie.Need-nowhere-requires-2
 nowhere-requires-2 c κs = search needs
 
 returns-3 : tie.Need-returns-3
-unfolding positionOf stageOf position positionAt
+unfolding positionOf position positionAt
 returns-3 c = rw (le-ltb _ _ (c .before .before .if1 .left), lt-ltb _ _ (c .before .if3 .taken)) (c .nowhere2 .ensures)
 
 returns-4 : tie.Need-returns-4
-unfolding positionOf stageOf position positionAt
+unfolding positionOf position positionAt
 returns-4 c = rw (le-ltb _ _ (c .before .before .if1 .left), le-ltb _ _ (c .before .if3 .left), eq-eqb _ _ (c .if4 .taken))
 
 returns-5 : tie.Need-returns-5
-unfolding positionOf stageOf position positionAt
+unfolding positionOf position positionAt
 returns-5 c = rw (le-ltb _ _ (c .before .before .before .if1 .left), le-ltb _ _ (c .before .before .if3 .left), ne-eqb _ _ (c .before .if4 .left), eq-eqb _ _ (c .if5 .taken))
 
 nowhere-requires-3 : tie.Need-nowhere-requires-3
 nowhere-requires-3 c κs = search needs
 
 returns-6 : tie.Need-returns-6
-unfolding positionOf stageOf position positionAt
+unfolding positionOf position positionAt
 returns-6 c = rw (le-ltb _ _ (c .before .before .before .before .if1 .left), le-ltb _ _ (c .before .before .before .if3 .left), ne-eqb _ _ (c .before .before .if4 .left), ne-eqb _ _ (c .before .if5 .left)) (c .nowhere3 .ensures)
 
 pub position-at-spec : {M : Type 1} → statement M

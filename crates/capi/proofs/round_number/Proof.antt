@@ -2,32 +2,31 @@
 -- Assumes nothing.
 use borrow.Author.Needs.{needs}
 use Rattle.circuit.specs.Round.{roundNumber}
-use Rattle.circuit.specs.Code.{checkOf, roundOf}
 use Rattle.capi.proofs.round_number.Statement.{statement}
 use Rattle.capi.proofs.round_number.Tie as tie
 
 returns : tie.Need-returns
-unfolding roundNumber roundOf checkOf
+unfolding roundNumber
 returns c = rw (c .enum-told .given .1)
 
 returns-2 : tie.Need-returns-2
-unfolding roundNumber roundOf checkOf
+unfolding roundNumber
 returns-2 c = rw (c .enum-told2 .given .1)
 
 returns-3 : tie.Need-returns-3
-unfolding roundNumber roundOf checkOf
+unfolding roundNumber
 returns-3 c = rw (c .before .before .before .r .given .1, c .enum-told3 .given .1)
 
 returns-4 : tie.Need-returns-4
-unfolding roundNumber roundOf checkOf
+unfolding roundNumber
 returns-4 c = rw (c .before .before .before .r .given .1, c .enum-told4 .given .1)
 
 returns-5 : tie.Need-returns-5
-unfolding roundNumber roundOf checkOf
+unfolding roundNumber
 returns-5 c = rw (c .before .before .before .r2 .given .1, c .enum-told5 .given .1)
 
 returns-6 : tie.Need-returns-6
-unfolding roundNumber roundOf checkOf
+unfolding roundNumber
 returns-6 c = rw (c .before .before .before .r2 .given .1, c .enum-told6 .given .1)
 
 pub round-number-spec : {M : Type 1} → statement M

@@ -3,9 +3,7 @@
 use Rattle.field.specs.Words.{ops}
 use mathlib.Core.Path.{sym, ap, _∙_}
 use Rattle.field.specs.Words.{size}
-use Rattle.circuit.specs.Code.{roundOf}
 use Rattle.protocol.specs.Position.{holding}
-use Rattle.protocol.specs.Code.{stageOf}
 use Rattle.protocol.specs.Entry.{Next}
 use Rattle.party.specs.Code.{answerOf, positionOf, lentOf}
 use Rattle.protocol.proofs.Following.{start-is}
@@ -23,7 +21,7 @@ unfolding answerOf lentOf
 returns c = open-refused ops _ _ (sym (c .before .before .before .ask-lent .ensures .0) ∙ ap lentOf (c .before .number .given .1))
 
 returns-2 : tie.Need-returns-2
-unfolding answerOf lentOf positionOf stageOf roundOf holding
+unfolding answerOf lentOf positionOf holding
 returns-2 c = let e = sym (c .before .before .ask-lent .ensures .0) ∙ ap lentOf (c .enum-told .given .1) in open-accepted ops _ _ e (sym (ap (λ x. Next (holding x 0)) (start-is _ _ size (lends-here _ _ e .valid))))
 
 pub open-run-spec : {M : Type 1} → statement M

@@ -2,7 +2,7 @@
 -- Assumes nothing.
 use Rattle.field.specs.Words.{ops}
 use mathlib.Core.Path.{sym, ap, _∙_}
-use Rattle.protocol.specs.Code.{layoutOf, slotOf}
+use Rattle.protocol.specs.Code.{layoutOf}
 use Rattle.party.specs.Code.{answerOf, askedOf}
 use Rattle.protocol.proofs.Entries.{receive-refused}
 use Rattle.party.proofs.Halves.{output-slot, received-done}
@@ -16,7 +16,7 @@ ask-receive-requires : tie.Need-ask-receive-requires
 ask-receive-requires c κs = search needs
 
 read-slot-requires : tie.Need-read-slot-requires
-unfolding slotOf layoutOf
+unfolding layoutOf
 read-slot-requires c κs = output-slot _ _ _ _ ((rw (c .before .before .y .given .1) at (c .before .before .before .before .ask-receive .ensures .1)) .receives .ready)
 
 receive-step-requires : tie.Need-receive-step-requires
@@ -30,7 +30,7 @@ unfolding answerOf askedOf
 returns c = receive-refused ops _ _ _ _ (sym (c .before .before .before .ask-receive .ensures .0) ∙ ap askedOf (c .before .number .given .1))
 
 returns-2 : tie.Need-returns-2
-unfolding askedOf slotOf
+unfolding askedOf
 returns-2 c = received-done _ _ _ _ _ _ _ (rw (c .before .before .before .before .before .before .before .before .y .given .1) at (c .before .before .before .before .before .before .before .before .before .before .ask-receive .ensures .1)) (sym (c .before .before .before .before .before .before .before .before .before .before .ask-receive .ensures .0) ∙ ap askedOf (c .before .before .before .before .before .before .before .before .y .given .1)) (c .before .before .before .before .before .read-slot .ensures) (c .before .before .before .receive-step .ensures .0) (c .outcome-of .ensures) (c .before .before .before .receive-step .ensures .1)
 
 pub receive-spec : {M : Type 1} → statement M

@@ -2,7 +2,6 @@
 -- Assumes nothing.
 use Rattle.field.specs.Words.{ops}
 use mathlib.Core.Path.{sym, ap, _∙_}
-use Rattle.protocol.specs.Code.{stageOf}
 use Rattle.party.specs.Code.{answerOf, askedOf, positionOf}
 use Rattle.protocol.proofs.Entries.{send-refused}
 use Rattle.party.proofs.Halves.{sent-done}
@@ -23,7 +22,7 @@ unfolding answerOf askedOf
 returns c = send-refused ops _ _ _ _ _ (sym (c .before .before .before .ask-send .ensures .0) ∙ ap askedOf (c .before .number .given .1))
 
 returns-2 : tie.Need-returns-2
-unfolding answerOf askedOf positionOf stageOf
+unfolding answerOf askedOf positionOf
 returns-2 c = sent-done _ _ _ _ _ _ _ _ (rw (c .before .before .before .before .before .y .given .1) at (c .before .before .before .before .before .before .before .ask-send .ensures .1)) (sym (c .before .before .before .before .before .before .before .ask-send .ensures .0) ∙ ap askedOf (c .before .before .before .before .before .y .given .1)) (c .before .before .send-step .ensures .0 .is) (c .before .before .send-step .ensures .1)
 
 pub send-spec : {M : Type 1} → statement M

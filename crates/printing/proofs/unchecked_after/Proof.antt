@@ -16,7 +16,7 @@ unchecked-after-requires c κs = (omega (arith, c .before .pre), shape-small _ _
 
 returns : tie.Need-returns
 unfolding shapeOf
-returns c = omega (arith, c .unchecked-after .ensures, unchecked-after-le (shapeOf (c .before .shape-of .result)) (c .before .before .args .unchecked), shape-small _ _ (c .before .shape-of .ensures) .1)
+returns c = omega (arith, c .unchecked-after .ensures, unchecked-after-le (shapeOf (c .before .shape-of .result)) (c .before .before .args .unchecked), shape-small (c .before .shape-of .result) _ (c .before .shape-of .ensures) .1)
 
 pub unchecked-after-spec : {M : Type 1} → statement M
 unchecked-after-spec = tie.close (tie.spec shape-of-requires unchecked-after-requires returns)

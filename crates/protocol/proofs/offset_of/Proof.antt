@@ -2,49 +2,49 @@
 -- Assumes nothing.
 use native.Mathlib.Omega.{arith}
 use Rattle.protocol.specs.Scratch.{offset, scratchSize}
-use Rattle.protocol.specs.Code.{layoutOf, slotOf}
+use Rattle.protocol.specs.Code.{layoutOf}
 use borrow.Author.Needs.{needs}
 use Rattle.protocol.proofs.offset_of.Statement.{statement}
 use Rattle.protocol.proofs.offset_of.Tie as tie
 
 add-result : tie.Need-add-result
-unfolding scratchSize layoutOf slotOf
+unfolding scratchSize layoutOf
 add-result c = let w = (rw (c .before .before .s2 .given .1) at (c .before .before .before .before .pre .1)) in omega arith
 
 add-result-2 : tie.Need-add-result-2
-unfolding scratchSize layoutOf slotOf
+unfolding scratchSize layoutOf
 add-result-2 c = let w = (rw (c .before .before .s3 .given .1) at (c .before .before .before .before .pre .1)) in omega arith
 
 add-result-3 : tie.Need-add-result-3
-unfolding scratchSize layoutOf slotOf
+unfolding scratchSize layoutOf
 add-result-3 c = let w = (rw (c .before .before .s3 .given .1) at (c .before .before .before .before .pre .1)) in omega arith
 
 add-result-4 : tie.Need-add-result-4
-unfolding scratchSize layoutOf slotOf
+unfolding scratchSize layoutOf
 add-result-4 c = let w = (rw (c .before .before .s4 .given .1) at (c .before .before .before .before .pre .1)) in omega arith
 
 add-result-5 : tie.Need-add-result-5
-unfolding scratchSize layoutOf slotOf
+unfolding scratchSize layoutOf
 add-result-5 c = let w = (rw (c .before .before .before .s4 .given .1) at (c .before .before .before .before .before .pre .1)) in omega arith
 
 add-result-6 : tie.Need-add-result-6
-unfolding scratchSize layoutOf slotOf
+unfolding scratchSize layoutOf
 add-result-6 c = let w = (rw (c .before .before .before .s4 .given .1) at (c .before .before .before .before .before .pre .1)) in omega arith
 
 returns : tie.Need-returns
-unfolding offset layoutOf slotOf
+unfolding offset layoutOf
 returns c = rw (c .before .s .given .1)
 
 returns-2 : tie.Need-returns-2
-unfolding offset layoutOf slotOf
+unfolding offset layoutOf
 returns-2 c = rw (c .before .before .s2 .given .1)
 
 returns-3 : tie.Need-returns-3
-unfolding offset layoutOf slotOf
+unfolding offset layoutOf
 returns-3 c = rw (c .before .before .s3 .given .1)
 
 returns-4 : tie.Need-returns-4
-unfolding offset layoutOf slotOf
+unfolding offset layoutOf
 returns-4 c = rw (c .before .before .before .s4 .given .1)
 
 pub offset-of-spec : {M : Type 1} → statement M

@@ -1,17 +1,13 @@
 -- `circuit::rounds::checked_in` meets its contract: each check has its line in the definition.
 -- Assumes nothing.
 use borrow.Author.Needs.{needs}
-use Rattle.circuit.specs.Round.{checked}
-use Rattle.circuit.specs.Code.{checkOf}
 use Rattle.circuit.proofs.rounds.checked_in.Statement.{statement}
 use Rattle.circuit.proofs.rounds.checked_in.Tie as tie
 
 returns : tie.Need-returns
-unfolding checked checkOf
 returns c = search needs
 
 returns-2 : tie.Need-returns-2
-unfolding checked checkOf
 returns-2 c = search needs
 
 pub checked-in-spec : {M : Type 1} → statement M

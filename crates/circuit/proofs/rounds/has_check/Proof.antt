@@ -1,17 +1,13 @@
 -- `circuit::rounds::has_check` meets its contract: the first check is of something, the second there is always.
 -- Assumes nothing.
-use Rattle.circuit.specs.Round.{hasCheck}
-use Rattle.circuit.specs.Code.{checkOf}
 use borrow.Author.Needs.{needs}
 use Rattle.circuit.proofs.rounds.has_check.Statement.{statement}
 use Rattle.circuit.proofs.rounds.has_check.Tie as tie
 
 returns : tie.Need-returns
-unfolding hasCheck checkOf
 returns c = rw (c .enum-told .given .1)
 
 returns-2 : tie.Need-returns-2
-unfolding hasCheck checkOf
 returns-2 c = rw (c .enum-told2 .given .1)
 
 pub has-check-spec : {M : Type 1} → statement M

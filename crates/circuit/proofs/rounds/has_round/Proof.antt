@@ -2,7 +2,6 @@
 -- Assumes nothing.
 use mathlib.Core.Path.{sym, _∙_}
 use borrow.Author.Needs.{needs}
-use Rattle.circuit.specs.Code.{roundOf}
 use Rattle.circuit.proofs.RoundLaws.{is-among}
 use Rattle.circuit.proofs.rounds.has_round.Statement.{statement}
 use Rattle.circuit.proofs.rounds.has_round.Tie as tie
@@ -11,7 +10,6 @@ is-in-requires : tie.Need-is-in-requires
 is-in-requires c κs = search needs
 
 returns : tie.Need-returns
-unfolding roundOf
 returns c = rw (c .before .before .enum-told .given .1) (rw (is-among _ _ _, sym (c .before .is-in .ensures) ∙ c .if1 .taken))
 
 opens-requires : tie.Need-opens-requires
@@ -27,7 +25,6 @@ has-check-requires : tie.Need-has-check-requires
 has-check-requires c κs = search needs
 
 returns-2 : tie.Need-returns-2
-unfolding roundOf
 returns-2 c = rw (c .before .before .before .before .r .given .1) (rw (is-among _ _ _, sym (c .before .before .is-out2 .ensures) ∙ c .before .if2 .taken) (c .has-check .ensures))
 
 is-out-requires-3 : tie.Need-is-out-requires-3
@@ -37,23 +34,18 @@ has-check-requires-2 : tie.Need-has-check-requires-2
 has-check-requires-2 c κs = search needs
 
 returns-3 : tie.Need-returns-3
-unfolding roundOf
 returns-3 c = rw (c .before .before .before .before .r2 .given .1) (rw (is-among _ _ _, sym (c .before .before .is-out3 .ensures) ∙ c .before .if3 .taken) (c .has-check2 .ensures))
 
 returns-4 : tie.Need-returns-4
-unfolding roundOf
 returns-4 c = rw (c .before .before .before .enum-told .given .1) (rw (is-among _ _ _, sym (c .before .before .is-in .ensures) ∙ c .before .if1 .left) (c .opens .ensures))
 
 returns-5 : tie.Need-returns-5
-unfolding roundOf
 returns-5 c = rw (c .before .enum-told2 .given .1) (rw (is-among _ _ _) (c .is-out .ensures))
 
 returns-6 : tie.Need-returns-6
-unfolding roundOf
 returns-6 c = rw (c .before .before .before .r .given .1) (rw (is-among _ _ _, sym (c .before .is-out2 .ensures) ∙ c .if2 .left))
 
 returns-7 : tie.Need-returns-7
-unfolding roundOf
 returns-7 c = rw (c .before .before .before .r2 .given .1) (rw (is-among _ _ _, sym (c .before .is-out3 .ensures) ∙ c .if3 .left))
 
 pub has-round-spec : {M : Type 1} → statement M

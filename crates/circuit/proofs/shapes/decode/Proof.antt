@@ -2,36 +2,35 @@
 -- Assumes nothing.
 use Rattle.circuit.proofs.Tests.{tests}
 use Rattle.circuit.specs.Gate.{decode}
-use Rattle.circuit.specs.Code.{kindOf}
 use Rattle.circuit.proofs.shapes.decode.Statement.{statement}
 use Rattle.circuit.proofs.shapes.decode.Tie as tie
 
 returns : tie.Need-returns
-unfolding decode kindOf
+unfolding decode
 returns c = search tests
 
 returns-2 : tie.Need-returns-2
-unfolding decode kindOf
+unfolding decode
 returns-2 c = search tests
 
 returns-3 : tie.Need-returns-3
-unfolding decode kindOf
+unfolding decode
 returns-3 c = search tests
 
 returns-4 : tie.Need-returns-4
-unfolding decode kindOf
+unfolding decode
 returns-4 c = search tests
 
 returns-5 : tie.Need-returns-5
-unfolding decode kindOf
+unfolding decode
 returns-5 c = search tests
 
 returns-6 : tie.Need-returns-6
-unfolding decode kindOf
+unfolding decode
 returns-6 c = search tests
 
 returns-7 : tie.Need-returns-7
-unfolding decode kindOf
+unfolding decode
 returns-7 c = search tests
 
 pub decode-spec : {M : Type 1} → statement M

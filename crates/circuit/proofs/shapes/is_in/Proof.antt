@@ -1,7 +1,7 @@
 -- `circuit::shapes::is_in` meets its contract: its test of the number is the definition's.
 -- Assumes nothing.
 use borrow.Author.Needs.{needs}
-use Rattle.circuit.specs.Kind.{classNumber, isClass}
+use Rattle.circuit.specs.Kind.{isClass}
 use Rattle.circuit.proofs.shapes.is_in.Statement.{statement}
 use Rattle.circuit.proofs.shapes.is_in.Tie as tie
 
@@ -9,7 +9,7 @@ class-number-requires : tie.Need-class-number-requires
 class-number-requires c κs = search needs
 
 returns : tie.Need-returns
-unfolding isClass classNumber
+unfolding isClass
 returns c = rw (c .class-number .ensures)
 
 pub is-in-spec : {M : Type 1} → statement M

@@ -2,7 +2,7 @@
 -- Assumes nothing.
 use borrow.Author.Needs.{needs}
 use Rattle.circuit.specs.Kind.{kindShape}
-use Rattle.circuit.specs.Code.{kindOf, classOf, roleOf, shapeOf}
+use Rattle.circuit.specs.Code.{shapeOf}
 use Rattle.circuit.proofs.shapes.shape_of.Statement.{statement}
 use Rattle.circuit.proofs.shapes.shape_of.Tie as tie
 
@@ -19,31 +19,31 @@ local-requires-4 : tie.Need-local-requires-4
 local-requires-4 c κs = search needs
 
 returns : tie.Need-returns
-unfolding kindShape kindOf shapeOf classOf roleOf
+unfolding kindShape shapeOf
 returns c = rw (c .enum-told .given .1)
 
 returns-2 : tie.Need-returns-2
-unfolding kindShape kindOf shapeOf classOf roleOf
+unfolding kindShape shapeOf
 returns-2 c = rw (c .before .enum-told2 .given .1) (c .local .ensures)
 
 returns-3 : tie.Need-returns-3
-unfolding kindShape kindOf shapeOf classOf roleOf
+unfolding kindShape shapeOf
 returns-3 c = rw (c .before .enum-told3 .given .1) (c .local2 .ensures)
 
 returns-4 : tie.Need-returns-4
-unfolding kindShape kindOf shapeOf classOf roleOf
+unfolding kindShape shapeOf
 returns-4 c = rw (c .before .enum-told4 .given .1) (c .local3 .ensures)
 
 returns-5 : tie.Need-returns-5
-unfolding kindShape kindOf shapeOf classOf roleOf
+unfolding kindShape shapeOf
 returns-5 c = rw (c .before .enum-told5 .given .1) (c .local4 .ensures)
 
 returns-6 : tie.Need-returns-6
-unfolding kindShape kindOf shapeOf classOf roleOf
+unfolding kindShape shapeOf
 returns-6 c = rw (c .enum-told6 .given .1)
 
 returns-7 : tie.Need-returns-7
-unfolding kindShape kindOf shapeOf classOf roleOf
+unfolding kindShape shapeOf
 returns-7 c = rw (c .enum-told7 .given .1)
 
 pub shape-of-spec : {M : Type 1} → statement M

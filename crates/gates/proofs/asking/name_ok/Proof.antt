@@ -2,7 +2,6 @@
 -- Assumes nothing.
 use borrow.Author.Needs.{needs}
 use Rattle.circuit.specs.Accept.{nameOk}
-use Rattle.circuit.specs.Code.{roleOf}
 use Rattle.gates.proofs.asking.name_ok.Statement.{statement}
 use Rattle.gates.proofs.asking.name_ok.Tie as tie
 
@@ -10,19 +9,19 @@ may-name-requires : tie.Need-may-name-requires
 may-name-requires c κs = search needs
 
 returns : tie.Need-returns
-unfolding nameOk roleOf
+unfolding nameOk
 returns c = rw (c .enum-told .given .1)
 
 returns-2 : tie.Need-returns-2
-unfolding nameOk roleOf
+unfolding nameOk
 returns-2 c = rw (c .enum-told2 .given .1)
 
 returns-3 : tie.Need-returns-3
-unfolding nameOk roleOf
+unfolding nameOk
 returns-3 c = rw (c .before .enum-told3 .given .1) (c .may-name .ensures)
 
 returns-4 : tie.Need-returns-4
-unfolding nameOk roleOf
+unfolding nameOk
 returns-4 c = rw (c .enum-told4 .given .1)
 
 pub name-ok-spec : {M : Type 1} → statement M

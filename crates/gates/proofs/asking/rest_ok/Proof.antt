@@ -2,24 +2,23 @@
 -- Assumes nothing.
 use borrow.Author.Needs.{needs}
 use Rattle.circuit.specs.Accept.{restOk}
-use Rattle.circuit.specs.Code.{roleOf}
 use Rattle.gates.proofs.asking.rest_ok.Statement.{statement}
 use Rattle.gates.proofs.asking.rest_ok.Tie as tie
 
 returns : tie.Need-returns
-unfolding restOk roleOf
+unfolding restOk
 returns c = rw (c .enum-told .given .1)
 
 returns-2 : tie.Need-returns-2
-unfolding restOk roleOf
+unfolding restOk
 returns-2 c = rw (c .enum-told2 .given .1)
 
 returns-3 : tie.Need-returns-3
-unfolding restOk roleOf
+unfolding restOk
 returns-3 c = rw (c .enum-told3 .given .1)
 
 returns-4 : tie.Need-returns-4
-unfolding restOk roleOf
+unfolding restOk
 returns-4 c = rw (c .enum-told4 .given .1)
 
 pub rest-ok-spec : {M : Type 1} → statement M

@@ -40,7 +40,7 @@ words-of-requires c κs = shape-small _ _ (c .before .before .before .before .be
 
 add-t16 : tie.Need-add-t16
 unfolding shapeOf
-add-t16 c = omega (arith, totals-low (c .before .before .before .before .before .before .before .before .before .before .before .before .before .pre .3), c .before .words-of .ensures, shape-small _ _ (c .before .before .before .before .before .before .before .before .before .before .before .before .before .pre .0) .2, words-le (c .before .before .before .before .before .before .before .before .before .before .before .before .before .args .waiting) (shapeOf (c .before .before .before .before .before .before .before .before .before .before .before .before .before .args .s)) (classOf (c .before .before .before .before .before .before .before .before .before .before .before .before .before .args .s .class)))
+add-t16 c = omega (arith, totals-low (c .before .before .before .before .before .before .before .before .before .before .before .before .before .pre .3), c .before .words-of .ensures, shape-small (c .before .before .before .before .before .before .before .before .before .before .before .before .before .args .s) _ (c .before .before .before .before .before .before .before .before .before .before .before .before .before .pre .0) .2, words-le (c .before .before .before .before .before .before .before .before .before .before .before .before .before .args .waiting) (shapeOf (c .before .before .before .before .before .before .before .before .before .before .before .before .before .args .s)) (classOf (c .before .before .before .before .before .before .before .before .before .before .before .before .before .args .s .class)))
 
 coefficients-of-requires : tie.Need-coefficients-of-requires
 coefficients-of-requires c κs = omega (arith, c .before .before .before .before .before .before .before .before .before .before .before .before .before .pre .2, unchecked-few (now (c .before .before .before .before .before .before .before .before .before .before .before .before .before .args .c)) (c .before .before .before .before .before .before .before .before .before .before .before .before .before .args .j))

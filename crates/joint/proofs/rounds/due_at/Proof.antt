@@ -8,19 +8,15 @@ use Rattle.joint.proofs.rounds.due_at.Statement.{statement}
 use Rattle.joint.proofs.rounds.due_at.Tie as tie
 
 returns : tie.Need-returns
-unfolding stageOf
 returns c = ap stageOf (c .before .stage .given .1)
 
 returns-2 : tie.Need-returns-2
-unfolding stageOf
 returns-2 c = receive-none _ (ap stageOf (c .enum-told .given .1))
 
 returns-3 : tie.Need-returns-3
-unfolding stageOf
 returns-3 c = finished-none (ap stageOf (c .enum-told2 .given .1))
 
 returns-4 : tie.Need-returns-4
-unfolding stageOf
 returns-4 c = aborted-none (ap stageOf (c .enum-told3 .given .1))
 
 pub due-at-spec : {M : Type 1} → statement M

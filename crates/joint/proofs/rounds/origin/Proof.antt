@@ -2,8 +2,7 @@
 -- Assumes nothing.
 use mathlib.Core.Path.{refl}
 use borrow.Author.Needs.{needs}
-use Rattle.circuit.specs.Code.{roundOf}
-use Rattle.protocol.specs.Code.{pointOf, stageOf}
+use Rattle.protocol.specs.Code.{pointOf}
 use Rattle.joint.proofs.rounds.origin.Statement.{statement}
 use Rattle.joint.proofs.rounds.origin.Tie as tie
 
@@ -11,7 +10,7 @@ no-tally-requires : tie.Need-no-tally-requires
 no-tally-requires c κs = search needs
 
 returns : tie.Need-returns
-unfolding pointOf stageOf roundOf
+unfolding pointOf
 returns c = record {
   point = refl;
   tallied = λ cs. c .no-tally .ensures cs 0;

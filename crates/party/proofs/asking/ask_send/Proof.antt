@@ -23,13 +23,13 @@ unfolding lentOf askedOf askSend
 returns c = (placed-refuses _ _ _ _ (sym (c .before .before .before .ask-place .ensures .0) ∙ ap lentOf (c .before .number .given .1)), tt)
 
 returns-2 : tie.Need-returns-2
-unfolding verdictOf askedOf stageOf
+unfolding verdictOf askedOf
 returns-2 c =
     let place = round-at _ _ _ (c .before .before .before .before .before .before .before .before .before .before .ask-place .ensures .1) (c .before .before .before .before .before .before .before .before .y .given .1) in
     (send-asked _ _ _ _ _ place _ (ap stageOf (c .before .before .before .before .before .stage .given .1)) _ _ (sym (ap verdictOf (c .before .number2 .given .1)) ∙ c .before .before .before .ask-send-round .ensures), tt)
 
 returns-3 : tie.Need-returns-3
-unfolding verdictOf askedOf stageOf
+unfolding verdictOf askedOf
 returns-3 c =
     let place = round-at _ _ _ (c .before .before .before .before .before .before .before .before .before .ask-place .ensures .1) (c .before .before .before .before .before .before .before .y .given .1) in
     let stage = ap stageOf (c .before .before .before .before .stage .given .1) in
@@ -39,15 +39,15 @@ returns-3 c =
     )
 
 returns-4 : tie.Need-returns-4
-unfolding askedOf askSend positionOf stageOf whenSending
+unfolding askedOf askSend positionOf whenSending
 returns-4 c = let place = round-at _ _ _ (c .before .before .before .before .before .ask-place .ensures .1) (c .before .before .before .y .given .1) in (half-decides _ _ _ _ _ (place .lent .accepted) (place .can) (rw (c .enum-told2 .given .1)), tt)
 
 returns-5 : tie.Need-returns-5
-unfolding askedOf askSend positionOf stageOf whenSending
+unfolding askedOf askSend positionOf whenSending
 returns-5 c = let place = round-at _ _ _ (c .before .before .before .before .before .ask-place .ensures .1) (c .before .before .before .y .given .1) in (half-decides _ _ _ _ _ (place .lent .accepted) (place .can) (rw (c .enum-told3 .given .1)), tt)
 
 returns-6 : tie.Need-returns-6
-unfolding askedOf askSend positionOf stageOf whenSending
+unfolding askedOf askSend positionOf whenSending
 returns-6 c = let place = round-at _ _ _ (c .before .before .before .before .before .ask-place .ensures .1) (c .before .before .before .y .given .1) in (half-decides _ _ _ _ _ (place .lent .accepted) (place .can) (rw (c .enum-told4 .given .1)), tt)
 
 pub ask-send-spec : {M : Type 1} → statement M

@@ -2,7 +2,6 @@
 -- Assumes nothing.
 use mathlib.Core.Path.{_∙_}
 use Rattle.protocol.specs.Position.{mayHold}
-use Rattle.protocol.specs.Code.{stageOf}
 use borrow.Author.Needs.{needs}
 use Rattle.party.proofs.asking.may_hold.Statement.{statement}
 use Rattle.party.proofs.asking.may_hold.Tie as tie
@@ -14,19 +13,19 @@ is-commit-requires : tie.Need-is-commit-requires
 is-commit-requires c κs = search needs
 
 returns : tie.Need-returns
-unfolding mayHold stageOf
+unfolding mayHold
 returns c = c .is-reveal .ensures ∙ rw (c .before .before .stage .given .1)
 
 returns-2 : tie.Need-returns-2
-unfolding mayHold stageOf
+unfolding mayHold
 returns-2 c = c .is-commit .ensures ∙ rw (c .before .before .stage2 .given .1)
 
 returns-3 : tie.Need-returns-3
-unfolding mayHold stageOf
+unfolding mayHold
 returns-3 c = rw (c .enum-told .given .1)
 
 returns-4 : tie.Need-returns-4
-unfolding mayHold stageOf
+unfolding mayHold
 returns-4 c = rw (c .enum-told2 .given .1)
 
 pub may-hold-spec : {M : Type 1} → statement M

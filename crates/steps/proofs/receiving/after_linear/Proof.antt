@@ -3,18 +3,16 @@
 use borrow.Author.Needs.{needs}
 use Rattle.circuit.proofs.Tests.{false-no}
 use Rattle.circuit.specs.Kind.{kindShape, isClass}
-use Rattle.circuit.specs.Kind.{classNumber}
-use Rattle.circuit.specs.Code.{kindOf}
 use Rattle.protocol.specs.Receive.{linear, afterLinear}
 use Rattle.steps.proofs.receiving.after_linear.Statement.{statement}
 use Rattle.steps.proofs.receiving.after_linear.Tie as tie
 
 wire-at-requires : tie.Need-wire-at-requires
-unfolding kindOf kindShape
+unfolding kindShape
 wire-at-requires c κs = (c .before .before .before .before .pre .1, rw (c .before .enum-told2 .given .1) at (c .before .before .before .before .pre .4 .first))
 
 wire-at-requires-2 : tie.Need-wire-at-requires-2
-unfolding kindOf kindShape
+unfolding kindShape
 wire-at-requires-2 c κs = (c .before .before .before .before .before .before .pre .1, rw (c .before .before .before .enum-told2 .given .1) at (c .before .before .before .before .before .before .pre .4 .second))
 
 add-requires : tie.Need-add-requires
@@ -24,11 +22,11 @@ put-wire-requires : tie.Need-put-wire-requires
 put-wire-requires c κs = search needs
 
 wire-at-requires-3 : tie.Need-wire-at-requires-3
-unfolding kindOf kindShape
+unfolding kindShape
 wire-at-requires-3 c κs = (c .before .before .before .before .pre .1, rw (c .before .enum-told3 .given .1) at (c .before .before .before .before .pre .4 .first))
 
 wire-at-requires-4 : tie.Need-wire-at-requires-4
-unfolding kindOf kindShape
+unfolding kindShape
 wire-at-requires-4 c κs = (c .before .before .before .before .before .before .pre .1, rw (c .before .before .before .enum-told3 .given .1) at (c .before .before .before .before .before .before .pre .4 .second))
 
 sub-requires : tie.Need-sub-requires
@@ -38,53 +36,53 @@ put-wire-requires-2 : tie.Need-put-wire-requires-2
 put-wire-requires-2 c κs = search needs
 
 wire-at-requires-5 : tie.Need-wire-at-requires-5
-unfolding kindOf kindShape
+unfolding kindShape
 wire-at-requires-5 c κs = (c .before .before .before .before .pre .1, rw (c .before .enum-told4 .given .1) at (c .before .before .before .before .pre .4 .first))
 
 shifted-requires : tie.Need-shifted-requires
-unfolding kindOf kindShape
+unfolding kindShape
 shifted-requires c κs = (c .before .before .before .before .before .pre .0, c .wire-at5 .ensures .low, rw (c .before .before .enum-told4 .given .1) at (c .before .before .before .before .before .pre .4 .constant))
 
 put-wire-requires-3 : tie.Need-put-wire-requires-3
 put-wire-requires-3 c κs = search needs
 
 wire-at-requires-6 : tie.Need-wire-at-requires-6
-unfolding kindOf kindShape
+unfolding kindShape
 wire-at-requires-6 c κs = (c .before .before .before .before .pre .1, rw (c .before .enum-told5 .given .1) at (c .before .before .before .before .pre .4 .first))
 
 times-requires : tie.Need-times-requires
-unfolding kindOf kindShape
+unfolding kindShape
 times-requires c κs = (rw (c .before .before .enum-told5 .given .1) at (c .before .before .before .before .before .pre .4 .constant), c .wire-at6 .ensures .low)
 
 put-wire-requires-4 : tie.Need-put-wire-requires-4
 put-wire-requires-4 c κs = search needs
 
 returns : tie.Need-returns
-unfolding kindOf kindShape isClass classNumber
+unfolding kindShape isClass
 returns c = false-no (rw (c .enum-told .given .1) at (c .before .before .before .pre .3))
 
 returns-2 : tie.Need-returns-2
-unfolding afterLinear linear kindOf
+unfolding afterLinear linear
 returns-2 c = rw (c .before .before .before .before .before .before .before .before .before .enum-told2 .given .1) (cc)
 
 returns-3 : tie.Need-returns-3
-unfolding afterLinear linear kindOf
+unfolding afterLinear linear
 returns-3 c = rw (c .before .before .before .before .before .before .before .before .before .enum-told3 .given .1) (cc)
 
 returns-4 : tie.Need-returns-4
-unfolding afterLinear linear kindOf
+unfolding afterLinear linear
 returns-4 c = rw (c .before .before .before .before .before .before .before .enum-told4 .given .1) (cc)
 
 returns-5 : tie.Need-returns-5
-unfolding afterLinear linear kindOf
+unfolding afterLinear linear
 returns-5 c = rw (c .before .before .before .before .before .before .before .enum-told5 .given .1) (cc)
 
 returns-6 : tie.Need-returns-6
-unfolding kindOf kindShape isClass classNumber
+unfolding kindShape isClass
 returns-6 c = false-no (rw (c .enum-told6 .given .1) at (c .before .before .before .pre .3))
 
 returns-7 : tie.Need-returns-7
-unfolding kindOf kindShape isClass classNumber
+unfolding kindShape isClass
 returns-7 c = false-no (rw (c .enum-told7 .given .1) at (c .before .before .before .pre .3))
 
 pub after-linear-spec : {M : Type 1} → statement M

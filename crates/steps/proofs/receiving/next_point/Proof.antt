@@ -3,8 +3,7 @@
 use mathlib.Core.Path.{refl, _∙_}
 use borrow.Author.Needs.{needs}
 use Rattle.field.specs.Words.{ops}
-use Rattle.circuit.specs.Code.{roundOf, checkOf}
-use Rattle.circuit.specs.Round.{First, Second, Own, Open, Commit, Reveal, isReveal}
+use Rattle.circuit.specs.Round.{First, Second, Own, Open, Commit, Reveal}
 use Rattle.protocol.proofs.Following.{next-follows, next-stops, passes-zero, passes-not, passes-other}
 use Rattle.protocol.proofs.HeardWords.{reveal-heard}
 use Rattle.steps.proofs.receiving.next_point.Statement.{statement}
@@ -23,7 +22,6 @@ aborted-at-requires : tie.Need-aborted-at-requires
 aborted-at-requires c κs = search needs
 
 returns : tie.Need-returns
-unfolding roundOf isReveal
 returns c = let s = (rw (c .before .before .before .r2 .given .1) at (c .before .before .before .before .before .before .before .pre)) in rw (c .before .before .before .r2 .given .1) (next-stops _ ops _ _ _ (Reveal _) (passes-not ops _ _ (Reveal _) refl (s .2 ∙ reveal-heard ops _ (s .0)) (c .before .if1 .taken)) (c .aborted-at .ensures))
 
 sending-at-requires-3 : tie.Need-sending-at-requires-3
@@ -33,23 +31,18 @@ resume-requires-2 : tie.Need-resume-requires-2
 resume-requires-2 c κs = c .before .before .before .before .before .before .before .before .pre .1
 
 returns-2 : tie.Need-returns-2
-unfolding roundOf isReveal
 returns-2 c = let s = (rw (c .before .enum-told .given .1) at (c .before .before .before .before .before .pre)) in rw (c .before .enum-told .given .1) (next-follows _ ops _ _ _ Own (s .0 .occurs) (passes-other ops _ _ Own refl) (c .resume .ensures))
 
 returns-3 : tie.Need-returns-3
-unfolding roundOf checkOf isReveal
 returns-3 c = let s = (rw (c .before .enum-told2 .given .1) at (c .before .before .before .before .before .pre)) in rw (c .before .enum-told2 .given .1) (next-follows _ ops _ _ _ Open (s .0 .occurs) (passes-other ops _ _ Open refl) (c .sending-at .ensures))
 
 returns-4 : tie.Need-returns-4
-unfolding roundOf isReveal
 returns-4 c = let s = (rw (c .before .before .r .given .1) at (c .before .before .before .before .before .before .pre)) in rw (c .before .before .r .given .1) (next-follows _ ops _ _ _ (Commit _) (s .0 .occurs) (passes-other ops _ _ (Commit _) refl) (c .sending-at2 .ensures))
 
 returns-5 : tie.Need-returns-5
-unfolding roundOf checkOf isReveal
 returns-5 c = let s = (rw (c .before .before .before .before .before .r2 .given .1, c .before .enum-told3 .given .1) at (c .before .before .before .before .before .before .before .before .before .pre)) in rw (c .before .before .before .before .before .r2 .given .1, c .before .enum-told3 .given .1) (next-follows _ ops _ _ _ (Reveal First) (s .0 .occurs) (passes-zero ops _ _ (Reveal First) refl (s .2 ∙ reveal-heard ops First (s .0)) (c .before .before .before .if1 .left)) (c .sending-at3 .ensures))
 
 returns-6 : tie.Need-returns-6
-unfolding roundOf checkOf isReveal
 returns-6 c = let s = (rw (c .before .before .before .before .before .r2 .given .1, c .before .enum-told4 .given .1) at (c .before .before .before .before .before .before .before .before .before .pre)) in rw (c .before .before .before .before .before .r2 .given .1, c .before .enum-told4 .given .1) (next-follows _ ops _ _ _ (Reveal Second) (s .0 .occurs) (passes-zero ops _ _ (Reveal Second) refl (s .2 ∙ reveal-heard ops Second (s .0)) (c .before .before .before .if1 .left)) (c .resume2 .ensures))
 
 pub next-point-spec : {M : Type 1} → statement M

@@ -2,21 +2,21 @@
 -- Assumes nothing.
 use native.Mathlib.Omega.{arith}
 use Rattle.protocol.specs.Scratch.{putOpened}
-use Rattle.protocol.specs.Code.{layoutOf, slotOf}
+use Rattle.protocol.specs.Code.{layoutOf}
 use borrow.Author.Needs.{needs}
 use Rattle.steps.proofs.scratch.put_opened.Statement.{statement}
 use Rattle.steps.proofs.scratch.put_opened.Tie as tie
 
 write-slot-requires : tie.Need-write-slot-requires
-unfolding slotOf layoutOf
+unfolding layoutOf
 write-slot-requires c κs = (c .before .before .pre .0, c .before .before .pre .1)
 
 write-slot-requires-2 : tie.Need-write-slot-requires-2
-unfolding slotOf layoutOf
+unfolding layoutOf
 write-slot-requires-2 c κs = (omega arith, c .before .before .before .before .before .before .pre .1)
 
 returns : tie.Need-returns
-unfolding putOpened slotOf
+unfolding putOpened
 returns c = cc
 
 pub put-opened-spec : {M : Type 1} → statement M

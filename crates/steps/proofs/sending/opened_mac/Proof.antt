@@ -1,15 +1,12 @@
 -- `steps::sending::opened_mac` meets its contract: the slot of an opened entry holds an element.
 -- Assumes nothing.
-use Rattle.protocol.specs.Code.{slotOf}
 use Rattle.steps.proofs.sending.opened_mac.Statement.{statement}
 use Rattle.steps.proofs.sending.opened_mac.Tie as tie
 
 read-slot-requires : tie.Need-read-slot-requires
-unfolding slotOf
 read-slot-requires c κs = (c .before .pre .0, c .before .pre .1 .within)
 
 returns : tie.Need-returns
-unfolding slotOf
 returns c = record { is = c .read-slot .ensures; below = rw (c .read-slot .ensures) (c .before .before .pre .1 .mac) }
 
 pub opened-mac-spec : {M : Type 1} → statement M
