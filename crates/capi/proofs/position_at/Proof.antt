@@ -7,25 +7,13 @@ use Rattle.capi.specs.Stages.{position, positionAt}
 use Rattle.capi.proofs.position_at.Statement.{statement}
 use Rattle.capi.proofs.position_at.Tie as tie
 
-round-at-requires : tie.Need-round-at-requires
-round-at-requires c κs = search needs
-
-half-at-requires : tie.Need-half-at-requires
-half-at-requires c κs = search needs
-
 returns : tie.Need-returns
 unfolding positionOf position positionAt
 returns c = rw (lt-ltb _ _ (c .before .before .before .if1 .taken), lt-ltb _ _ (c .before .before .if2 .taken), c .half-at .ensures, c .before .round-at .ensures)
 
-nowhere-requires : tie.Need-nowhere-requires
-nowhere-requires c κs = search needs
-
 returns-2 : tie.Need-returns-2
 unfolding positionOf position positionAt
 returns-2 c = rw (lt-ltb _ _ (c .before .before .if1 .taken), le-ltb _ _ (c .before .if2 .left)) (c .nowhere .ensures)
-
-nowhere-requires-2 : tie.Need-nowhere-requires-2
-nowhere-requires-2 c κs = search needs
 
 returns-3 : tie.Need-returns-3
 unfolding positionOf position positionAt
@@ -39,9 +27,6 @@ returns-5 : tie.Need-returns-5
 unfolding positionOf position positionAt
 returns-5 c = rw (le-ltb _ _ (c .before .before .before .if1 .left), le-ltb _ _ (c .before .before .if3 .left), ne-eqb _ _ (c .before .if4 .left), eq-eqb _ _ (c .if5 .taken))
 
-nowhere-requires-3 : tie.Need-nowhere-requires-3
-nowhere-requires-3 c κs = search needs
-
 returns-6 : tie.Need-returns-6
 unfolding positionOf position positionAt
 returns-6 c = rw (le-ltb _ _ (c .before .before .before .before .if1 .left), le-ltb _ _ (c .before .before .before .if3 .left), ne-eqb _ _ (c .before .before .if4 .left), ne-eqb _ _ (c .before .if5 .left)) (c .nowhere3 .ensures)
@@ -49,5 +34,5 @@ returns-6 c = rw (le-ltb _ _ (c .before .before .before .before .if1 .left), le-
 pub position-at-spec : {M : Type 1} → statement M
 position-at-spec =
     tie.close
-    (tie.spec round-at-requires half-at-requires returns nowhere-requires returns-2 nowhere-requires-2 returns-3 returns-4 returns-5
-        nowhere-requires-3 returns-6)
+    (tie.spec (λ c κs. search needs) (λ c κs. search needs) returns (λ c κs. search needs) returns-2 (λ c κs. search needs) returns-3 returns-4
+        returns-5 (λ c κs. search needs) returns-6)

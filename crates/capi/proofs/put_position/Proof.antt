@@ -7,15 +7,6 @@ use Rattle.capi.specs.Numbers.{positionNumbers}
 use Rattle.capi.proofs.put_position.Statement.{statement}
 use Rattle.capi.proofs.put_position.Tie as tie
 
-half-number-requires : tie.Need-half-number-requires
-half-number-requires c κs = search needs
-
-stage-round-requires : tie.Need-stage-round-requires
-stage-round-requires c κs = search needs
-
-put-requires : tie.Need-put-requires
-put-requires c κs = search needs
-
 returns : tie.Need-returns
 unfolding positionOf positionNumbers
 returns c = rw (sym (c .before .before .before .before .half-number .ensures), sym (c .before .before .before .stage-round .ensures)) (c .before .before .put .ensures)
@@ -23,5 +14,5 @@ returns c = rw (sym (c .before .before .before .before .half-number .ensures), s
 pub put-position-spec : {M : Type 1} → statement M
 put-position-spec =
     tie.close
-    (tie.spec half-number-requires (λ c. search needs) stage-round-requires (λ c. search needs) (λ c. search needs) put-requires (λ c. search needs)
-        returns)
+    (tie.spec (λ c κs. search needs) (λ c. search needs) (λ c κs. search needs) (λ c. search needs) (λ c. search needs) (λ c κs. search needs)
+        (λ c. search needs) returns)

@@ -5,12 +5,6 @@ use Rattle.capi.specs.Stages.{stageRound}
 use Rattle.capi.proofs.stage_round.Statement.{statement}
 use Rattle.capi.proofs.stage_round.Tie as tie
 
-round-number-requires : tie.Need-round-number-requires
-round-number-requires c κs = search needs
-
-round-number-requires-2 : tie.Need-round-number-requires-2
-round-number-requires-2 c κs = search needs
-
 returns : tie.Need-returns
 unfolding stageRound
 returns c = rw (c .before .before .s .given .1) (c .round-number .ensures)
@@ -30,5 +24,5 @@ returns-4 c = rw (c .enum-told2 .given .1)
 pub stage-round-spec : {M : Type 1} → statement M
 stage-round-spec =
     tie.close
-    (tie.spec (λ c. search needs) round-number-requires (λ c. search needs) round-number-requires-2 (λ c. search needs) (λ c. search needs) returns
+    (tie.spec (λ c. search needs) (λ c κs. search needs) (λ c. search needs) (λ c κs. search needs) (λ c. search needs) (λ c. search needs) returns
         returns-2 returns-3 returns-4)

@@ -10,9 +10,6 @@ use Rattle.joint.proofs.Entering.{setting-refused, frame-asked, lent-re
 use Rattle.joint.proofs.joint_run.Statement.{statement}
 use Rattle.joint.proofs.joint_run.Tie as tie
 
-ask-setting-requires : tie.Need-ask-setting-requires
-ask-setting-requires c κs = search needs
-
 returns : tie.Need-returns
 unfolding verdictOf jointAnswerOf
 returns c = setting-refused _ _ _ _ (sym (c .before .before .before .ask-setting .ensures) ∙ ap verdictOf (c .before .number .given .1))
@@ -51,6 +48,6 @@ returns-3 c = entry-left _ _ _ _ _ _ _ _ (sym (c .before .before .before .before
 pub joint-run-spec : {M : Type 1} → statement M
 joint-run-spec =
     tie.close
-    (tie.spec ask-setting-requires (λ c. search needs) returns (λ c. search needs) totals-before-requires frame-of-requires ask-lent-requires
+    (tie.spec (λ c κs. search needs) (λ c. search needs) returns (λ c. search needs) totals-before-requires frame-of-requires ask-lent-requires
         (λ c. search needs) returns-2 (λ c. search needs) starts-of-requires slice-aggregate-run run-requires (λ c. search needs) (λ c. search needs)
         (λ c. search needs) returns-3)

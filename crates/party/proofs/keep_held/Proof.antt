@@ -6,9 +6,6 @@ use borrow.Author.Needs.{needs}
 use Rattle.party.proofs.keep_held.Statement.{statement}
 use Rattle.party.proofs.keep_held.Tie as tie
 
-is-commit-requires : tie.Need-is-commit-requires
-is-commit-requires c κs = search needs
-
 returns : tie.Need-returns
 unfolding keep
 returns c = rw (sym (c .before .is-commit .ensures) ∙ c .if1 .taken)
@@ -18,4 +15,4 @@ unfolding keep
 returns-2 c = rw (sym (c .before .is-commit .ensures) ∙ c .if1 .left)
 
 pub keep-held-spec : {M : Type 1} → statement M
-keep-held-spec = tie.close (tie.spec is-commit-requires returns returns-2)
+keep-held-spec = tie.close (tie.spec (λ c κs. search needs) returns returns-2)

@@ -12,18 +12,12 @@ use borrow.Author.Needs.{needs}
 use Rattle.party.proofs.receive.Statement.{statement}
 use Rattle.party.proofs.receive.Tie as tie
 
-ask-receive-requires : tie.Need-ask-receive-requires
-ask-receive-requires c κs = search needs
-
 read-slot-requires : tie.Need-read-slot-requires
 unfolding layoutOf
 read-slot-requires c κs = output-slot _ _ _ _ ((rw (c .before .before .y .given .1) at (c .before .before .before .before .ask-receive .ensures .1)) .receives .ready)
 
 receive-step-requires : tie.Need-receive-step-requires
 receive-step-requires c κs = (rw (c .before .before .before .before .y .given .1) at (c .before .before .before .before .before .before .ask-receive .ensures .1)) .receives
-
-outcome-of-requires : tie.Need-outcome-of-requires
-outcome-of-requires c κs = search needs
 
 returns : tie.Need-returns
 unfolding answerOf askedOf
@@ -36,5 +30,5 @@ returns-2 c = received-done _ _ _ _ _ _ _ (rw (c .before .before .before .before
 pub receive-spec : {M : Type 1} → statement M
 receive-spec =
     tie.close
-    (tie.spec ask-receive-requires (λ c. search needs) (λ c. search needs) read-slot-requires receive-step-requires outcome-of-requires
+    (tie.spec (λ c κs. search needs) (λ c. search needs) (λ c. search needs) read-slot-requires receive-step-requires (λ c κs. search needs)
         (λ c. search needs) returns (λ c. search needs) returns-2)

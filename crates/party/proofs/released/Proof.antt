@@ -6,9 +6,6 @@ use Rattle.party.specs.Code.{answerOf}
 use Rattle.party.proofs.released.Statement.{statement}
 use Rattle.party.proofs.released.Tie as tie
 
-releases-requires : tie.Need-releases-requires
-releases-requires c κs = search needs
-
 returns : tie.Need-returns
 unfolding answerOf
 returns c = rw (sym (c .before .releases .ensures) ∙ c .if1 .taken)
@@ -18,4 +15,4 @@ unfolding answerOf
 returns-2 c = rw (sym (c .before .releases .ensures) ∙ c .if1 .left)
 
 pub released-spec : {M : Type 1} → statement M
-released-spec = tie.close (tie.spec releases-requires returns returns-2)
+released-spec = tie.close (tie.spec (λ c κs. search needs) returns returns-2)

@@ -8,9 +8,6 @@ use Rattle.circuit.proofs.Counts.{unchecked-after-le}
 use Rattle.printing.proofs.unchecked_after.Statement.{statement}
 use Rattle.printing.proofs.unchecked_after.Tie as tie
 
-shape-of-requires : tie.Need-shape-of-requires
-shape-of-requires c κs = search needs
-
 unchecked-after-requires : tie.Need-unchecked-after-requires
 unchecked-after-requires c κs = (omega (arith, c .before .pre), shape-small _ _ (c .shape-of .ensures) .1)
 
@@ -19,4 +16,4 @@ unfolding shapeOf
 returns c = omega (arith, c .unchecked-after .ensures, unchecked-after-le (shapeOf (c .before .shape-of .result)) (c .before .before .args .unchecked), shape-small (c .before .shape-of .result) _ (c .before .shape-of .ensures) .1)
 
 pub unchecked-after-spec : {M : Type 1} → statement M
-unchecked-after-spec = tie.close (tie.spec shape-of-requires unchecked-after-requires returns)
+unchecked-after-spec = tie.close (tie.spec (λ c κs. search needs) unchecked-after-requires returns)

@@ -9,15 +9,5 @@ use Rattle.printing.proofs.with_room.Tie as tie
 slice-aggregate-print : tie.Need-slice-aggregate-print
 slice-aggregate-print c = sym (length-take-le _ _ (c .before .before .before .pre .0))
 
-print-requires : tie.Need-print-requires
-print-requires c κs = search needs
-
-returns : tie.Need-returns
-returns c = search needs
-
-returns-2 : tie.Need-returns-2
-returns-2 c = search needs
-
 pub with-room-spec : {M : Type 1} → statement M
-with-room-spec =
-    tie.close (tie.spec (λ c. search needs) slice-aggregate-print print-requires returns returns-2)
+with-room-spec = tie.close (tie.spec (λ c. search needs) slice-aggregate-print (λ c κs. search needs) (λ c. search needs) (λ c. search needs))

@@ -8,19 +8,10 @@ use Rattle.circuit.proofs.RoundLaws.{few-words}
 use Rattle.printing.proofs.words_of.Statement.{statement}
 use Rattle.printing.proofs.words_of.Tie as tie
 
-shape-of-requires : tie.Need-shape-of-requires
-shape-of-requires c κs = search needs
-
-words-in-requires : tie.Need-words-in-requires
-words-in-requires c κs = search needs
-
 mul-result : tie.Need-mul-result
 mul-result c =
     let few : c .words-in .result ≤ 2 = rw (c .words-in .ensures, c .before .shape-of .ensures) (few-words _ _) in
     omega (arith, mul-le-mul-left (c .before .before .args .parties) few)
 
-returns : tie.Need-returns
-returns c = search needs
-
 pub words-of-spec : {M : Type 1} → statement M
-words-of-spec = tie.close (tie.spec shape-of-requires words-in-requires mul-result returns)
+words-of-spec = tie.close (tie.spec (λ c κs. search needs) (λ c κs. search needs) mul-result (λ c. search needs))

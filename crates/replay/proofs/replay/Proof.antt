@@ -13,26 +13,14 @@ Inv-loop piece₀ line₀ given₀ scratch₀ out₀ outputs₀ course₀ left�
 abbrev μ-loop : tie.MeasureT-loop
 μ-loop piece₀ line₀ given₀ scratch₀ out₀ outputs₀ course₀ left₀ piece line given scratch out outputs course left = left
 
-started-requires : tie.Need-started-requires Inv-loop μ-loop
-started-requires c κs = search needs
-
-next-line-requires : tie.Need-next-line-requires Inv-loop μ-loop
-next-line-requires c κs = search needs
-
 loop-holds : tie.Need-loop-holds Inv-loop μ-loop
 loop-holds c = (record { line = refl; given = refl; scratch = refl; out = refl; outputs = refl }, refl)
-
-read-piece-requires : tie.Need-read-piece-requires Inv-loop μ-loop
-read-piece-requires c κs = search needs
 
 feed-requires : tie.Need-feed-requires Inv-loop μ-loop
 feed-requires c κs = rw (c .before .before .before .before .before .before .before .before .before .before .before .loop .inv .0 .given) (c .before .before .before .before .before .before .before .before .before .before .before .before .before .before .before .before .before .before .before .before .pre)
 
 turns-left-requires : tie.Need-turns-left-requires Inv-loop μ-loop
 turns-left-requires c κs = c .before .before .before .before .before .before .before .before .before .before .before .before .before .before .before .before .before .before .before .before .before .loop-test .taken
-
-loop-less : tie.Need-loop-less Inv-loop μ-loop
-loop-less c = search needs
 
 loop-again : tie.Need-loop-again Inv-loop μ-loop
 loop-again c = (record { line = c .before .before .before .before .before .before .before .before .before .before .line .given ∙ c .before .before .before .before .before .before .before .before .before .before .before .before .before .before .before .before .before .before .before .before .before .before .before .loop .inv .0 .line; given = c .before .before .before .before .before .before .before .before .given .given ∙ c .before .before .before .before .before .before .before .before .before .before .before .before .before .before .before .before .before .before .before .before .before .before .before .loop .inv .0 .given; scratch = c .before .before .before .before .before .before .scratch .given ∙ c .before .before .before .before .before .before .before .before .before .before .before .before .before .before .before .before .before .before .before .before .before .before .before .loop .inv .0 .scratch; out = c .before .before .before .before .out .given ∙ c .before .before .before .before .before .before .before .before .before .before .before .before .before .before .before .before .before .before .before .before .before .before .before .loop .inv .0 .out; outputs = c .before .before .outputs .given ∙ c .before .before .before .before .before .before .before .before .before .before .before .before .before .before .before .before .before .before .before .before .before .before .before .loop .inv .0 .outputs }, c .before .before .before .before .before .before .before .before .before .before .before .before .before .before .before .before .before .before .before .piece .given ∙ c .before .before .before .before .before .before .before .before .before .before .before .before .before .before .before .before .before .before .before .before .before .before .before .loop .inv .1)
@@ -58,12 +46,9 @@ same-length-5 c = c .before .before .before .out2 .given ∙ c .before .before .
 same-length-6 : tie.Need-same-length-6 Inv-loop μ-loop
 same-length-6 c = c .before .outputs2 .given ∙ c .before .before .before .before .before .before .before .before .before .before .before .before .before .before .before .loop .inv .0 .outputs
 
-returns : tie.Need-returns Inv-loop μ-loop
-returns c = search needs
-
 pub replay-spec : {M : Type 1} → statement M
 replay-spec =
     tie.close
-    (tie.spec Inv-loop μ-loop started-requires next-line-requires loop-holds read-piece-requires (λ c. search needs) (λ c. search needs) feed-requires
-        turns-left-requires loop-less loop-again finish-requires same-length same-length-2 same-length-3 same-length-4 same-length-5 same-length-6
-        returns)
+    (tie.spec Inv-loop μ-loop (λ c κs. search needs) (λ c κs. search needs) loop-holds (λ c κs. search needs) (λ c. search needs) (λ c. search needs)
+        feed-requires turns-left-requires (λ c. search needs) loop-again finish-requires same-length same-length-2 same-length-3 same-length-4
+        same-length-5 same-length-6 (λ c. search needs))

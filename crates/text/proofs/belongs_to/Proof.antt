@@ -7,12 +7,6 @@ use Rattle.text.specs.Text.{belongs}
 use Rattle.text.proofs.belongs_to.Statement.{statement}
 use Rattle.text.proofs.belongs_to.Tie as tie
 
-is-space-requires : tie.Need-is-space-requires
-is-space-requires c κs = search needs
-
-is-space-requires-2 : tie.Need-is-space-requires-2
-is-space-requires-2 c κs = search needs
-
 returns : tie.Need-returns
 unfolding belongs
 returns c = rw (c .before .if1 .taken) (c .is-space .ensures)
@@ -22,4 +16,4 @@ unfolding belongs
 returns-2 c = rw (c .before .if1 .left) (ap not (c .is-space2 .ensures))
 
 pub belongs-to-spec : {M : Type 1} → statement M
-belongs-to-spec = tie.close (tie.spec is-space-requires is-space-requires-2 returns returns-2)
+belongs-to-spec = tie.close (tie.spec (λ c κs. search needs) (λ c κs. search needs) returns returns-2)

@@ -19,29 +19,17 @@ abbrev μ-loop : tie.MeasureT-loop
 loop-holds : tie.Need-loop-holds Inv-loop μ-loop
 loop-holds c = starts _ _
 
-is-space-requires : tie.Need-is-space-requires Inv-loop μ-loop
-is-space-requires c κs = search needs
-
 put-requires : tie.Need-put-requires Inv-loop μ-loop
 put-requires c κs = (c .before .before .before .before .before .loop .inv .fits, c .before .before .before .before .before .loop .inv .room)
 
-loop-less : tie.Need-loop-less Inv-loop μ-loop
-loop-less c = search needs
-
 loop-again : tie.Need-loop-again Inv-loop μ-loop
 loop-again c = spaces _ _ _ _ _ _ _ (c .before .before .before .before .before .before .before .before .loop .inv) (c .before .before .before .before .before .before .before .loop-test .taken) _ _ (c .before .before .before .before .before .is-space .ensures) (c .before .before .before .before .if1 .taken) (c .before .before .put .ensures .0) (c .before .before .put .ensures .1 .0) (c .before .before .put .ensures .1 .1) (search needs) (c .before .before .put .ensures .1 .2)
-
-is-digit-requires : tie.Need-is-digit-requires Inv-loop μ-loop
-is-digit-requires c κs = search needs
 
 same-length : tie.Need-same-length Inv-loop μ-loop
 same-length c = c .before .before .before .before .before .before .loop .inv .long
 
 returns : tie.Need-returns Inv-loop μ-loop
 returns c = unlike _ _ _ _ _ _ _ (c .before .before .before .before .before .before .loop .inv) (c .before .before .before .before .before .loop-test .taken) (c .before .before .before .is-space .ensures) (c .before .before .if1 .left) (c .before .is-digit .ensures) (c .if2 .taken)
-
-has-room-requires : tie.Need-has-room-requires Inv-loop μ-loop
-has-room-requires c κs = search needs
 
 same-length-2 : tie.Need-same-length-2 Inv-loop μ-loop
 same-length-2 c = c .before .before .before .before .before .before .before .before .loop .inv .long
@@ -58,9 +46,6 @@ same-length-3 c = c .before .before .before .before .before .before .before .bef
 returns-3 : tie.Need-returns-3 Inv-loop μ-loop
 returns-3 c = large _ _ _ _ _ _ _ (c .before .before .before .before .before .before .before .before .before .before .loop .inv) (c .before .before .before .before .before .before .before .before .before .loop-test .taken) (c .before .before .before .before .before .before .before .is-space .ensures) (c .before .before .before .before .before .before .if1 .left) (c .before .before .before .before .before .is-digit .ensures) (c .before .before .before .before .if2 .left) (c .before .before .before .has-room .ensures) (c .before .before .if3 .left) (c .before .with-digit .ensures) (c .if4 .taken)
 
-loop-less-2 : tie.Need-loop-less-2 Inv-loop μ-loop
-loop-less-2 c = search needs
-
 loop-again-2 : tie.Need-loop-again-2 Inv-loop μ-loop
 loop-again-2 c = digits _ _ _ _ _ _ _ (c .before .before .before .before .before .before .before .before .before .before .loop .inv) (c .before .before .before .before .before .before .before .before .before .loop-test .taken) (c .before .before .before .before .before .before .before .is-space .ensures) (c .before .before .before .before .before .before .if1 .left) (c .before .before .before .before .before .is-digit .ensures) (c .before .before .before .before .if2 .left) (c .before .before .before .has-room .ensures) (c .before .before .if3 .left) (c .before .with-digit .ensures) (omega arith)
 
@@ -76,6 +61,6 @@ returns-4 c =
 pub read-numbers-spec : {M : Type 1} → statement M
 read-numbers-spec =
     tie.close
-    (tie.spec Inv-loop μ-loop loop-holds (λ c. search needs) is-space-requires put-requires (λ c. search needs) loop-less loop-again is-digit-requires
-        same-length returns has-room-requires same-length-2 returns-2 with-digit-requires same-length-3 returns-3 (λ c. search needs)
-        (λ c. search needs) loop-less-2 loop-again-2 put-requires-2 (λ c. search needs) returns-4)
+    (tie.spec Inv-loop μ-loop loop-holds (λ c. search needs) (λ c κs. search needs) put-requires (λ c. search needs) (λ c. search needs) loop-again
+        (λ c κs. search needs) same-length returns (λ c κs. search needs) same-length-2 returns-2 with-digit-requires same-length-3 returns-3
+        (λ c. search needs) (λ c. search needs) (λ c. search needs) loop-again-2 put-requires-2 (λ c. search needs) returns-4)

@@ -16,17 +16,8 @@ Inv-loop line from spaces i₀ i = (i + run spaces (drop i line) ≡ from + run 
 abbrev μ-loop : tie.MeasureT-loop
 μ-loop line from spaces i₀ i = length line - i
 
-loop-holds : tie.Need-loop-holds Inv-loop μ-loop
-loop-holds c = search needs
-
-belongs-to-requires : tie.Need-belongs-to-requires Inv-loop μ-loop
-belongs-to-requires c κs = search needs
-
 returns : tie.Need-returns Inv-loop μ-loop
 returns c = (sym (run-stops _ _ _ (c .before .before .before .loop-test .taken) (c .before .belongs-to .ensures) (c .if1 .taken)) ∙ c .before .before .before .before .loop .inv .0, c .before .before .before .before .loop .inv .1)
-
-loop-less : tie.Need-loop-less Inv-loop μ-loop
-loop-less c = search needs
 
 loop-again : tie.Need-loop-again Inv-loop μ-loop
 loop-again c = (sym (run-more _ _ _ (c .before .before .before .loop-test .taken) (c .before .belongs-to .ensures) (c .if1 .left)) ∙ c .before .before .before .before .loop .inv .0, omega arith)
@@ -37,4 +28,5 @@ returns-2 c = (sym (run-ends _ _ _ (c .loop-test .left)) ∙ c .before .loop .in
 pub run-end-spec : {M : Type 1} → statement M
 run-end-spec =
     tie.close
-    (tie.spec Inv-loop μ-loop loop-holds (λ c. search needs) belongs-to-requires returns (λ c. search needs) loop-less loop-again returns-2)
+    (tie.spec Inv-loop μ-loop (λ c. search needs) (λ c. search needs) (λ c κs. search needs) returns (λ c. search needs) (λ c. search needs)
+        loop-again returns-2)

@@ -7,9 +7,6 @@ use Rattle.circuit.proofs.KindLaws.{is-class}
 use Rattle.circuit.proofs.counting.coefficients_of.Statement.{statement}
 use Rattle.circuit.proofs.counting.coefficients_of.Tie as tie
 
-is-out-requires : tie.Need-is-out-requires
-is-out-requires c κs = search needs
-
 returns : tie.Need-returns
 returns c = rw (is-class _ (sym (c .before .is-out .ensures) ∙ c .if1 .taken)) (sym (coefficients-all _))
 
@@ -17,4 +14,4 @@ returns-2 : tie.Need-returns-2
 returns-2 c = sym (coefficients-valued _ _ (sym (c .before .is-out .ensures) ∙ c .if1 .left))
 
 pub coefficients-of-spec : {M : Type 1} → statement M
-coefficients-of-spec = tie.close (tie.spec is-out-requires (λ c. search needs) returns returns-2)
+coefficients-of-spec = tie.close (tie.spec (λ c κs. search needs) (λ c. search needs) returns returns-2)

@@ -10,14 +10,8 @@ use borrow.Author.Tests.{ne-eqb}
 use Rattle.circuit.proofs.counting.words_of.Statement.{statement}
 use Rattle.circuit.proofs.counting.words_of.Tie as tie
 
-is-linear-requires : tie.Need-is-linear-requires
-is-linear-requires c κs = search needs
-
 returns : tie.Need-returns
 returns c = rw (is-class _ (sym (c .before .is-linear .ensures) ∙ c .if1 .taken)) (sym (words-local _ _))
-
-is-out-requires : tie.Need-is-out-requires
-is-out-requires c κs = search needs
 
 returns-2 : tie.Need-returns-2
 unfolding shapeOf
@@ -34,5 +28,5 @@ returns-4 c = rw (is-class _ (said-yes (c .before .before .before .is-out .ensur
 pub words-of-spec : {M : Type 1} → statement M
 words-of-spec =
     tie.close
-    (tie.spec (λ c. search needs) is-linear-requires returns is-out-requires returns-2 (λ c. search needs) returns-3 (λ c. search needs)
+    (tie.spec (λ c. search needs) (λ c κs. search needs) returns (λ c κs. search needs) returns-2 (λ c. search needs) returns-3 (λ c. search needs)
         (λ c. search needs) returns-4)

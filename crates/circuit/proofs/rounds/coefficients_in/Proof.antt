@@ -6,12 +6,6 @@ use Rattle.circuit.specs.Round.{coefficientsIn}
 use Rattle.circuit.proofs.rounds.coefficients_in.Statement.{statement}
 use Rattle.circuit.proofs.rounds.coefficients_in.Tie as tie
 
-is-commit-requires : tie.Need-is-commit-requires
-is-commit-requires c κs = search needs
-
-opened-in-requires : tie.Need-opened-in-requires
-opened-in-requires c κs = search needs
-
 returns : tie.Need-returns
 unfolding coefficientsIn
 returns c = rw (sym (c .before .before .is-commit .ensures) ∙ c .before .if1 .taken) (c .opened-in .ensures)
@@ -21,4 +15,4 @@ unfolding coefficientsIn
 returns-2 c = rw (sym (c .before .is-commit .ensures) ∙ c .if1 .left)
 
 pub coefficients-in-spec : {M : Type 1} → statement M
-coefficients-in-spec = tie.close (tie.spec is-commit-requires opened-in-requires returns returns-2)
+coefficients-in-spec = tie.close (tie.spec (λ c κs. search needs) (λ c κs. search needs) returns returns-2)

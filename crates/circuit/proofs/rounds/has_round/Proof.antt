@@ -6,32 +6,11 @@ use Rattle.circuit.proofs.RoundLaws.{is-among}
 use Rattle.circuit.proofs.rounds.has_round.Statement.{statement}
 use Rattle.circuit.proofs.rounds.has_round.Tie as tie
 
-is-in-requires : tie.Need-is-in-requires
-is-in-requires c κs = search needs
-
 returns : tie.Need-returns
 returns c = rw (c .before .before .enum-told .given .1) (rw (is-among _ _ _, sym (c .before .is-in .ensures) ∙ c .if1 .taken))
 
-opens-requires : tie.Need-opens-requires
-opens-requires c κs = search needs
-
-is-out-requires : tie.Need-is-out-requires
-is-out-requires c κs = search needs
-
-is-out-requires-2 : tie.Need-is-out-requires-2
-is-out-requires-2 c κs = search needs
-
-has-check-requires : tie.Need-has-check-requires
-has-check-requires c κs = search needs
-
 returns-2 : tie.Need-returns-2
 returns-2 c = rw (c .before .before .before .before .r .given .1) (rw (is-among _ _ _, sym (c .before .before .is-out2 .ensures) ∙ c .before .if2 .taken) (c .has-check .ensures))
-
-is-out-requires-3 : tie.Need-is-out-requires-3
-is-out-requires-3 c κs = search needs
-
-has-check-requires-2 : tie.Need-has-check-requires-2
-has-check-requires-2 c κs = search needs
 
 returns-3 : tie.Need-returns-3
 returns-3 c = rw (c .before .before .before .before .r2 .given .1) (rw (is-among _ _ _, sym (c .before .before .is-out3 .ensures) ∙ c .before .if3 .taken) (c .has-check2 .ensures))
@@ -51,5 +30,6 @@ returns-7 c = rw (c .before .before .before .r2 .given .1) (rw (is-among _ _ _, 
 pub has-round-spec : {M : Type 1} → statement M
 has-round-spec =
     tie.close
-    (tie.spec (λ c. search needs) is-in-requires returns opens-requires (λ c. search needs) is-out-requires (λ c. search needs) is-out-requires-2
-        has-check-requires returns-2 (λ c. search needs) is-out-requires-3 has-check-requires-2 returns-3 returns-4 returns-5 returns-6 returns-7)
+    (tie.spec (λ c. search needs) (λ c κs. search needs) returns (λ c κs. search needs) (λ c. search needs) (λ c κs. search needs)
+        (λ c. search needs) (λ c κs. search needs) (λ c κs. search needs) returns-2 (λ c. search needs) (λ c κs. search needs) (λ c κs. search needs)
+        returns-3 returns-4 returns-5 returns-6 returns-7)

@@ -5,12 +5,9 @@ use Rattle.circuit.specs.Kind.{isClass}
 use Rattle.circuit.proofs.shapes.is_in.Statement.{statement}
 use Rattle.circuit.proofs.shapes.is_in.Tie as tie
 
-class-number-requires : tie.Need-class-number-requires
-class-number-requires c κs = search needs
-
 returns : tie.Need-returns
 unfolding isClass
 returns c = rw (c .class-number .ensures)
 
 pub is-in-spec : {M : Type 1} → statement M
-is-in-spec = tie.close (tie.spec class-number-requires returns)
+is-in-spec = tie.close (tie.spec (λ c κs. search needs) returns)

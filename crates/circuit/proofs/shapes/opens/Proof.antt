@@ -5,12 +5,9 @@ use Rattle.circuit.specs.Kind.{isClass}
 use Rattle.circuit.proofs.shapes.opens.Statement.{statement}
 use Rattle.circuit.proofs.shapes.opens.Tie as tie
 
-class-number-requires : tie.Need-class-number-requires
-class-number-requires c κs = search needs
-
 returns : tie.Need-returns
 unfolding isClass
 returns c = rw (c .class-number .ensures)
 
 pub opens-spec : {M : Type 1} → statement M
-opens-spec = tie.close (tie.spec class-number-requires returns)
+opens-spec = tie.close (tie.spec (λ c κs. search needs) returns)

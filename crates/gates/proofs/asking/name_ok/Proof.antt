@@ -5,9 +5,6 @@ use Rattle.circuit.specs.Accept.{nameOk}
 use Rattle.gates.proofs.asking.name_ok.Statement.{statement}
 use Rattle.gates.proofs.asking.name_ok.Tie as tie
 
-may-name-requires : tie.Need-may-name-requires
-may-name-requires c κs = search needs
-
 returns : tie.Need-returns
 unfolding nameOk
 returns c = rw (c .enum-told .given .1)
@@ -27,4 +24,5 @@ returns-4 c = rw (c .enum-told4 .given .1)
 pub name-ok-spec : {M : Type 1} → statement M
 name-ok-spec =
     tie.close
-    (tie.spec (λ c. search needs) (λ c. search needs) (λ c. search needs) may-name-requires (λ c. search needs) returns returns-2 returns-3 returns-4)
+    (tie.spec (λ c. search needs) (λ c. search needs) (λ c. search needs) (λ c κs. search needs) (λ c. search needs) returns returns-2 returns-3
+        returns-4)

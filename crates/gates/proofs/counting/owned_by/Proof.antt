@@ -8,12 +8,6 @@ use Rattle.circuit.proofs.KindLaws.{shape-class}
 use Rattle.gates.proofs.counting.owned_by.Statement.{statement}
 use Rattle.gates.proofs.counting.owned_by.Tie as tie
 
-is-in-requires : tie.Need-is-in-requires
-is-in-requires c κs = search needs
-
-first-at-requires : tie.Need-first-at-requires
-first-at-requires c κs = search needs
-
 returns : tie.Need-returns
 unfolding ownedBy
 returns c = rw (sym (ap (isClass Owned) (shape-class _ _ (c .before .before .before .before .pre .1))) ∙ sym (c .before .before .is-in .ensures) ∙ c .before .if1 .taken, sym (c .first-at .ensures))
@@ -23,4 +17,4 @@ unfolding ownedBy
 returns-2 c = rw (sym (ap (isClass Owned) (shape-class _ _ (c .before .before .before .pre .1))) ∙ sym (c .before .is-in .ensures) ∙ c .if1 .left)
 
 pub owned-by-spec : {M : Type 1} → statement M
-owned-by-spec = tie.close (tie.spec is-in-requires first-at-requires returns returns-2)
+owned-by-spec = tie.close (tie.spec (λ c κs. search needs) (λ c κs. search needs) returns returns-2)

@@ -17,20 +17,8 @@ add-t7 c = omega (arith, totals-low (c .before .before .before .pre .3), shape-s
 add-t8 : tie.Need-add-t8
 add-t8 c = omega (arith, totals-low (c .before .before .before .before .before .pre .3), shape-small _ _ (c .before .before .before .before .before .pre .0))
 
-is-in-requires : tie.Need-is-in-requires
-is-in-requires c κs = search needs
-
-one-if-requires : tie.Need-one-if-requires
-one-if-requires c κs = search needs
-
 add-t11 : tie.Need-add-t11
 add-t11 c = omega (arith, totals-low (c .before .before .before .before .before .before .before .before .pre .3), bit-le (c .before .before .is-in .result) (c .before .one-if .ensures))
-
-is-out-requires : tie.Need-is-out-requires
-is-out-requires c κs = search needs
-
-one-if-requires-2 : tie.Need-one-if-requires-2
-one-if-requires-2 c κs = search needs
 
 add-t14 : tie.Need-add-t14
 add-t14 c = omega (arith, totals-low (c .before .before .before .before .before .before .before .before .before .before .before .pre .3), bit-le (c .before .before .is-out .result) (c .before .one-if2 .ensures))
@@ -54,5 +42,5 @@ returns c = totals-more (c .before .before .before .before .before .before .befo
 pub total-gate-spec : {M : Type 1} → statement M
 total-gate-spec =
     tie.close
-    (tie.spec add-t7 add-t8 is-in-requires one-if-requires add-t11 is-out-requires one-if-requires-2 add-t14 words-of-requires add-t16
-        coefficients-of-requires add-t18 returns)
+    (tie.spec add-t7 add-t8 (λ c κs. search needs) (λ c κs. search needs) add-t11 (λ c κs. search needs) (λ c κs. search needs) add-t14
+        words-of-requires add-t16 coefficients-of-requires add-t18 returns)

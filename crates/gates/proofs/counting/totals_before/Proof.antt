@@ -23,17 +23,11 @@ loop-holds : tie.Need-loop-holds Inv-loop μ-loop
 unfolding total count unchecked overRun prepAt
 loop-holds c = (search needs, refl, record { prep = refl; openings = refl; ins = refl; outs = refl; words = refl; coefficients = refl })
 
-shape-at-requires : tie.Need-shape-at-requires Inv-loop μ-loop
-shape-at-requires c κs = search needs
-
 total-gate-requires : tie.Need-total-gate-requires Inv-loop μ-loop
 total-gate-requires c κs = (c .shape-at .ensures, omega (arith, c .before .before .before .before .pre), c .before .before .loop .inv .1, c .before .before .loop .inv .2)
 
 unchecked-after-requires : tie.Need-unchecked-after-requires Inv-loop μ-loop
 unchecked-after-requires c κs = (omega (arith, c .before .before .before .loop .inv .1, unchecked-few (now (c .before .before .before .before .before .args .c)) (c .before .before .before .loop .j)), shape-small _ _ (c .before .shape-at .ensures) .1)
-
-loop-less : tie.Need-loop-less Inv-loop μ-loop
-loop-less c = search needs
 
 loop-again : tie.Need-loop-again Inv-loop μ-loop
 loop-again c = (omega (arith, c .before .before .before .loop-test .taken), c .unchecked-after .ensures ∙ rw (c .before .before .shape-at .ensures, c .before .before .before .before .loop .inv .1) (sym (unchecked-more _ _)), c .before .total-gate .ensures)
@@ -44,5 +38,5 @@ returns c = let l = c .before .loop in let e : l .j ≡ c .before .before .befor
 pub totals-before-spec : {M : Type 1} → statement M
 totals-before-spec =
     tie.close
-    (tie.spec Inv-loop μ-loop loop-holds shape-at-requires total-gate-requires unchecked-after-requires (λ c. search needs) loop-less loop-again
-        returns)
+    (tie.spec Inv-loop μ-loop loop-holds (λ c κs. search needs) total-gate-requires unchecked-after-requires (λ c. search needs) (λ c. search needs)
+        loop-again returns)

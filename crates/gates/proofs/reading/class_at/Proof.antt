@@ -6,11 +6,8 @@ use Rattle.circuit.proofs.KindLaws.{shape-class}
 use Rattle.gates.proofs.reading.class_at.Statement.{statement}
 use Rattle.gates.proofs.reading.class_at.Tie as tie
 
-shape-at-requires : tie.Need-shape-at-requires
-shape-at-requires c κs = search needs
-
 returns : tie.Need-returns
 returns c = shape-class _ _ (c .shape-at .ensures)
 
 pub class-at-spec : {M : Type 1} → statement M
-class-at-spec = tie.close (tie.spec shape-at-requires returns)
+class-at-spec = tie.close (tie.spec (λ c κs. search needs) returns)

@@ -5,13 +5,9 @@ use Rattle.circuit.specs.Gate.{entry, gate}
 use Rattle.gates.proofs.reading.first_at.Statement.{statement}
 use Rattle.gates.proofs.reading.first_at.Tie as tie
 
-index-requires : tie.Need-index-requires
-index-requires c κs = search needs
-
 returns : tie.Need-returns
 unfolding gate entry
 returns c = c .index .ensures
 
 pub first-at-spec : {M : Type 1} → statement M
-first-at-spec =
-    tie.close (tie.spec (λ c. search needs) (λ c. search needs) (λ c. search needs) (λ c. search needs) index-requires returns)
+first-at-spec = tie.close (tie.spec (λ c. search needs) (λ c. search needs) (λ c. search needs) (λ c. search needs) (λ c κs. search needs) returns)

@@ -8,17 +8,9 @@ use Rattle.circuit.specs.Gate.{decode}
 use Rattle.gates.proofs.reading.kind_at.Statement.{statement}
 use Rattle.gates.proofs.reading.kind_at.Tie as tie
 
-index-requires : tie.Need-index-requires
-index-requires c κs = search needs
-
-decode-requires : tie.Need-decode-requires
-decode-requires c κs = search needs
-
 returns : tie.Need-returns
 unfolding gate entry
 returns c = c .decode .ensures ∙ ap decode (c .before .index .ensures ∙ rw add-zero)
 
 pub kind-at-spec : {M : Type 1} → statement M
-kind-at-spec =
-    tie.close
-    (tie.spec (λ c. search needs) (λ c. search needs) (λ c. search needs) index-requires decode-requires returns)
+kind-at-spec = tie.close (tie.spec (λ c. search needs) (λ c. search needs) (λ c. search needs) (λ c κs. search needs) (λ c κs. search needs) returns)

@@ -6,14 +6,8 @@ use Rattle.circuit.specs.Kind.{kindShape}
 use Rattle.gates.proofs.reading.shape_at.Statement.{statement}
 use Rattle.gates.proofs.reading.shape_at.Tie as tie
 
-kind-at-requires : tie.Need-kind-at-requires
-kind-at-requires c κs = search needs
-
-shape-of-requires : tie.Need-shape-of-requires
-shape-of-requires c κs = search needs
-
 returns : tie.Need-returns
 returns c = c .shape-of .ensures ∙ ap kindShape (c .before .kind-at .ensures)
 
 pub shape-at-spec : {M : Type 1} → statement M
-shape-at-spec = tie.close (tie.spec kind-at-requires shape-of-requires returns)
+shape-at-spec = tie.close (tie.spec (λ c κs. search needs) (λ c κs. search needs) returns)

@@ -14,9 +14,6 @@ returns : tie.Need-returns
 unfolding verdictOf
 returns c = no-then 16 0 _ (ne-eqb _ _ (c .if1 .taken))
 
-ask-elements-requires : tie.Need-ask-elements-requires
-ask-elements-requires c κs = search needs
-
 returns-2 : tie.Need-returns-2
 unfolding verdictOf
 returns-2 c = yes-then 16 0 _ (eq-eqb _ _ (c .before .before .before .before .if1 .left)) (refused-then _ _ (c .before .before .before .ask-elements .ensures) (c .before .number .given .1))
@@ -34,6 +31,4 @@ unfolding verdictOf
 returns-5 c = yes-then 16 0 _ (eq-eqb _ _ (c .before .before .before .before .before .if1 .left)) (call-then _ _ (c .before .before .before .before .ask-elements .ensures) (c .before .before .enum-told .given .1) (sym (ask-yes 18 0 (both-true (le-leb _ _ (c .before .if2 .left)) (le-leb _ _ (c .if3 .left))))))
 
 pub ask-rooms-spec : {M : Type 1} → statement M
-ask-rooms-spec =
-    tie.close
-    (tie.spec returns ask-elements-requires (λ c. search needs) returns-2 (λ c. search needs) returns-3 returns-4 returns-5)
+ask-rooms-spec = tie.close (tie.spec returns (λ c κs. search needs) (λ c. search needs) returns-2 (λ c. search needs) returns-3 returns-4 returns-5)

@@ -11,9 +11,6 @@ use Rattle.joint.proofs.framing.count_input.Tie as tie
 class-at-requires : tie.Need-class-at-requires
 class-at-requires c κs = omega (arith, c .before .before .pre .2, c .before .before .pre .0 .whole)
 
-is-in-requires : tie.Need-is-in-requires
-is-in-requires c κs = search needs
-
 first-at-requires : tie.Need-first-at-requires
 first-at-requires c κs = omega (arith, c .before .before .before .before .before .pre .2, c .before .before .before .before .before .pre .0 .whole)
 
@@ -38,5 +35,5 @@ returns-2 c = counted-other (c .before .before .before .before .before .pre .3) 
 pub count-input-spec : {M : Type 1} → statement M
 count-input-spec =
     tie.close
-    (tie.spec class-at-requires is-in-requires first-at-requires mul-counts slice-read-counts add-counts slice-write-counts (λ c. search needs)
-        returns returns-2)
+    (tie.spec class-at-requires (λ c κs. search needs) first-at-requires mul-counts slice-read-counts add-counts slice-write-counts
+        (λ c. search needs) returns returns-2)

@@ -37,9 +37,6 @@ add-at c = omega (arith, starting-small _ _ (c .before .before .before .before .
 add-i : tie.Need-add-i Inv-loop μ-loop
 add-i c = omega (arith, c .before .before .before .before .pre .2)
 
-loop-less : tie.Need-loop-less Inv-loop μ-loop
-loop-less c = omega arith
-
 loop-again : tie.Need-loop-again Inv-loop μ-loop
 loop-again c = starting-again _ _ (c .before .before .before .before .pre .0) (c .before .before .before .before .pre .1) (c .before .before .count-inputs .ensures) (c .before .loop .inv) (c .loop-test .taken) (c .before .before .before .before .pre .2)
 
@@ -49,5 +46,5 @@ returns c = starting-done _ _ (c .before .loop .inv) (c .loop-test .left)
 pub starts-of-spec : {M : Type 1} → statement M
 starts-of-spec =
     tie.close
-    (tie.spec Inv-loop μ-loop count-inputs-requires loop-holds mul-starts array-write-starts mul-at array-read-at add-at add-i loop-less loop-again
-        returns)
+    (tie.spec Inv-loop μ-loop count-inputs-requires loop-holds mul-starts array-write-starts mul-at array-read-at add-at add-i (λ c. omega arith)
+        loop-again returns)

@@ -29,9 +29,6 @@ reach-requires c κs = all-reach _ (c .before .before .before .before .before .b
 next-point-requires : tie.Need-next-point-requires
 next-point-requires c κs = ((all-hear _ (c .before .before .before .before .before .before .before .before .before .before .before .args .f) (c .before .before .before .before .before .before .before .before .before .before .before .args .s) _ _ _ (c .before .before .before .before .before .before .before .before .before .before .before .pre .1) (c .before .before .before .before .before .before .before .before .before .before .before .pre .2) (omega (arith, c .before .before .before .before .before .before .before .before .before .before .before .pre .0 .some))), all-stand _ (c .before .before .before .before .before .before .before .before .before .before .before .args .f) (c .before .before .before .before .before .before .before .before .before .before .before .args .s) _ _ _ (c .before .before .before .before .before .before .before .before .before .before .before .pre .1) (c .before .before .before .before .before .before .before .before .before .before .before .pre .2) (omega (arith, c .before .before .before .before .before .before .before .before .before .before .before .pre .0 .some)) (c .reach .ensures), (first-found (all-hear _ (c .before .before .before .before .before .before .before .before .before .before .before .args .f) (c .before .before .before .before .before .before .before .before .before .before .before .args .s) _ _ _ (c .before .before .before .before .before .before .before .before .before .before .before .pre .1) (c .before .before .before .before .before .before .before .before .before .before .before .pre .2) (omega (arith, c .before .before .before .before .before .before .before .before .before .before .before .pre .0 .some))) (shape-class _ _ (c .before .before .before .before .before .before .before .before .before .before .before .pre .3)) (c .before .before .before .before .before .before .before .before .before .before .before .pre .4) ops (c .before .before .first-at .ensures) (c .before .heard-first .ensures)) .is)
 
-is-in-requires : tie.Need-is-in-requires
-is-in-requires c κs = search needs
-
 receive-inputs-requires : tie.Need-receive-inputs-requires
 receive-inputs-requires c κs = let w = (rw (c .before .before .before .enum-told .given .1) at (c .before .before .before .before .before .before .before .before .before .before .before .before .before .before .before .before .before .pre .2)) in let h = (rw (c .before .before .before .enum-told .given .1) at (first-found (all-hear _ (c .before .before .before .before .before .before .before .before .before .before .before .before .before .before .before .before .before .args .f) (c .before .before .before .before .before .before .before .before .before .before .before .before .before .before .before .before .before .args .s) _ _ _ (c .before .before .before .before .before .before .before .before .before .before .before .before .before .before .before .before .before .pre .1) (c .before .before .before .before .before .before .before .before .before .before .before .before .before .before .before .before .before .pre .2) (omega (arith, c .before .before .before .before .before .before .before .before .before .before .before .before .before .before .before .before .before .pre .0 .some))) (shape-class _ _ (c .before .before .before .before .before .before .before .before .before .before .before .before .before .before .before .before .before .pre .3)) (c .before .before .before .before .before .before .before .before .before .before .before .before .before .before .before .before .before .pre .4) ops (c .before .before .before .before .before .before .before .before .first-at .ensures) (c .before .before .before .before .before .before .before .heard-first .ensures))) in inputs-ask (c .before .before .before .before .before .before .before .before .before .before .before .before .before .before .before .before .before .args .f) (c .before .before .before .before .before .before .before .before .before .before .before .before .before .before .before .before .before .args .s) (now (c .before .before .before .before .before .before .before .before .before .before .before .before .before .before .before .before .before .args .c)) (now (c .before .before .before .before .before .before .before .before .before .before .before .before .before .before .before .before .before .args .preps)) (now (c .before .before .before .before .before .before .before .before .before .before .before .before .before .before .before .before .before .args .inputs)) (now (c .before .before .before .before .before .before .before .before .before .before .before .before .before .before .before .before .before .args .scratch)) (now (c .before .before .before .before .before .before .before .before .before .before .before .before .before .before .before .before .before .args .heard)) (c .before .before .before .before .before .before .before .before .before .before .before .before .before .before .before .before .before .pre .0) (c .before .before .before .before .before .before .before .before .before .before .before .before .before .before .before .before .before .pre .1) w (receives-in (c .before .before .before .before .before .before .before .before .before .before .before .before .before .before .before .before .before .args .f) (c .before .before .before .before .before .before .before .before .before .before .before .before .before .before .before .before .before .args .s) (now (c .before .before .before .before .before .before .before .before .before .before .before .before .before .before .before .before .before .args .c)) (now (c .before .before .before .before .before .before .before .before .before .before .before .before .before .before .before .before .before .args .preps)) (now (c .before .before .before .before .before .before .before .before .before .before .before .before .before .before .before .before .before .args .inputs)) (now (c .before .before .before .before .before .before .before .before .before .before .before .before .before .before .before .before .before .args .scratch)) (now (c .before .before .before .before .before .before .before .before .before .before .before .before .before .before .before .before .before .args .heard)) (c .before .before .before .before .before .before .before .before .before .before .before .before .before .before .before .before .before .pre .0) (c .before .before .before .before .before .before .before .before .before .before .before .before .before .before .before .before .before .pre .1) w (shape-class _ _ (c .before .before .before .before .before .before .before .before .before .before .before .before .before .before .before .before .before .pre .3)) (sym (c .before .before .is-in .ensures) ∙ c .before .if1 .taken)) (h .below)
 
@@ -89,7 +86,7 @@ returns-7 c = let w = (rw (c .before .before .before .before .before .before .be
 pub receive-all-spec : {M : Type 1} → statement M
 receive-all-spec =
     tie.close
-    (tie.spec first-at-requires heard-first-requires add-reach reach-requires next-point-requires (λ c. search needs) is-in-requires
+    (tie.spec first-at-requires heard-first-requires add-reach reach-requires next-point-requires (λ c. search needs) (λ c κs. search needs)
         receive-inputs-requires add-settle-all settle-all-requires (λ c. search needs) returns factor-at-requires heard-second-requires
         receive-openings-requires add-settle-all-2 settle-all-requires-2 (λ c. search needs) receive-outputs-requires (λ c. search needs)
         (λ c. search needs) returns-2 (λ c. search needs) (λ c. search needs) add-settle-all-3 settle-all-requires-3 (λ c. search needs) returns-3

@@ -6,9 +6,6 @@ use Rattle.protocol.specs.Code.{pointOf}
 use Rattle.joint.proofs.rounds.origin.Statement.{statement}
 use Rattle.joint.proofs.rounds.origin.Tie as tie
 
-no-tally-requires : tie.Need-no-tally-requires
-no-tally-requires c κs = search needs
-
 returns : tie.Need-returns
 unfolding pointOf
 returns c = record {
@@ -21,4 +18,4 @@ returns c = record {
 }
 
 pub origin-spec : {M : Type 1} → statement M
-origin-spec = tie.close (tie.spec no-tally-requires returns)
+origin-spec = tie.close (tie.spec (λ c κs. search needs) returns)

@@ -17,9 +17,6 @@ use Rattle.joint.proofs.sending.send_all.Tie as tie
 first-at-requires : tie.Need-first-at-requires
 first-at-requires c κs = gate-fits _ _ _ _ _ _ (c .before .before .before .before .before .before .before .before .before .before .before .before .pre .0)
 
-is-in-requires : tie.Need-is-in-requires
-is-in-requires c κs = search needs
-
 input-words-requires : tie.Need-input-words-requires
 input-words-requires c κs = let s = (rw (c .before .before .before .before .enum-told .given .1) at (c .before .before .before .before .before .before .before .before .before .before .before .before .before .before .before .before .pre)) in input-asks (s .0) (sends-in (s .0) (shape-class _ _ (s .2)) (sym (c .before .before .is-in .ensures) ∙ c .before .if1 .taken)) (s .1) (now (c .before .before .before .before .before .before .before .before .before .before .before .before .before .before .before .before .args .out)) (s .3)
 
@@ -41,9 +38,6 @@ output-words-requires c κs = let s = (rw (c .before .before .enum-told2 .given 
 put-marks-requires : tie.Need-put-marks-requires
 unfolding shapeWords
 put-marks-requires c κs = let s = (rw (c .before .enum-told3 .given .1) at (c .before .before .before .before .before .before .before .before .before .before .before .before .before .pre)) in put-asks (s .0) (now (c .before .before .before .before .before .before .before .before .before .before .before .before .before .args .out)) (s .3) refl
-
-opened-in-requires : tie.Need-opened-in-requires
-opened-in-requires c κs = search needs
 
 check-shares-requires : tie.Need-check-shares-requires
 check-shares-requires c κs = let s = (rw (c .before .before .before .before .before .before .enum-told3 .given .1) at (c .before .before .before .before .before .before .before .before .before .before .before .before .before .before .before .before .before .before .pre)) in check-asks (s .0) refl (rw (c .before .before .before .before .before .before .enum-told3 .given .1) at (c .before .opened-in .ensures))
@@ -69,7 +63,7 @@ returns-5 c = let s = (rw (c .before .before .before .before .before .before .be
 pub send-all-spec : {M : Type 1} → statement M
 send-all-spec =
     tie.close
-    (tie.spec (λ c. search needs) first-at-requires is-in-requires input-words-requires (λ c. search needs) returns factor-at-requires
-        opening-words-requires (λ c. search needs) first-at-requires-2 output-words-requires (λ c. search needs) put-marks-requires opened-in-requires
-        check-shares-requires (λ c. search needs) put-held-requires (λ c. search needs) returns-2 (λ c. search needs) returns-3 (λ c. search needs)
-        (λ c. search needs) returns-4 (λ c. search needs) (λ c. search needs) returns-5)
+    (tie.spec (λ c. search needs) first-at-requires (λ c κs. search needs) input-words-requires (λ c. search needs) returns factor-at-requires
+        opening-words-requires (λ c. search needs) first-at-requires-2 output-words-requires (λ c. search needs) put-marks-requires
+        (λ c κs. search needs) check-shares-requires (λ c. search needs) put-held-requires (λ c. search needs) returns-2 (λ c. search needs)
+        returns-3 (λ c. search needs) (λ c. search needs) returns-4 (λ c. search needs) (λ c. search needs) returns-5)

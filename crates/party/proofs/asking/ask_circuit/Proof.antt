@@ -5,14 +5,8 @@ use borrow.Author.Needs.{needs}
 use Rattle.party.proofs.asking.ask_circuit.Statement.{statement}
 use Rattle.party.proofs.asking.ask_circuit.Tie as tie
 
-index-requires : tie.Need-index-requires
-index-requires c κs = search needs
-
-accept-requires : tie.Need-accept-requires
-accept-requires c κs = search needs
-
 returns : tie.Need-returns
 returns c = c .accept .ensures ∙ rw (c .before .index .ensures)
 
 pub ask-circuit-spec : {M : Type 1} → statement M
-ask-circuit-spec = tie.close (tie.spec index-requires accept-requires returns)
+ask-circuit-spec = tie.close (tie.spec (λ c κs. search needs) (λ c κs. search needs) returns)

@@ -22,9 +22,6 @@ Inv-loop number xs k₀ k = Asking (λ k. ask number k (ltb (getD xs k 0) size))
 abbrev μ-loop : tie.MeasureT-loop
 μ-loop number xs k₀ k = length xs - k
 
-all-elements-requires : tie.Need-all-elements-requires Inv-loop μ-loop
-all-elements-requires c κs = search needs
-
 returns : tie.Need-returns Inv-loop μ-loop
 unfolding verdictOf elements
 returns c = sym (each-all _ _ (λ k l. ask-yes _ _ (lt-ltb _ _ (c .before .all-elements .ensures .0 (c .if1 .taken) k l))))
@@ -36,9 +33,6 @@ returns-2 : tie.Need-returns-2 Inv-loop μ-loop
 unfolding verdictOf elements
 returns-2 c = asking-refuses _ _ _ (c .before .before .before .loop .inv) (omega arith) (ask-no _ _ (le-ltb _ _ (c .if2 .taken)))
 
-loop-less : tie.Need-loop-less Inv-loop μ-loop
-loop-less c = search needs
-
 loop-again : tie.Need-loop-again Inv-loop μ-loop
 loop-again c = asking-goes-on _ _ _ (c .before .before .before .loop .inv) (omega arith) (ask-yes _ _ (lt-ltb _ _ (c .if2 .left)))
 
@@ -49,5 +43,5 @@ returns-3 c = asking-ends _ _ _ (c .before .loop .inv) (omega arith)
 pub ask-elements-spec : {M : Type 1} → statement M
 ask-elements-spec =
     tie.close
-    (tie.spec Inv-loop μ-loop all-elements-requires returns loop-holds (λ c. search needs) (λ c. search needs) returns-2 (λ c. search needs) loop-less
-        loop-again returns-3)
+    (tie.spec Inv-loop μ-loop (λ c κs. search needs) returns loop-holds (λ c. search needs) (λ c. search needs) returns-2 (λ c. search needs)
+        (λ c. search needs) loop-again returns-3)

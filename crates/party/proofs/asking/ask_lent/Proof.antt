@@ -12,18 +12,9 @@ use borrow.Author.Needs.{needs}
 use Rattle.party.proofs.asking.ask_lent.Statement.{statement}
 use Rattle.party.proofs.asking.ask_lent.Tie as tie
 
-ask-party-requires : tie.Need-ask-party-requires
-ask-party-requires c κs = search needs
-
 returns : tie.Need-returns
 unfolding lentOf verdictOf
 returns c = (refused-then _ _ (c .before .before .before .ask-party .ensures) (c .before .number .given .1) ∙ sym (lent-split _ _), tt)
-
-least-requires : tie.Need-least-requires
-least-requires c κs = search needs
-
-no-tally-requires : tie.Need-no-tally-requires
-no-tally-requires c κs = search needs
 
 tally-between-requires : tie.Need-tally-between-requires
 unfolding verdictOf
@@ -41,9 +32,6 @@ size-of-requires : tie.Need-size-of-requires
 unfolding verdictOf
 size-of-requires c κs = (omega (arith, (setting-valid _ _ _ (sym (c .before .before .before .before .before .before .before .ask-party .ensures) ∙ ap verdictOf (c .before .before .before .before .before .enum-told .given .1))) .few, (gates-are (c .before .before .before .before .before .before .before .before .before .before .before .before .args .c .now))), omega (arith, capacity-low _ _ (rw (gates-are (c .before .before .before .before .before .before .before .before .before .before .before .before .args .c .now)) at (c .before .tally-between2 .ensures)) (setting-valid _ _ _ (sym (c .before .before .before .before .before .before .before .ask-party .ensures) ∙ ap verdictOf (c .before .before .before .before .before .enum-told .given .1)))))
 
-ask-lists-requires : tie.Need-ask-lists-requires
-ask-lists-requires c κs = search needs
-
 returns-2 : tie.Need-returns-2
 unfolding lentOf verdictOf
 returns-2 c = (call-then _ _ (c .before .before .before .before .before .before .before .before .before .before .before .before .ask-party .ensures) (c .before .before .before .before .before .before .before .before .before .before .enum-told .given .1) (sym (ap verdictOf (c .before .number2 .given .1)) ∙ c .before .before .before .ask-lists .ensures ∙ lists-counted _ _ _ (rw (gates-are (c .before .before .before .before .before .before .before .before .before .before .before .before .before .before .before .before .before .args .c .now)) at (c .before .before .before .before .before .before .tally-between2 .ensures)) (c .before .before .before .before .before .before .before .before .before .before .before .before .before .before .before .before .before .args .prep .now) (c .before .before .before .before .before .before .before .before .before .before .before .before .before .before .before .before .before .args .inputs .now) (length (c .before .before .before .before .before .before .before .before .before .before .before .before .before .before .before .before .before .args .l .now)) _ (layout-is _ _ _ (rw (gates-are (c .before .before .before .before .before .before .before .before .before .before .before .before .before .before .before .before .before .args .c .now)) at (c .before .before .before .before .before .before .tally-between2 .ensures)) (gates-are (c .before .before .before .before .before .before .before .before .before .before .before .before .before .before .before .before .before .args .c .now)) refl) (c .before .before .before .before .size-of .ensures)) ∙ sym (lent-split _ _), tt)
@@ -55,5 +43,6 @@ returns-3 c = (call-then _ _ (c .before .before .before .before .before .before 
 pub ask-lent-spec : {M : Type 1} → statement M
 ask-lent-spec =
     tie.close
-    (tie.spec ask-party-requires (λ c. search needs) returns (λ c. search needs) least-requires no-tally-requires tally-between-requires
-        tally-between-requires-2 add-ask-lists size-of-requires ask-lists-requires (λ c. search needs) returns-2 (λ c. search needs) returns-3)
+    (tie.spec (λ c κs. search needs) (λ c. search needs) returns (λ c. search needs) (λ c κs. search needs) (λ c κs. search needs)
+        tally-between-requires tally-between-requires-2 add-ask-lists size-of-requires (λ c κs. search needs) (λ c. search needs) returns-2
+        (λ c. search needs) returns-3)

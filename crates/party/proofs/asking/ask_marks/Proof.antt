@@ -27,9 +27,6 @@ returns : tie.Need-returns Inv-loop μ-loop
 unfolding verdictOf
 returns c = asking-refuses _ _ _ (c .before .before .before .loop .inv) (omega arith) (ask-no _ _ (ne-eqb _ _ (c .if1 .taken)))
 
-loop-less : tie.Need-loop-less Inv-loop μ-loop
-loop-less c = search needs
-
 loop-again : tie.Need-loop-again Inv-loop μ-loop
 loop-again c = asking-goes-on _ _ _ (c .before .before .before .loop .inv) (omega arith) (ask-yes _ _ (eq-eqb _ _ (c .if1 .left)))
 
@@ -40,4 +37,4 @@ returns-2 c = asking-ends _ _ _ (c .before .loop .inv) (omega arith)
 pub ask-marks-spec : {M : Type 1} → statement M
 ask-marks-spec =
     tie.close
-    (tie.spec Inv-loop μ-loop loop-holds (λ c. search needs) (λ c. search needs) returns (λ c. search needs) loop-less loop-again returns-2)
+    (tie.spec Inv-loop μ-loop loop-holds (λ c. search needs) (λ c. search needs) returns (λ c. search needs) (λ c. search needs) loop-again returns-2)

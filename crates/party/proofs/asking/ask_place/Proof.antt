@@ -8,9 +8,6 @@ use borrow.Author.Needs.{needs}
 use Rattle.party.proofs.asking.ask_place.Statement.{statement}
 use Rattle.party.proofs.asking.ask_place.Tie as tie
 
-ask-lent-requires : tie.Need-ask-lent-requires
-ask-lent-requires c κs = search needs
-
 can-occur-requires : tie.Need-can-occur-requires
 can-occur-requires c κs = can-asks _ _ _ _ _ (lent-to _ _ _ (c .before .before .before .ask-lent .ensures .0) (c .before .before .before .ask-lent .ensures .1) (c .before .y .given .1))
 
@@ -30,6 +27,4 @@ returns-3 c =
     (place-accepts _ _ _ (lent .accepted) can, record { lent = lent; can = can })
 
 pub ask-place-spec : {M : Type 1} → statement M
-ask-place-spec =
-    tie.close
-    (tie.spec ask-lent-requires (λ c. search needs) (λ c. search needs) can-occur-requires returns returns-2 returns-3)
+ask-place-spec = tie.close (tie.spec (λ c κs. search needs) (λ c. search needs) (λ c. search needs) can-occur-requires returns returns-2 returns-3)

@@ -12,9 +12,6 @@ use borrow.Author.Needs.{needs}
 use Rattle.party.proofs.asking.ask_receive.Statement.{statement}
 use Rattle.party.proofs.asking.ask_receive.Tie as tie
 
-ask-place-requires : tie.Need-ask-place-requires
-ask-place-requires c κs = search needs
-
 ask-receive-round-requires : tie.Need-ask-receive-round-requires
 ask-receive-round-requires c κs =
     let place = round-at _ _ _ (c .before .before .before .before .before .before .ask-place .ensures .1) (c .before .before .before .before .y .given .1) in
@@ -55,5 +52,5 @@ returns-6 c = let place = round-at _ _ _ (c .before .before .before .before .bef
 pub ask-receive-spec : {M : Type 1} → statement M
 ask-receive-spec =
     tie.close
-    (tie.spec ask-place-requires (λ c. search needs) (λ c. search needs) (λ c. search needs) ask-receive-round-requires (λ c. search needs)
+    (tie.spec (λ c κs. search needs) (λ c. search needs) (λ c. search needs) (λ c. search needs) ask-receive-round-requires (λ c. search needs)
         (λ c. search needs) (λ c. search needs) (λ c. search needs) (λ c. search needs) returns returns-2 returns-3 returns-4 returns-5 returns-6)

@@ -15,18 +15,9 @@ use borrow.Author.Needs.{needs}
 use Rattle.party.proofs.asking.ask_receive_round.Statement.{statement}
 use Rattle.party.proofs.asking.ask_receive_round.Tie as tie
 
-ask-worked-requires : tie.Need-ask-worked-requires
-ask-worked-requires c κs = search needs
-
 returns : tie.Need-returns
 unfolding verdictOf askReceiveRound
 returns c = refused-then _ _ (c .before .before .before .ask-worked .ensures) (c .before .number .given .1)
-
-shape-at-requires : tie.Need-shape-at-requires
-shape-at-requires c κs = search needs
-
-words-in-requires : tie.Need-words-in-requires
-words-in-requires c κs = search needs
 
 mul-if1 : tie.Need-mul-if1
 mul-if1 c = omega (arith, mul-le-mul {n₁ = c .before .before .before .before .before .before .before .before .args .parties} {m₁ = c .words-in .result} {n₂ = 8} {m₂ = 2} (c .before .before .before .before .before .before .before .before .pre .1) (rw (c .words-in .ensures, c .before .shape-at .ensures) (few-words _ _)))
@@ -35,18 +26,9 @@ returns-2 : tie.Need-returns-2
 unfolding verdictOf askReceiveRound
 returns-2 c = call-then _ _ (c .before .before .before .before .before .ask-worked .ensures) (c .before .before .before .enum-told .given .1) (no-then 19 0 _ (ne-eqb _ _ (λ e. c .if1 .taken (e ∙ sym (ap (λ (w : ℕ). c .before .before .before .before .before .before .before .before .before .args .parties * w) (c .before .words-in .ensures ∙ ap (λ (s : Shape). shapeWords s (roundOf (c .before .before .before .before .before .before .before .before .before .args .r))) (c .before .before .shape-at .ensures)))))))
 
-ask-elements-requires : tie.Need-ask-elements-requires
-ask-elements-requires c κs = search needs
-
 returns-3 : tie.Need-returns-3
 unfolding verdictOf askReceiveRound
 returns-3 c = call-then _ _ (c .before .before .before .before .before .before .before .before .before .ask-worked .ensures) (c .before .before .before .before .before .before .before .enum-told .given .1) (yes-then 19 0 _ (eq-eqb _ _ (c .before .before .before .before .if1 .left ∙ (ap (λ (w : ℕ). c .before .before .before .before .before .before .before .before .before .before .before .before .before .args .parties * w) (c .before .before .before .before .before .words-in .ensures ∙ ap (λ (s : Shape). shapeWords s (roundOf (c .before .before .before .before .before .before .before .before .before .before .before .before .before .args .r))) (c .before .before .before .before .before .before .shape-at .ensures))))) (refused-then _ _ (c .before .before .before .ask-elements .ensures) (c .before .number2 .given .1)))
-
-is-commit-requires : tie.Need-is-commit-requires
-is-commit-requires c κs = search needs
-
-ask-marks-requires : tie.Need-ask-marks-requires
-ask-marks-requires c κs = search needs
 
 returns-4 : tie.Need-returns-4
 unfolding verdictOf askReceiveRound askMarks
@@ -59,5 +41,5 @@ returns-5 c = call-then _ _ (c .before .before .before .before .before .before .
 pub ask-receive-round-spec : {M : Type 1} → statement M
 ask-receive-round-spec =
     tie.close
-    (tie.spec ask-worked-requires (λ c. search needs) returns (λ c. search needs) shape-at-requires words-in-requires mul-if1 returns-2
-        ask-elements-requires (λ c. search needs) returns-3 (λ c. search needs) is-commit-requires ask-marks-requires returns-4 returns-5)
+    (tie.spec (λ c κs. search needs) (λ c. search needs) returns (λ c. search needs) (λ c κs. search needs) (λ c κs. search needs) mul-if1 returns-2
+        (λ c κs. search needs) (λ c. search needs) returns-3 (λ c. search needs) (λ c κs. search needs) (λ c κs. search needs) returns-4 returns-5)

@@ -12,9 +12,6 @@ use borrow.Author.Needs.{needs}
 use Rattle.party.proofs.asking.ask_send.Statement.{statement}
 use Rattle.party.proofs.asking.ask_send.Tie as tie
 
-ask-place-requires : tie.Need-ask-place-requires
-ask-place-requires c κs = search needs
-
 ask-send-round-requires : tie.Need-ask-send-round-requires
 ask-send-round-requires c κs = round-asks _ _ _ _ _ (round-at _ _ _ (c .before .before .before .before .before .before .ask-place .ensures .1) (c .before .before .before .before .y .given .1)) _
 
@@ -53,5 +50,5 @@ returns-6 c = let place = round-at _ _ _ (c .before .before .before .before .bef
 pub ask-send-spec : {M : Type 1} → statement M
 ask-send-spec =
     tie.close
-    (tie.spec ask-place-requires (λ c. search needs) (λ c. search needs) (λ c. search needs) ask-send-round-requires (λ c. search needs)
+    (tie.spec (λ c κs. search needs) (λ c. search needs) (λ c. search needs) (λ c. search needs) ask-send-round-requires (λ c. search needs)
         (λ c. search needs) (λ c. search needs) (λ c. search needs) (λ c. search needs) returns returns-2 returns-3 returns-4 returns-5 returns-6)

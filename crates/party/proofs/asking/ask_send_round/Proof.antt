@@ -13,32 +13,17 @@ use borrow.Author.Needs.{needs}
 use Rattle.party.proofs.asking.ask_send_round.Statement.{statement}
 use Rattle.party.proofs.asking.ask_send_round.Tie as tie
 
-ask-worked-requires : tie.Need-ask-worked-requires
-ask-worked-requires c κs = search needs
-
 returns : tie.Need-returns
 unfolding verdictOf askSendRound
 returns c = refused-then _ _ (c .before .before .before .ask-worked .ensures) (c .before .number .given .1)
-
-coefficients-in-requires : tie.Need-coefficients-in-requires
-coefficients-in-requires c κs = search needs
 
 returns-2 : tie.Need-returns-2
 unfolding verdictOf askSendRound
 returns-2 c = call-then _ _ (c .before .before .before .before .ask-worked .ensures) (c .before .before .enum-told .given .1) (no-then 16 0 _ (ne-eqb _ _ (λ e. c .if1 .taken (e ∙ sym (c .before .coefficients-in .ensures ∙ ap (λ (u : ℕ). coefficientsIn u (roundOf (c .before .before .before .before .before .before .before .before .args .r))) (c .before .before .before .before .before .before .before .before .pre .waiting))))))
 
-ask-elements-requires : tie.Need-ask-elements-requires
-ask-elements-requires c κs = search needs
-
 returns-3 : tie.Need-returns-3
 unfolding verdictOf askSendRound
 returns-3 c = call-then _ _ (c .before .before .before .before .before .before .before .before .ask-worked .ensures) (c .before .before .before .before .before .before .enum-told .given .1) (yes-then 16 0 _ (eq-eqb _ _ (c .before .before .before .before .if1 .left ∙ (c .before .before .before .before .before .coefficients-in .ensures ∙ ap (λ (u : ℕ). coefficientsIn u (roundOf (c .before .before .before .before .before .before .before .before .before .before .before .before .args .r))) (c .before .before .before .before .before .before .before .before .before .before .before .before .pre .waiting)))) (refused-then _ _ (c .before .before .before .ask-elements .ensures) (c .before .number2 .given .1)))
-
-shape-at-requires : tie.Need-shape-at-requires
-shape-at-requires c κs = search needs
-
-words-in-requires : tie.Need-words-in-requires
-words-in-requires c κs = search needs
 
 returns-4 : tie.Need-returns-4
 unfolding verdictOf askSendRound
@@ -51,5 +36,5 @@ returns-5 c = call-then _ _ (c .before .before .before .before .before .before .
 pub ask-send-round-spec : {M : Type 1} → statement M
 ask-send-round-spec =
     tie.close
-    (tie.spec ask-worked-requires (λ c. search needs) returns (λ c. search needs) coefficients-in-requires returns-2 ask-elements-requires
-        (λ c. search needs) returns-3 (λ c. search needs) shape-at-requires words-in-requires returns-4 returns-5)
+    (tie.spec (λ c κs. search needs) (λ c. search needs) returns (λ c. search needs) (λ c κs. search needs) returns-2 (λ c κs. search needs)
+        (λ c. search needs) returns-3 (λ c. search needs) (λ c κs. search needs) (λ c κs. search needs) returns-4 returns-5)

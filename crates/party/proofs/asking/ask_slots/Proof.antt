@@ -28,9 +28,6 @@ returns : tie.Need-returns Inv-loop μ-loop
 unfolding verdictOf askSlots
 returns c = asking-refuses _ _ _ (c .before .before .before .before .before .loop .inv) (omega arith) (sym (c .before .before .before .ask-slot .ensures) ∙ ap verdictOf (c .before .number .given .1))
 
-loop-less : tie.Need-loop-less Inv-loop μ-loop
-loop-less c = search needs
-
 loop-again : tie.Need-loop-again Inv-loop μ-loop
 unfolding verdictOf
 loop-again c = asking-goes-on _ _ _ (c .before .before .before .before .loop .inv) (omega arith) (sym (c .before .before .ask-slot .ensures) ∙ ap verdictOf (c .enum-told .given .1))
@@ -42,5 +39,5 @@ returns-2 c = asking-ends _ _ _ (c .before .loop .inv) (omega arith)
 pub ask-slots-spec : {M : Type 1} → statement M
 ask-slots-spec =
     tie.close
-    (tie.spec Inv-loop μ-loop loop-holds ask-slot-requires (λ c. search needs) returns (λ c. search needs) (λ c. search needs) loop-less loop-again
-        returns-2)
+    (tie.spec Inv-loop μ-loop loop-holds ask-slot-requires (λ c. search needs) returns (λ c. search needs) (λ c. search needs) (λ c. search needs)
+        loop-again returns-2)

@@ -13,9 +13,6 @@ use borrow.Author.Needs.{needs}
 use Rattle.party.proofs.asking.ask_worked.Statement.{statement}
 use Rattle.party.proofs.asking.ask_worked.Tie as tie
 
-opened-in-requires : tie.Need-opened-in-requires
-opened-in-requires c κs = search needs
-
 ask-slots-requires : tie.Need-ask-slots-requires
 unfolding sortOf layout
 ask-slots-requires c κs = (c .before .before .before .pre .laid, λ t h. omega (arith, c .before .before .before .pre .within))
@@ -51,5 +48,5 @@ returns-4 c = call-then _ _ (c .before .before .before .before .before .before .
 pub ask-worked-spec : {M : Type 1} → statement M
 ask-worked-spec =
     tie.close
-    (tie.spec opened-in-requires ask-slots-requires (λ c. search needs) returns (λ c. search needs) ask-slots-requires-2 (λ c. search needs) returns-2
-        (λ c. search needs) ask-slots-requires-3 (λ c. search needs) returns-3 (λ c. search needs) ask-slots-requires-4 returns-4)
+    (tie.spec (λ c κs. search needs) ask-slots-requires (λ c. search needs) returns (λ c. search needs) ask-slots-requires-2 (λ c. search needs)
+        returns-2 (λ c. search needs) ask-slots-requires-3 (λ c. search needs) returns-3 (λ c. search needs) ask-slots-requires-4 returns-4)

@@ -20,9 +20,6 @@ returns-2 : tie.Need-returns-2
 unfolding positionOf
 returns-2 c = no-stage _ _ _ (omega (arith, c .before .before .if1 .left, c .before .before .before .before .pre .1)) (sym (c .before .stage-occurs .ensures) ∙ not-true _ (c .if2 .taken))
 
-may-hold-requires : tie.Need-may-hold-requires
-may-hold-requires c κs = search needs
-
 returns-3 : tie.Need-returns-3
 unfolding positionOf
 returns-3 c = held-some _ _ _ (omega (arith, c .before .before .before .before .before .if1 .left, c .before .before .before .before .before .before .before .pre .1)) (sym (c .before .before .before .before .stage-occurs .ensures) ∙ not-false _ (c .before .before .before .if2 .left)) (sym (c .before .before .may-hold .ensures) ∙ c .before .if3 .taken) refl
@@ -32,6 +29,4 @@ unfolding positionOf
 returns-4 c = held-none _ _ _ (omega (arith, c .before .before .before .before .before .if1 .left, c .before .before .before .before .before .before .before .pre .1)) (sym (c .before .before .before .before .stage-occurs .ensures) ∙ not-false _ (c .before .before .before .if2 .left)) (sym (c .before .before .may-hold .ensures) ∙ c .before .if3 .left) refl
 
 pub can-occur-spec : {M : Type 1} → statement M
-can-occur-spec =
-    tie.close
-    (tie.spec returns stage-occurs-requires returns-2 may-hold-requires returns-3 returns-4)
+can-occur-spec = tie.close (tie.spec returns stage-occurs-requires returns-2 (λ c κs. search needs) returns-3 returns-4)

@@ -14,15 +14,9 @@ class-at-requires : tie.Need-class-at-requires
 unfolding sortOf layout
 class-at-requires c κs = omega (arith, c .before .before .before .pre .0, (rw (c .enum-told .given .1) at (c .before .before .before .pre .1)))
 
-is-out-requires : tie.Need-is-out-requires
-is-out-requires c κs = search needs
-
 class-at-requires-2 : tie.Need-class-at-requires-2
 unfolding sortOf layout
 class-at-requires-2 c κs = omega (arith, c .before .before .before .pre .0, (rw (c .enum-told2 .given .1) at (c .before .before .before .pre .1)))
-
-is-out-requires-2 : tie.Need-is-out-requires-2
-is-out-requires-2 c κs = search needs
 
 returns : tie.Need-returns
 unfolding wantedOf sortOf
@@ -43,5 +37,5 @@ returns-4 c = rw (c .enum-told4 .given .1)
 pub is-wanted-spec : {M : Type 1} → statement M
 is-wanted-spec =
     tie.close
-    (tie.spec (λ c. search needs) class-at-requires is-out-requires (λ c. search needs) class-at-requires-2 is-out-requires-2 (λ c. search needs)
-        (λ c. search needs) returns returns-2 returns-3 returns-4)
+    (tie.spec (λ c. search needs) class-at-requires (λ c κs. search needs) (λ c. search needs) class-at-requires-2 (λ c κs. search needs)
+        (λ c. search needs) (λ c. search needs) returns returns-2 returns-3 returns-4)

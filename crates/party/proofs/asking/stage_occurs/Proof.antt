@@ -7,18 +7,6 @@ use borrow.Author.Needs.{needs}
 use Rattle.party.proofs.asking.stage_occurs.Statement.{statement}
 use Rattle.party.proofs.asking.stage_occurs.Tie as tie
 
-class-at-requires : tie.Need-class-at-requires
-class-at-requires c κs = search needs
-
-has-round-requires : tie.Need-has-round-requires
-has-round-requires c κs = search needs
-
-has-round-requires-2 : tie.Need-has-round-requires-2
-has-round-requires-2 c κs = search needs
-
-has-round-requires-3 : tie.Need-has-round-requires-3
-has-round-requires-3 c κs = search needs
-
 returns : tie.Need-returns
 unfolding stageOccurs
 returns c = rw (c .before .before .stage .given .1) (round-occurs _ _ _ (c .before .before .before .before .before .before .pre .3) (c .before .before .before .before .class-at .ensures) (c .has-round .ensures))
@@ -37,5 +25,5 @@ returns-4 c = rw (c .before .enum-told2 .given .1) (round-occurs _ _ _ (c .befor
 pub stage-occurs-spec : {M : Type 1} → statement M
 stage-occurs-spec =
     tie.close
-    (tie.spec class-at-requires (λ c. search needs) has-round-requires (λ c. search needs) has-round-requires-2 (λ c. search needs)
-        (λ c. search needs) (λ c. search needs) has-round-requires-3 returns returns-2 returns-3 returns-4)
+    (tie.spec (λ c κs. search needs) (λ c. search needs) (λ c κs. search needs) (λ c. search needs) (λ c κs. search needs) (λ c. search needs)
+        (λ c. search needs) (λ c. search needs) (λ c κs. search needs) returns returns-2 returns-3 returns-4)

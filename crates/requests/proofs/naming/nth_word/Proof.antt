@@ -16,18 +16,12 @@ Inv-loop words k found₀ i₀ found i = Word words (ends i words) found × (i �
 abbrev μ-loop : tie.MeasureT-loop
 μ-loop words k found₀ i₀ found i = k - i
 
-word-from-requires : tie.Need-word-from-requires Inv-loop μ-loop
-word-from-requires c κs = search needs
-
 loop-holds : tie.Need-loop-holds Inv-loop μ-loop
 unfolding ends
 loop-holds c = (c .word-from .ensures, omega arith)
 
 word-from-requires-2 : tie.Need-word-from-requires-2 Inv-loop μ-loop
 word-from-requires-2 c κs = c .before .loop .inv .0 .inside
-
-loop-less : tie.Need-loop-less Inv-loop μ-loop
-loop-less c = search needs
 
 loop-again : tie.Need-loop-again Inv-loop μ-loop
 loop-again c = (next-word _ (c .before .before .loop .inv .0) (c .word-from2 .ensures), omega arith)
@@ -38,4 +32,4 @@ returns c = let same : c .before .loop .i ≡ c .before .before .before .before 
 pub nth-word-spec : {M : Type 1} → statement M
 nth-word-spec =
     tie.close
-    (tie.spec Inv-loop μ-loop word-from-requires loop-holds word-from-requires-2 (λ c. search needs) loop-less loop-again returns)
+    (tie.spec Inv-loop μ-loop (λ c κs. search needs) loop-holds word-from-requires-2 (λ c. search needs) (λ c. search needs) loop-again returns)

@@ -5,19 +5,13 @@ use borrow.Author.Needs.{needs}
 use Rattle.requests.proofs.naming.spell.Statement.{statement}
 use Rattle.requests.proofs.naming.spell.Tie as tie
 
-print-requires : tie.Need-print-requires
-print-requires c κs = search needs
-
 returns : tie.Need-returns
 unfolding spelled
 returns c = rw (c .before .if1 .taken)
-
-same-requires : tie.Need-same-requires
-same-requires c κs = search needs
 
 returns-2 : tie.Need-returns-2
 unfolding spelled
 returns-2 c = rw (c .before .if1 .left) (c .same .ensures)
 
 pub spell-spec : {M : Type 1} → statement M
-spell-spec = tie.close (tie.spec print-requires returns same-requires returns-2)
+spell-spec = tie.close (tie.spec (λ c κs. search needs) returns (λ c κs. search needs) returns-2)

@@ -9,12 +9,6 @@ use borrow.Author.Needs.{needs}
 use Rattle.requests.proofs.naming.spell_half.Statement.{statement}
 use Rattle.requests.proofs.naming.spell_half.Tie as tie
 
-print-requires : tie.Need-print-requires
-print-requires c κs = search needs
-
-spell-round-requires : tie.Need-spell-round-requires
-spell-round-requires c κs = search needs
-
 returns : tie.Need-returns
 unfolding spelled
 returns c = rw (c .spell-round .ensures, c .before .before .if1 .taken)
@@ -25,14 +19,8 @@ returns-2 c = half-short (roundName (c .before .before .before .before .args .r)
 slice-aggregate-same : tie.Need-slice-aggregate-same
 slice-aggregate-same c = sym (length-take-le _ _ (omega arith))
 
-same-requires : tie.Need-same-requires
-same-requires c κs = search needs
-
 returns-3 : tie.Need-returns-3
 returns-3 c = half-other (roundName (c .before .before .before .before .before .before .before .args .r)) (c .before .before .before .before .before .before .before .args .word .now) (c .before .before .before .before .before .before .before .args .half .now) (c .before .before .before .before .if1 .left) (c .before .same .ensures) (c .if3 .taken)
-
-spell-round-requires-2 : tie.Need-spell-round-requires-2
-spell-round-requires-2 c κs = search needs
 
 returns-4 : tie.Need-returns-4
 returns-4 c = half-same (roundName (c .before .before .before .before .before .before .before .before .before .args .r)) (c .before .before .before .before .before .before .before .before .before .args .word .now) (c .before .before .before .before .before .before .before .before .before .args .half .now) (c .before .before .before .before .before .before .if1 .left) (c .before .before .before .same .ensures) (c .before .before .if3 .left) (c .spell-round2 .ensures)
@@ -40,5 +28,5 @@ returns-4 c = half-same (roundName (c .before .before .before .before .before .b
 pub spell-half-spec : {M : Type 1} → statement M
 spell-half-spec =
     tie.close
-    (tie.spec print-requires spell-round-requires returns returns-2 slice-aggregate-same same-requires returns-3 (λ c. search needs)
-        (λ c. search needs) (λ c. search needs) spell-round-requires-2 returns-4)
+    (tie.spec (λ c κs. search needs) (λ c κs. search needs) returns returns-2 slice-aggregate-same (λ c κs. search needs) returns-3
+        (λ c. search needs) (λ c. search needs) (λ c. search needs) (λ c κs. search needs) returns-4)

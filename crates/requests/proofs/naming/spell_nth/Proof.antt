@@ -7,16 +7,10 @@ use borrow.Author.Needs.{needs}
 use Rattle.requests.proofs.naming.spell_nth.Statement.{statement}
 use Rattle.requests.proofs.naming.spell_nth.Tie as tie
 
-nth-word-requires : tie.Need-nth-word-requires
-nth-word-requires c κs = search needs
-
-spell-requires : tie.Need-spell-requires
-spell-requires c κs = search needs
-
 returns : tie.Need-returns
 returns c = c .spell .ensures ∙ ap (spelled _ _) (nth-text _ (c .before .before .nth-word .ensures))
 
 pub spell-nth-spec : {M : Type 1} → statement M
 spell-nth-spec =
     tie.close
-    (tie.spec nth-word-requires (λ c. search needs) (λ c. search needs) (λ c. search needs) spell-requires returns)
+    (tie.spec (λ c κs. search needs) (λ c. search needs) (λ c. search needs) (λ c. search needs) (λ c κs. search needs) returns)

@@ -5,30 +5,6 @@ use Rattle.requests.specs.Names.{rounds, tryRounds, stageNamed}
 use Rattle.requests.proofs.naming.stage_named.Statement.{statement}
 use Rattle.requests.proofs.naming.stage_named.Tie as tie
 
-try-stage-requires : tie.Need-try-stage-requires
-try-stage-requires c κs = search needs
-
-try-stage-requires-2 : tie.Need-try-stage-requires-2
-try-stage-requires-2 c κs = search needs
-
-try-round-requires : tie.Need-try-round-requires
-try-round-requires c κs = search needs
-
-try-round-requires-2 : tie.Need-try-round-requires-2
-try-round-requires-2 c κs = search needs
-
-try-round-requires-3 : tie.Need-try-round-requires-3
-try-round-requires-3 c κs = search needs
-
-try-round-requires-4 : tie.Need-try-round-requires-4
-try-round-requires-4 c κs = search needs
-
-try-round-requires-5 : tie.Need-try-round-requires-5
-try-round-requires-5 c κs = search needs
-
-try-round-requires-6 : tie.Need-try-round-requires-6
-try-round-requires-6 c κs = search needs
-
 returns : tie.Need-returns
 unfolding rounds tryRounds stageNamed
 returns c = rw (c .try-round6 .ensures, c .before .try-round5 .ensures, c .before .before .try-round4 .ensures, c .before .before .before .try-round3 .ensures, c .before .before .before .before .try-round2 .ensures, c .before .before .before .before .before .try-round .ensures, c .before .before .before .before .before .before .try-stage2 .ensures, c .before .before .before .before .before .before .before .try-stage .ensures)
@@ -36,5 +12,5 @@ returns c = rw (c .try-round6 .ensures, c .before .try-round5 .ensures, c .befor
 pub stage-named-spec : {M : Type 1} → statement M
 stage-named-spec =
     tie.close
-    (tie.spec try-stage-requires try-stage-requires-2 try-round-requires try-round-requires-2 try-round-requires-3 try-round-requires-4
-        try-round-requires-5 try-round-requires-6 returns)
+    (tie.spec (λ c κs. search needs) (λ c κs. search needs) (λ c κs. search needs) (λ c κs. search needs) (λ c κs. search needs)
+        (λ c κs. search needs) (λ c κs. search needs) (λ c κs. search needs) returns)

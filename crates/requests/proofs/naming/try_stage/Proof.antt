@@ -6,9 +6,6 @@ use borrow.Author.Needs.{needs}
 use Rattle.requests.proofs.naming.try_stage.Statement.{statement}
 use Rattle.requests.proofs.naming.try_stage.Tie as tie
 
-spell-stage-requires : tie.Need-spell-stage-requires
-spell-stage-requires c κs = search needs
-
 returns : tie.Need-returns
 unfolding spelled tryStage
 returns c = rw (sym (c .before .spell-stage .ensures) ∙ c .if1 .taken)
@@ -18,4 +15,4 @@ unfolding spelled tryStage
 returns-2 c = rw (sym (c .before .spell-stage .ensures) ∙ c .if1 .left)
 
 pub try-stage-spec : {M : Type 1} → statement M
-try-stage-spec = tie.close (tie.spec spell-stage-requires returns returns-2)
+try-stage-spec = tie.close (tie.spec (λ c κs. search needs) returns returns-2)

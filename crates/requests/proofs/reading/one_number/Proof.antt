@@ -6,9 +6,6 @@ use borrow.Author.Needs.{needs}
 use Rattle.requests.proofs.reading.one_number.Statement.{statement}
 use Rattle.requests.proofs.reading.one_number.Tie as tie
 
-read-numbers-requires : tie.Need-read-numbers-requires
-read-numbers-requires c κs = search needs
-
 returns : tie.Need-returns
 returns c = one-number _ (c .before .before .before .before .before .read-numbers .ensures .0) (c .before .before .before .before .before .read-numbers .ensures .1) (c .before .before .read .given .1) (c .if1 .taken)
 
@@ -30,5 +27,5 @@ returns-5 c = faulty _ (c .before .before .before .read-numbers .ensures .0) (ap
 pub one-number-spec : {M : Type 1} → statement M
 one-number-spec =
     tie.close
-    (tie.spec (λ c. search needs) read-numbers-requires (λ c. search needs) (λ c. search needs) returns (λ c. search needs) (λ c. search needs)
+    (tie.spec (λ c. search needs) (λ c κs. search needs) (λ c. search needs) (λ c. search needs) returns (λ c. search needs) (λ c. search needs)
         (λ c. search needs) returns-2 returns-3 returns-4 returns-5)

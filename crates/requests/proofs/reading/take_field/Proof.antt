@@ -5,29 +5,11 @@ use borrow.Author.Needs.{needs}
 use Rattle.requests.proofs.reading.take_field.Statement.{statement}
 use Rattle.requests.proofs.reading.take_field.Tie as tie
 
-goes-requires : tie.Need-goes-requires
-goes-requires c κs = search needs
-
 returns : tie.Need-returns
 returns c = field-lost _ _ _ _ (c .before .if1 .taken) (c .goes .ensures)
 
-spell-field-requires : tie.Need-spell-field-requires
-spell-field-requires c κs = search needs
-
-complain-wanted-requires : tie.Need-complain-wanted-requires
-complain-wanted-requires c κs = search needs
-
-dropped-requires : tie.Need-dropped-requires
-dropped-requires c κs = search needs
-
-goes-requires-2 : tie.Need-goes-requires-2
-goes-requires-2 c κs = search needs
-
 returns-2 : tie.Need-returns-2
 returns-2 c = field-other _ _ _ _ (c .before .before .before .before .before .if1 .left) (c .before .before .before .before .spell-field .ensures) (c .before .before .before .if2 .taken) (c .before .dropped .ensures) (c .goes2 .ensures)
-
-take-wanted-requires : tie.Need-take-wanted-requires
-take-wanted-requires c κs = search needs
 
 returns-3 : tie.Need-returns-3
 returns-3 c = field-wanted _ _ _ _ (c .before .before .before .if1 .left) (c .before .before .spell-field .ensures) (c .before .if2 .left) (c .take-wanted .ensures)
@@ -35,5 +17,5 @@ returns-3 c = field-wanted _ _ _ _ (c .before .before .before .if1 .left) (c .be
 pub take-field-spec : {M : Type 1} → statement M
 take-field-spec =
     tie.close
-    (tie.spec goes-requires returns spell-field-requires complain-wanted-requires dropped-requires goes-requires-2 returns-2 take-wanted-requires
-        returns-3)
+    (tie.spec (λ c κs. search needs) returns (λ c κs. search needs) (λ c κs. search needs) (λ c κs. search needs) (λ c κs. search needs) returns-2
+        (λ c κs. search needs) returns-3)

@@ -5,38 +5,14 @@ use borrow.Author.Needs.{needs}
 use Rattle.requests.proofs.reading.take_line.Statement.{statement}
 use Rattle.requests.proofs.reading.take_line.Tie as tie
 
-word-from-requires : tie.Need-word-from-requires
-word-from-requires c κs = search needs
-
-goes-requires : tie.Need-goes-requires
-goes-requires c κs = search needs
-
 returns : tie.Need-returns
 returns c = line-empty _ _ (c .before .before .word-from .ensures) (c .before .if1 .taken) (c .goes .ensures)
-
-goes-requires-2 : tie.Need-goes-requires-2
-goes-requires-2 c κs = search needs
 
 returns-2 : tie.Need-returns-2
 returns-2 c = line-comment _ _ (c .before .before .before .before .word-from .ensures) (c .before .before .before .if1 .left) (c .before .if2 .taken) (c .goes2 .ensures)
 
-entry-named-requires : tie.Need-entry-named-requires
-entry-named-requires c κs = search needs
-
-word-from-requires-2 : tie.Need-word-from-requires-2
-word-from-requires-2 c κs = search needs
-
-begin-requires : tie.Need-begin-requires
-begin-requires c κs = search needs
-
-goes-requires-3 : tie.Need-goes-requires-3
-goes-requires-3 c κs = search needs
-
 returns-3 : tie.Need-returns-3
 returns-3 c = line-entry _ _ (c .before .before .before .before .before .before .before .before .before .before .word-from .ensures) (c .before .before .before .before .before .before .before .before .before .if1 .left) (c .before .before .before .before .before .before .before .if2 .left) (c .before .before .before .before .before .entry-named .ensures) (c .before .before .before .before .if3 .taken) (c .before .before .before .word-from2 .ensures) (c .before .begin .ensures) (c .goes3 .ensures)
-
-take-field-requires : tie.Need-take-field-requires
-take-field-requires c κs = search needs
 
 returns-4 : tie.Need-returns-4
 returns-4 c = line-field _ _ (c .before .before .before .before .before .before .before .before .before .word-from .ensures) (c .before .before .before .before .before .before .before .before .if1 .left) (c .before .before .before .before .before .before .if2 .left) (c .before .before .before .before .entry-named .ensures) (c .before .before .before .if3 .left) (c .take-field .ensures)
@@ -44,6 +20,7 @@ returns-4 c = line-field _ _ (c .before .before .before .before .before .before 
 pub take-line-spec : {M : Type 1} → statement M
 take-line-spec =
     tie.close
-    (tie.spec word-from-requires goes-requires returns (λ c. search needs) goes-requires-2 returns-2 (λ c. search needs) (λ c. search needs)
-        (λ c. search needs) entry-named-requires word-from-requires-2 begin-requires goes-requires-3 returns-3 (λ c. search needs) (λ c. search needs)
-        (λ c. search needs) (λ c. search needs) (λ c. search needs) (λ c. search needs) take-field-requires returns-4)
+    (tie.spec (λ c κs. search needs) (λ c κs. search needs) returns (λ c. search needs) (λ c κs. search needs) returns-2 (λ c. search needs)
+        (λ c. search needs) (λ c. search needs) (λ c κs. search needs) (λ c κs. search needs) (λ c κs. search needs) (λ c κs. search needs) returns-3
+        (λ c. search needs) (λ c. search needs) (λ c. search needs) (λ c. search needs) (λ c. search needs) (λ c. search needs)
+        (λ c κs. search needs) returns-4)

@@ -5,21 +5,6 @@ use borrow.Author.Needs.{needs}
 use Rattle.requests.proofs.reading.take_number.Statement.{statement}
 use Rattle.requests.proofs.reading.take_number.Tie as tie
 
-one-number-requires : tie.Need-one-number-requires
-one-number-requires c κs = search needs
-
-with-number-requires : tie.Need-with-number-requires
-with-number-requires c κs = search needs
-
-moved-on-requires : tie.Need-moved-on-requires
-moved-on-requires c κs = search needs
-
-complain-one-requires : tie.Need-complain-one-requires
-complain-one-requires c κs = search needs
-
-dropped-requires : tie.Need-dropped-requires
-dropped-requires c κs = search needs
-
 returns : tie.Need-returns
 returns c = number-taken _ _ (c .before .before .before .before .before .one-number .ensures) (c .before .before .before .n .given .1) (c .before .with-number .ensures) (c .moved-on .ensures)
 
@@ -29,5 +14,5 @@ returns-2 c = number-refused _ _ (c .before .before .before .before .before .one
 pub take-number-spec : {M : Type 1} → statement M
 take-number-spec =
     tie.close
-    (tie.spec one-number-requires (λ c. search needs) with-number-requires moved-on-requires (λ c. search needs) complain-one-requires
-        dropped-requires returns returns-2)
+    (tie.spec (λ c κs. search needs) (λ c. search needs) (λ c κs. search needs) (λ c κs. search needs) (λ c. search needs) (λ c κs. search needs)
+        (λ c κs. search needs) returns returns-2)

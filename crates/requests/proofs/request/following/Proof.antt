@@ -20,15 +20,9 @@ abbrev μ-loop : tie.MeasureT-loop
 loop-holds : tie.Need-loop-holds Inv-loop μ-loop
 loop-holds c = refl
 
-spell-field-requires : tie.Need-spell-field-requires Inv-loop μ-loop
-spell-field-requires c κs = search needs
-
 returns : tie.Need-returns Inv-loop μ-loop
 unfolding bytes spelled O.has O.following
 returns c = first-here (O.has (c .before .before .before .before .before .args .entry)) _ _ (c .before .before .before .before .loop .next + 1) (omega arith) (ap not (sym (c .before .spell-field .ensures)) ∙ c .if1 .taken) ∙ c .before .before .before .before .loop .inv
-
-loop-less : tie.Need-loop-less Inv-loop μ-loop
-loop-less c = search needs
 
 loop-again : tie.Need-loop-again Inv-loop μ-loop
 unfolding bytes spelled O.has O.following
@@ -41,4 +35,5 @@ returns-2 c = first-none (O.has (c .before .before .args .entry)) _ _ (c .before
 pub following-spec : {M : Type 1} → statement M
 following-spec =
     tie.close
-    (tie.spec Inv-loop μ-loop loop-holds (λ c. search needs) (λ c. search needs) spell-field-requires returns loop-less loop-again returns-2)
+    (tie.spec Inv-loop μ-loop loop-holds (λ c. search needs) (λ c. search needs) (λ c κs. search needs) returns (λ c. search needs) loop-again
+        returns-2)

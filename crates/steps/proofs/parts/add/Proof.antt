@@ -6,15 +6,9 @@ use borrow.Author.Needs.{needs}
 use Rattle.steps.proofs.parts.add.Statement.{statement}
 use Rattle.steps.proofs.parts.add.Tie as tie
 
-add-requires : tie.Need-add-requires
-add-requires c κs = search needs
-
-add-requires-2 : tie.Need-add-requires-2
-add-requires-2 c κs = search needs
-
 returns : tie.Need-returns
 unfolding partOf plus
 returns c = record { is = cc; low = search needs }
 
 pub add-spec : {M : Type 1} → statement M
-add-spec = tie.close (tie.spec add-requires add-requires-2 returns)
+add-spec = tie.close (tie.spec (λ c κs. search needs) (λ c κs. search needs) returns)

@@ -6,15 +6,9 @@ use borrow.Author.Needs.{needs}
 use Rattle.steps.proofs.parts.sub.Statement.{statement}
 use Rattle.steps.proofs.parts.sub.Tie as tie
 
-sub-requires : tie.Need-sub-requires
-sub-requires c κs = search needs
-
-sub-requires-2 : tie.Need-sub-requires-2
-sub-requires-2 c κs = search needs
-
 returns : tie.Need-returns
 unfolding partOf minus
 returns c = record { is = cc; low = search needs }
 
 pub sub-spec : {M : Type 1} → statement M
-sub-spec = tie.close (tie.spec sub-requires sub-requires-2 returns)
+sub-spec = tie.close (tie.spec (λ c κs. search needs) (λ c κs. search needs) returns)

@@ -5,19 +5,9 @@ use borrow.Author.Needs.{needs}
 use Rattle.steps.proofs.receiving.after_input.Statement.{statement}
 use Rattle.steps.proofs.receiving.after_input.Tie as tie
 
-part-at-requires : tie.Need-part-at-requires
-part-at-requires c κs = search needs
-
-shifted-requires : tie.Need-shifted-requires
-shifted-requires c κs = search needs
-
-put-wire-requires : tie.Need-put-wire-requires
-put-wire-requires c κs = search needs
-
 returns : tie.Need-returns
 unfolding afterInput
 returns c = cc
 
 pub after-input-spec : {M : Type 1} → statement M
-after-input-spec =
-    tie.close (tie.spec part-at-requires shifted-requires put-wire-requires (λ c. search needs) returns)
+after-input-spec = tie.close (tie.spec (λ c κs. search needs) (λ c κs. search needs) (λ c κs. search needs) (λ c. search needs) returns)

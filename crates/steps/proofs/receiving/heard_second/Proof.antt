@@ -11,9 +11,6 @@ use Rattle.protocol.proofs.HeardWords.{second-is, no-second}
 use Rattle.steps.proofs.receiving.heard_second.Statement.{statement}
 use Rattle.steps.proofs.receiving.heard_second.Tie as tie
 
-opens-requires : tie.Need-opens-requires
-opens-requires c κs = search needs
-
 sub-heard-sum : tie.Need-sub-heard-sum
 sub-heard-sum c = c .before .before .before .pre .2 (sym (c .before .opens .ensures) ∙ c .if1 .taken) .0
 
@@ -27,5 +24,4 @@ returns-2 : tie.Need-returns-2
 returns-2 c = no-second ops (c .before .before .before .args .n) (c .before .before .before .args .k) (classOf (c .before .before .before .args .class)) (now (c .before .before .before .args .heard)) (c .before .before .before .args .openings - 1) (omega arith) (sym (c .before .opens .ensures) ∙ c .if1 .left)
 
 pub heard-second-spec : {M : Type 1} → statement M
-heard-second-spec =
-    tie.close (tie.spec opens-requires sub-heard-sum heard-sum-requires returns returns-2)
+heard-second-spec = tie.close (tie.spec (λ c κs. search needs) sub-heard-sum heard-sum-requires returns returns-2)

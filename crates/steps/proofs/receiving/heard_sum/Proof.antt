@@ -29,9 +29,6 @@ add-requires c κs = (c .before .before .loop .inv .added .below, c .before .bef
 add-at : tie.Need-add-at Inv-loop μ-loop
 add-at c = omega (arith, hearing-in laws _ _ _ _ _ _ _ (c .before .before .before .loop .inv) (c .before .before .loop-test .taken) (c .before .before .before .before .before .pre .0) (c .before .before .before .before .before .pre .1))
 
-loop-less : tie.Need-loop-less Inv-loop μ-loop
-loop-less c = omega arith
-
 loop-again : tie.Need-loop-again Inv-loop μ-loop
 loop-again c = hearing-again laws _ _ _ _ _ _ _ (c .before .before .before .loop .inv) (c .before .before .loop-test .taken) (c .add .ensures .is)
 
@@ -41,4 +38,4 @@ returns c = hearing-done laws _ _ _ _ _ _ _ (c .before .loop .inv) (c .loop-test
 pub heard-sum-spec : {M : Type 1} → statement M
 heard-sum-spec =
     tie.close
-    (tie.spec Inv-loop μ-loop loop-holds mul-add shared-slice-read-add add-requires add-at (λ c. omega arith) loop-less loop-again returns)
+    (tie.spec Inv-loop μ-loop loop-holds mul-add shared-slice-read-add add-requires add-at (λ c. omega arith) (λ c. omega arith) loop-again returns)

@@ -12,20 +12,8 @@ use Rattle.steps.proofs.receiving.next_point.Tie as tie
 resume-requires : tie.Need-resume-requires
 resume-requires c κs = c .before .before .before .before .pre .1
 
-sending-at-requires : tie.Need-sending-at-requires
-sending-at-requires c κs = search needs
-
-sending-at-requires-2 : tie.Need-sending-at-requires-2
-sending-at-requires-2 c κs = search needs
-
-aborted-at-requires : tie.Need-aborted-at-requires
-aborted-at-requires c κs = search needs
-
 returns : tie.Need-returns
 returns c = let s = (rw (c .before .before .before .r2 .given .1) at (c .before .before .before .before .before .before .before .pre)) in rw (c .before .before .before .r2 .given .1) (next-stops _ ops _ _ _ (Reveal _) (passes-not ops _ _ (Reveal _) refl (s .2 ∙ reveal-heard ops _ (s .0)) (c .before .if1 .taken)) (c .aborted-at .ensures))
-
-sending-at-requires-3 : tie.Need-sending-at-requires-3
-sending-at-requires-3 c κs = search needs
 
 resume-requires-2 : tie.Need-resume-requires-2
 resume-requires-2 c κs = c .before .before .before .before .before .before .before .before .pre .1
@@ -48,6 +36,6 @@ returns-6 c = let s = (rw (c .before .before .before .before .before .r2 .given 
 pub next-point-spec : {M : Type 1} → statement M
 next-point-spec =
     tie.close
-    (tie.spec (λ c. search needs) resume-requires (λ c. search needs) sending-at-requires (λ c. search needs) sending-at-requires-2
-        (λ c. search needs) aborted-at-requires returns (λ c. search needs) sending-at-requires-3 (λ c. search needs) resume-requires-2 returns-2
+    (tie.spec (λ c. search needs) resume-requires (λ c. search needs) (λ c κs. search needs) (λ c. search needs) (λ c κs. search needs)
+        (λ c. search needs) (λ c κs. search needs) returns (λ c. search needs) (λ c κs. search needs) (λ c. search needs) resume-requires-2 returns-2
         returns-3 returns-4 returns-5 returns-6)

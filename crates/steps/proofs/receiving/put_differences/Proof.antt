@@ -7,24 +7,9 @@ use Rattle.protocol.proofs.Steps.{two-made, one-made}
 use Rattle.steps.proofs.receiving.put_differences.Statement.{statement}
 use Rattle.steps.proofs.receiving.put_differences.Tie as tie
 
-masked-requires : tie.Need-masked-requires
-masked-requires c κs = search needs
-
-masked-requires-2 : tie.Need-masked-requires-2
-masked-requires-2 c κs = search needs
-
-put-opened-requires : tie.Need-put-opened-requires
-put-opened-requires c κs = search needs
-
-put-opened-requires-2 : tie.Need-put-opened-requires-2
-put-opened-requires-2 c κs = search needs
-
 returns : tie.Need-returns
 unfolding partOf
 returns c = two-made ops _ _ _ _ _ _ _ _ _ (c .before .before .before .before .before .before .before .before .before .before .if1 .taken) (c .before .before .before .before .before .before .before .before .before .before .before .masked .ensures .is) (c .before .before .before .before .before .before .before .before .masked2 .ensures .is) (c .before .before .before .before .before .before .put-opened .ensures) (c .before .before .put-opened2 .ensures)
-
-put-opened-requires-3 : tie.Need-put-opened-requires-3
-put-opened-requires-3 c κs = search needs
 
 returns-2 : tie.Need-returns-2
 unfolding partOf
@@ -33,5 +18,5 @@ returns-2 c = one-made ops _ _ _ _ _ _ _ _ _ (c .before .before .before .before 
 pub put-differences-spec : {M : Type 1} → statement M
 put-differences-spec =
     tie.close
-    (tie.spec masked-requires (λ c. search needs) (λ c. search needs) masked-requires-2 put-opened-requires (λ c. search needs) put-opened-requires-2
-        (λ c. search needs) returns put-opened-requires-3 (λ c. search needs) returns-2)
+    (tie.spec (λ c κs. search needs) (λ c. search needs) (λ c. search needs) (λ c κs. search needs) (λ c κs. search needs) (λ c. search needs)
+        (λ c κs. search needs) (λ c. search needs) returns (λ c κs. search needs) (λ c. search needs) returns-2)

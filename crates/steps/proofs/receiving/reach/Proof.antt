@@ -22,14 +22,8 @@ loop-holds c = reaching-start _ _ _ (c .before .pre .1)
 class-at-requires : tie.Need-class-at-requires Inv-loop μ-loop
 class-at-requires c κs = omega (arith, c .before .before .before .pre .0)
 
-is-linear-requires : tie.Need-is-linear-requires Inv-loop μ-loop
-is-linear-requires c κs = search needs
-
 returns : tie.Need-returns Inv-loop μ-loop
 returns c = reaching-stop _ _ _ _ (c .before .before .before .before .loop .inv) (omega arith) (sym (c .before .is-linear .ensures ∙ ap (isClass Local) (c .before .before .class-at .ensures)) ∙ not-true (c .before .is-linear .result) (c .if1 .taken))
-
-loop-less : tie.Need-loop-less Inv-loop μ-loop
-loop-less c = omega arith
 
 loop-again : tie.Need-loop-again Inv-loop μ-loop
 loop-again c = reaching-again _ _ _ _ (c .before .before .before .before .loop .inv) (omega arith) (sym (c .before .is-linear .ensures ∙ ap (isClass Local) (c .before .before .class-at .ensures)) ∙ not-false (c .before .is-linear .result) (c .if1 .left))
@@ -40,4 +34,4 @@ returns-2 c = reaching-done _ _ _ _ (c .before .loop .inv) (omega arith)
 pub reach-spec : {M : Type 1} → statement M
 reach-spec =
     tie.close
-    (tie.spec Inv-loop μ-loop loop-holds class-at-requires is-linear-requires returns (λ c. omega arith) loop-less loop-again returns-2)
+    (tie.spec Inv-loop μ-loop loop-holds class-at-requires (λ c κs. search needs) returns (λ c. omega arith) (λ c. omega arith) loop-again returns-2)

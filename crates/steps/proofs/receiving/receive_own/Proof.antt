@@ -14,9 +14,6 @@ use Rattle.steps.proofs.receiving.receive_own.Tie as tie
 shared-slice-read-key : tie.Need-shared-slice-read-key
 shared-slice-read-key c = prep-some _ _ _ _ _ (c .before .before .before .before .before .before .pre .0 .ready)
 
-is-in-requires : tie.Need-is-in-requires
-is-in-requires c κs = search needs
-
 mul-after-input : tie.Need-mul-after-input
 mul-after-input c = omega (arith, record-fits _ _ _ _ _ (c .before .before .before .before .before .before .before .before .before .pre .0 .ready), c .before .before .before .before .before .before .before .before .before .good)
 
@@ -62,6 +59,6 @@ returns-2 c = opening-received ops _ _ _ _ _ (c .before .before .before .before 
 pub receive-own-spec : {M : Type 1} → statement M
 receive-own-spec =
     tie.close
-    (tie.spec shared-slice-read-key is-in-requires mul-after-input sub-after-input part-after-input-start (λ c. search needs) after-input-requires
-        add-settle settle-requires (λ c. search needs) returns mul-after-opening sub-after-opening part-after-opening-start (λ c. search needs)
-        after-opening-requires add-settle-2 settle-requires-2 (λ c. search needs) returns-2)
+    (tie.spec shared-slice-read-key (λ c κs. search needs) mul-after-input sub-after-input part-after-input-start (λ c. search needs)
+        after-input-requires add-settle settle-requires (λ c. search needs) returns mul-after-opening sub-after-opening part-after-opening-start
+        (λ c. search needs) after-opening-requires add-settle-2 settle-requires-2 (λ c. search needs) returns-2)

@@ -8,9 +8,6 @@ use borrow.Author.Needs.{needs}
 use Rattle.steps.proofs.scratch.read_slot.Statement.{statement}
 use Rattle.steps.proofs.scratch.read_slot.Tie as tie
 
-offset-of-requires : tie.Need-offset-of-requires
-offset-of-requires c κs = search needs
-
 mul-result : tie.Need-mul-result
 mul-result c = omega (arith, slot-fits _ (slotOf (c .before .before .args .s)) (c .before .before .pre .0) (c .before .before .pre .1), c .offset-of .ensures, c .before .before .good)
 
@@ -22,5 +19,4 @@ unfolding read
 returns c = rw (c .before .offset-of .ensures)
 
 pub read-slot-spec : {M : Type 1} → statement M
-read-slot-spec =
-    tie.close (tie.spec offset-of-requires mul-result shared-slice-read-result returns)
+read-slot-spec = tie.close (tie.spec (λ c κs. search needs) mul-result shared-slice-read-result returns)

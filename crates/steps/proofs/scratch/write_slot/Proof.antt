@@ -8,9 +8,6 @@ use borrow.Author.Needs.{needs}
 use Rattle.steps.proofs.scratch.write_slot.Statement.{statement}
 use Rattle.steps.proofs.scratch.write_slot.Tie as tie
 
-offset-of-requires : tie.Need-offset-of-requires
-offset-of-requires c κs = search needs
-
 mul-l : tie.Need-mul-l
 mul-l c = omega (arith, slot-fits _ (slotOf (c .before .before .args .s)) (c .before .before .pre .0) (c .before .before .pre .1), c .offset-of .ensures, c .before .before .good)
 
@@ -22,4 +19,4 @@ unfolding write
 returns c = rw (c .offset-of .ensures)
 
 pub write-slot-spec : {M : Type 1} → statement M
-write-slot-spec = tie.close (tie.spec offset-of-requires mul-l slice-write-l (λ c. search needs) returns)
+write-slot-spec = tie.close (tie.spec (λ c κs. search needs) mul-l slice-write-l (λ c. search needs) returns)

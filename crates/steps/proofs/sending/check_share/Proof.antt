@@ -33,21 +33,12 @@ opened-mac-requires c κs = (c .before .before .before .before .before .before .
 add-product-requires-2 : tie.Need-add-product-requires-2 Inv-loop μ-loop
 add-product-requires-2 c κs = (c .before .before .before .before .before .loop .inv .2 .below, c .before .before .before .before .before .before .before .before .pre .3 _, c .opened-mac .ensures .below)
 
-loop-less : tie.Need-loop-less Inv-loop μ-loop
-loop-less c = omega arith
-
 loop-again : tie.Need-loop-again Inv-loop μ-loop
 loop-again c = (
   omega arith,
   running-more laws _ _ _ (c .before .before .before .before .before .before .loop .inv .1) (ap (ops .mul _) (c .before .before .before .opened-value .ensures .is)) (c .before .before .add-product .ensures),
   running-more laws _ _ _ (c .before .before .before .before .before .before .loop .inv .2) (ap (ops .mul _) (c .before .opened-mac .ensures .is)) (c .add-product2 .ensures),
 )
-
-reduce-requires : tie.Need-reduce-requires Inv-loop μ-loop
-reduce-requires c κs = search needs
-
-reduce-requires-2 : tie.Need-reduce-requires-2 Inv-loop μ-loop
-reduce-requires-2 c κs = search needs
 
 mul-requires : tie.Need-mul-requires Inv-loop μ-loop
 mul-requires c κs = (c .before .before .before .before .before .before .pre .1, c .reduce2 .ensures .below)
@@ -68,4 +59,5 @@ pub check-share-spec : {M : Type 1} → statement M
 check-share-spec =
     tie.close
     (tie.spec Inv-loop μ-loop loop-holds (λ c. omega arith) (λ c. omega arith) opened-value-requires add-product-requires opened-mac-requires
-        add-product-requires-2 (λ c. omega arith) loop-less loop-again reduce-requires reduce-requires-2 mul-requires sub-requires returns)
+        add-product-requires-2 (λ c. omega arith) (λ c. omega arith) loop-again (λ c κs. search needs) (λ c κs. search needs) mul-requires
+        sub-requires returns)
