@@ -1,12 +1,12 @@
 -- What is read of a scratch after it is written: a slot reads as it was written last, and every other slot as before.
 -- Assumes nothing.
 use Prim.Native.Nat.{ℕ, _<_, _≤_}
-use mathlib.Core.Path.{_≡_, _∙_}
+use mathlib.Core.Path.{_≡_, ap, _∙_}
 use mathlib.Core.Logic.{_≢_}
 use mathlib.Core.List.{List}
 use native.Mathlib.Omega.{arith}
-use lib.ListN.{length, length-set}
-use lib.Seq.{getD-set-same, getD-set-other}
+use lib.ListN.{length, set, length-set}
+use lib.Seq.{getD-set-same, getD-set-other, set-set, set-comm}
 use Rattle.protocol.specs.Part.{Part}
 use Rattle.protocol.specs.Scratch.{Layout, Slot, Share, Mac, Value, ValueMac, offset, scratchSize, read, write, wire, putWire, putOpened}
 use Rattle.protocol.specs.Holding.{Within}
@@ -115,3 +115,30 @@ module _ (y : Layout) where
       → read y (putOpened y l t v m) (ValueMac k) ≡ read y l (ValueMac k)
   unfolding putOpened offset
   value-mac-opened-other l t k v m z w a = read-other _ (ValueMac k) (ValueMac t) _ (omega arith) ∙ read-other l (ValueMac k) (Value t) v (omega arith)
+
+  -- an entry that is written twice is as it was written last
+  pub opened-twice : (l : List ℕ) (t v m w n : ℕ) → t < y .capacity → putOpened y (putOpened y l t v m) t w n ≡ putOpened y l t w n
+  unfolding putOpened write offset
+  opened-twice l t v m w n h =
+      let a = offset y (Value t) in
+      let b = offset y (ValueMac t) in
+      ap (λ (r : List ℕ). set r b n) (set-comm (set l a v) b a m w (omega arith))
+      ∙ set-set (set (set l a v) a w) b m n
+      ∙ ap (λ (r : List ℕ). set r b n) (set-set l a v w)
+
+  -- two entries may be written in either order
+  pub opened-either : (l : List ℕ) (s t v m w n : ℕ)
+      → s < y .capacity
+      → t < y .capacity
+      → s ≢ t
+      → putOpened y (putOpened y l s v m) t w n ≡ putOpened y (putOpened y l t w n) s v m
+  unfolding putOpened write offset
+  opened-either l s t v m w n f g h =
+      let a = offset y (Value s) in
+      let b = offset y (ValueMac s) in
+      let c = offset y (Value t) in
+      let d = offset y (ValueMac t) in
+      ap (λ (r : List ℕ). set r d n) (set-comm (set l a v) b c m w (omega arith))
+      ∙ ap (λ (r : List ℕ). set (set r b m) d n) (set-comm l a c v w (omega arith))
+      ∙ set-comm (set (set l c w) a v) b d m n (omega arith)
+      ∙ ap (λ (r : List ℕ). set r b m) (set-comm (set l c w) a d v n (omega arith))

@@ -1,13 +1,14 @@
 -- What each step leaves of a scratch: what was worked out and opened, and what the step adds to it.
 -- Assumes nothing.
-use Prim.Native.Nat.{ℕ, suc, _+_, _<_, _≤_}
+use Prim.Native.Nat.{ℕ, suc, _+_, _-_, _<_, _≤_}
 use mathlib.Core.Path.{_≡_, refl, _∙_}
+use mathlib.Core.Logic.{_≢_}
 use mathlib.Core.List.{List}
 use native.Mathlib.Omega.{arith}
 use native.Mathlib.Numerals.{add-one}
 use lib.ListN.{length}
 use lib.Dec.{eqb}
-use borrow.Author.Tests.{eq-eqb, ne-eqb, eqb-true, eqb-false}
+use borrow.Author.Tests.{eqb-true, eqb-false}
 use Rattle.algebra.specs.Ops.{Ops}
 use Rattle.algebra.specs.Field.{Field}
 use Rattle.circuit.proofs.Tests.{by-cases}
@@ -17,7 +18,7 @@ use Rattle.protocol.specs.Party.{aAt, bAt, cAt}
 use Rattle.protocol.specs.Send.{masked}
 use Rattle.protocol.specs.Receive.{afterInput, putDifferences, afterOpening, afterOpenOutput}
 use Rattle.protocol.specs.Holding.{Held, Worked}
-use Rattle.protocol.proofs.Slots.{length-opened, length-put}
+use Rattle.protocol.proofs.Slots.{length-opened, length-put, opened-twice, opened-either}
 use Rattle.protocol.proofs.Writing.{OpenedTo, worked-put, opened-put, worked-opened, opened-more, wire-elements, minus-elements, shift-elements, product-elements}
 use Rattle.protocol.proofs.Settling.{Keeps, written-keeps}
 
@@ -100,21 +101,27 @@ module _ {O : Ops} (F : Field O) (c : List ℕ) (y : Layout) (l : List ℕ) (j :
         opened = opened-more y l 0 s _ h room ls (wire-elements y l x k .mac) (λ t z. absurd (omega arith));
       }
 
--- the entries of two openings, and of one, from what the calls made
-module _ (O : Ops) (y : Layout) (l : List ℕ) (x z : ℕ) (m : List ℕ) (k u e d : ℕ) {s : Part} {l₁ : List ℕ} where
-  pub two-made : {t : Part} {l₂ : List ℕ}
-      → k ≡ 2
-      → s ≡ masked O y l x m aAt
-      → t ≡ masked O y l z m (bAt k)
-      → l₁ ≡ putOpened y l u e (s .mac)
-      → l₂ ≡ putOpened y l₁ (u + 1) d (t .mac)
-      → l₂ ≡ putDifferences O y l x z m k u e d
-  unfolding putDifferences
-  two-made ek es et e₁ e₂ = rw (e₂, e₁, et, es, eq-eqb k 2 ek)
-
-  pub one-made : (k ≡ 2 → ⊥) → s ≡ masked O y l x m aAt → l₁ ≡ putOpened y l u e (s .mac) → l₁ ≡ putDifferences O y l x z m k u e d
-  unfolding putDifferences
-  one-made ek es e₁ = rw (e₁, es, ne-eqb k 2 ek)
+-- the entries of one opening or two, from what the calls made: the last entry, and then the first, which may be the same
+pub differences-made : (O : Ops) (y : Layout) (l : List ℕ) (x z : ℕ) (m : List ℕ) (k u e d : ℕ) {s t : Part} {l₁ l₂ : List ℕ}
+    → 1 ≤ k
+    → k ≤ 2
+    → u + k ≤ y .capacity
+    → s ≡ masked O y l x m aAt
+    → t ≡ masked O y l z m (bAt k)
+    → l₁ ≡ putOpened y l (u + (k - 1)) d (t .mac)
+    → l₂ ≡ putOpened y l₁ u e (s .mac)
+    → l₂ ≡ putDifferences O y l x z m k u e d
+unfolding putDifferences
+differences-made O y l x z m k u e d some few o es et e₁ e₂ =
+    by-cases (eqb k 2)
+    (λ h.
+    let two : k ≡ 2 = eqb-true k 2 h in
+    let last : u + (k - 1) ≡ u + 1 = omega arith in
+    rw (h, e₂, e₁, et, es, last) (opened-either y l (u + 1) u d _ e _ (omega arith) (omega arith) (omega arith)))
+    (λ h.
+    let one : k ≡ 1 = let no : k ≢ 2 = eqb-false k 2 h in omega arith in
+    let last : u + (k - 1) ≡ u = omega arith in
+    rw (h, e₂, e₁, es, last) (opened-twice y l u d _ e _ (omega arith)))
 
 -- what opening values leaves, from what the calls made: the entries and then the product
 pub opening-made : (O : Ops) (i key : ℕ) (y : Layout) (l : List ℕ) (j x z : ℕ) (m : List ℕ) (k u e d : ℕ) {r : Part} {l₁ l₂ : List ℕ}

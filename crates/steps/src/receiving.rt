@@ -89,7 +89,8 @@ pub fn after_input(me: usize, key: Word, y: Layout, l: &mut [Word], j: usize, m:
     scratch::put_wire(l, y, j, x);
 }
 
-// The values that a gate opens, k of them, with the party's MAC shares.
+// The values that a gate opens, k of them, with the party's MAC shares: the last, and then the first. Where one is opened they are one
+// entry, so that there is nothing to test.
 fn put_differences(
     y: Layout,
     l: &mut [Word],
@@ -112,12 +113,8 @@ fn put_differences(
     ensures { λ r. ⌜ now (l .exit) ≡ putDifferences ops (layoutOf y) (now (l .entry)) x z (now (m .entry)) k u e d ⌝ }
 {
     let first = sending::masked(l, y, x, m, sending::A_AT);
-    if k == 2 {
-        let second = sending::masked(l, y, z, m, 2 * k - 2);
-        scratch::put_opened(l, y, u, e, first.mac);
-        scratch::put_opened(l, y, u + 1, d, second.mac);
-        return;
-    }
+    let second = sending::masked(l, y, z, m, 2 * k - 2);
+    scratch::put_opened(l, y, u + (k - 1), d, second.mac);
     scratch::put_opened(l, y, u, e, first.mac);
 }
 

@@ -3,20 +3,17 @@
 use borrow.Author.Needs.{needs}
 use Rattle.field.specs.Words.{ops}
 use Rattle.steps.specs.Code.{partOf}
-use Rattle.protocol.proofs.Steps.{two-made, one-made}
+use Rattle.protocol.specs.Code.{layoutOf}
+use Rattle.protocol.proofs.Steps.{differences-made}
 use Rattle.steps.proofs.receiving.put_differences.Statement.{statement}
 use Rattle.steps.proofs.receiving.put_differences.Tie as tie
 
 returns : tie.Need-returns
-unfolding partOf
-returns c = two-made ops _ _ _ _ _ _ _ _ _ (c .before .before .before .before .before .before .before .before .before .before .if1 .taken) (c .before .before .before .before .before .before .before .before .before .before .before .masked .ensures .is) (c .before .before .before .before .before .before .before .before .masked2 .ensures .is) (c .before .before .before .before .before .before .put-opened .ensures) (c .before .before .put-opened2 .ensures)
-
-returns-2 : tie.Need-returns-2
-unfolding partOf
-returns-2 c = one-made ops _ _ _ _ _ _ _ _ _ (c .before .before .before .before .if1 .left) (c .before .before .before .before .before .masked .ensures .is) (c .before .before .put-opened3 .ensures)
+unfolding partOf layoutOf
+returns c = differences-made ops _ _ _ _ _ _ _ _ _ (c .before .before .before .before .before .before .before .before .before .before .before .before .before .before .pre .3) (c .before .before .before .before .before .before .before .before .before .before .before .before .before .before .pre .4) (c .before .before .before .before .before .before .before .before .before .before .before .before .before .before .pre .7) (c .before .before .before .before .before .before .before .before .before .before .masked .ensures .is) (c .before .before .before .before .before .before .before .before .masked2 .ensures .is) (c .before .before .before .before .before .before .put-opened .ensures) (c .before .before .put-opened2 .ensures)
 
 pub put-differences-spec : {M : Type 1} → statement M
 put-differences-spec =
     tie.close
-    (tie.spec (λ c κs. search needs) (λ c. search needs) (λ c. search needs) (λ c κs. search needs) (λ c κs. search needs) (λ c. search needs)
-        (λ c κs. search needs) (λ c. search needs) returns (λ c κs. search needs) (λ c. search needs) returns-2)
+    (tie.spec (λ c κs. search needs) (λ c. search needs) (λ c. search needs) (λ c κs. search needs) (λ c. search needs) (λ c. search needs)
+        (λ c κs. search needs) (λ c κs. search needs) (λ c. search needs) returns)
