@@ -20,7 +20,7 @@ const NO_GATE: usize = 0;
 
 const FEWEST_GATES: usize = 2;
 
-const MOST_GATES: usize = 256;
+pub const MOST_GATES: usize = 256;
 
 const FIRST_KIND: usize = 1;
 

@@ -23,7 +23,7 @@ const SPACE: u8 = 32;
 const ZERO: u8 = 48;
 
 // No accepted circuit has more gates.
-const MOST_GATES: usize = 256;
+const MOST_GATES: usize = gates::asking::MOST_GATES;
 
 // Where a joint run's rounds stand in its transcript, and how many of them are still to print.
 pub struct Place {
