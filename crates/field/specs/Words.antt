@@ -14,3 +14,7 @@ ops = prime
 -- running sums of products are kept below this
 abbrev pub sumSize : ℕ
 sumSize = p * p
+
+-- the largest number that a word can be
+abbrev pub largest : ℕ
+largest = 4294967295

@@ -14,6 +14,9 @@ pub type Sum = u64;
 // The size of the field, 2^31 - 1.
 pub const SIZE: Word = 2147483647;
 
+// The largest number that a word can be.
+pub const LARGEST: Word = 4294967295;
+
 // The sum. It is below 2 * SIZE, so that at most one SIZE is taken off.
 pub fn add(x: Word, y: Word) -> Word
     requires { ⌜ (x < size) × (y < size) ⌝ }
