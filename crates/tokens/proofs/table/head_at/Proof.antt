@@ -1,0 +1,42 @@
+-- `tokens::table::head_at` meets its contract: the numbers 0 to 7 go through the list of words.
+-- Assumes nothing.
+use mathlib.Core.Path.{_≡_}
+use native.Mathlib.Omega.{arith}
+use native.Mathlib.Nat.{le-antisymm, le-pred-of-lt}
+use Rattle.tokens.proofs.Tables.{past}
+use Rattle.tokens.proofs.table.head_at.Statement.{statement}
+use Rattle.tokens.proofs.table.head_at.Tie as tie
+
+returns : tie.Need-returns
+returns c = rw (c .if1 .taken)
+
+returns-2 : tie.Need-returns-2
+returns-2 c = rw (c .if2 .taken)
+
+returns-3 : tie.Need-returns-3
+returns-3 c = rw (c .if3 .taken)
+
+returns-4 : tie.Need-returns-4
+returns-4 c = rw (c .if4 .taken)
+
+returns-5 : tie.Need-returns-5
+returns-5 c = rw (c .if5 .taken)
+
+returns-6 : tie.Need-returns-6
+returns-6 c = rw (c .if6 .taken)
+
+returns-7 : tie.Need-returns-7
+returns-7 c = rw (c .if7 .taken)
+
+returns-8 : tie.Need-returns-8
+returns-8 c =
+    let at-2 = c .before .before .before .before .before in
+    let e : at-2 .before .before .args .k ≡ 7 =
+        le-antisymm (le-pred-of-lt (at-2 .before .before .pre))
+        (past 6 _ (past 5 _ (past 4 _ (past 3 _ (past 2 _ (past 1 _ (past 0 _ (omega arith) (at-2 .before .if1 .left)) (at-2 .if2 .left))
+            (c .before .before .before .before .if3 .left)) (c .before .before .before .if4 .left)) (c .before .before .if5 .left))
+            (c .before .if6 .left)) (c .if7 .left)) in
+    rw e
+
+pub head-at-spec : {M : Type 1} → statement M
+head-at-spec = tie.close (tie.spec returns returns-2 returns-3 returns-4 returns-5 returns-6 returns-7 returns-8)

@@ -1,0 +1,41 @@
+-- `tokens::words::find_word` meets its contract: the words before k do not serve, so the words from k on decide.
+-- Assumes nothing.
+use borrow.Author.Needs.{needs}
+use Prim.Native.Nat.{_-_}
+use mathlib.Core.Path.{_≡_, refl, sym, _∙_}
+use lib.ListN.{length, drop}
+use Rattle.forms.specs.Words.{heads}
+use Rattle.forms.specs.Machine.{wordIs}
+use Rattle.tokens.specs.Code.{part, foundAs}
+use Rattle.tokens.proofs.Wording.{is-next, is-here, is-nowhere}
+use Rattle.tokens.proofs.words.find_word.Statement.{statement}
+use Rattle.tokens.proofs.words.find_word.Tie as tie
+
+abbrev Inv-loop : tie.InvT-loop
+Inv-loop text from to any outermost k₀ k = wordIs heads any outermost (part text from to) ≡ wordIs (drop k heads) any outermost (part text from to)
+
+abbrev μ-loop : tie.MeasureT-loop
+μ-loop text from to any outermost k₀ k = length heads - k
+
+returns : tie.Need-returns Inv-loop μ-loop
+unfolding foundAs
+returns c =
+    sym (c .before .before .before .before .loop .inv
+    ∙ is-here _ _ _ (c .before .before .before .before .loop .k) (c .before .before .head-at .result) (c .before .before .head-at .ensures)
+    (c .before .head-is .ensures) (c .if1 .taken))
+
+loop-again : tie.Need-loop-again Inv-loop μ-loop
+loop-again c =
+    c .before .before .before .before .loop .inv
+    ∙ is-next _ _ _ (c .before .before .before .before .loop .k) (c .before .before .head-at .result) (c .before .before .head-at .ensures)
+    (c .before .head-is .ensures) (c .if1 .left)
+
+returns-2 : tie.Need-returns-2 Inv-loop μ-loop
+unfolding foundAs
+returns-2 c = sym (c .before .loop .inv ∙ is-nowhere _ _ _ (c .before .loop .k) (c .loop-test .left))
+
+pub find-word-spec : {M : Type 1} → statement M
+find-word-spec =
+    tie.close
+    (tie.spec Inv-loop μ-loop (λ c. refl) (λ c κs. search needs) (λ c κs. search needs) returns (λ c. search needs) (λ c. search needs) loop-again
+        returns-2)

@@ -1,0 +1,2 @@
+-- What the reader's leaves promise, as reading on.
+pub mod Code
