@@ -42,7 +42,7 @@ const FEWEST_PARTIES: usize = 2;
 const MOST_PARTIES: usize = 8;
 
 // Question 1.
-fn ask_parties(parties: usize) -> Verdict
+pub fn ask_parties(parties: usize) -> Verdict
     ensures { λ r. ⌜ verdictOf r ≡ askParties parties ⌝ }
 {
     if parties < FEWEST_PARTIES {
@@ -159,7 +159,7 @@ pub fn ask_lists(
 }
 
 // Questions 3 to 7, of the field of this crate.
-fn ask_circuit(parties: usize, c: &[Word]) -> Verdict
+pub fn ask_circuit(parties: usize, c: &[Word]) -> Verdict
     ensures { λ r. ⌜ verdictOf r ≡ askCircuit parties size (now (c .entry)) ⌝ }
 {
     gates::asking::accept(parties, field::index(field::SIZE), c)

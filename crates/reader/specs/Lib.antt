@@ -1,0 +1,2 @@
+-- What the readers of forms and rows promise, as reading on.
+pub mod Code
