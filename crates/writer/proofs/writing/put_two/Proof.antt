@@ -1,0 +1,42 @@
+-- `writer::writing::put_two` meets its contract: its three pieces stand one after another.
+-- Assumes nothing.
+use mathlib.Core.List.{[], _∷_, _++_}
+use native.Mathlib.Omega.{arith}
+use denote.Ref.{now}
+use borrow.Author.Needs.{needs}
+use Rattle.forms.specs.Form.{closing, space, begin, print}
+use Rattle.forms.specs.Entry.{name}
+use Rattle.writer.proofs.Putting.{fits-first, fits-second, fits-third, put-three}
+use Rattle.writer.proofs.writing.put_two.Statement.{statement}
+use Rattle.writer.proofs.writing.put_two.Tie as tie
+
+put-named-requires : tie.Need-put-named-requires
+unfolding print name
+put-named-requires c κs = fits-first (now (c .before .before .args .text)) _ (begin _ ++ print (name _) ++ (space ∷ [])) (print (name _)) (closing
+    ∷ []) (c .before .before .pre)
+
+put-leaf-requires : tie.Need-put-leaf-requires
+unfolding print name
+put-leaf-requires c κs = fits-second _ _ (begin _ ++ print (name _) ++ (space ∷ [])) (print (name _)) (closing ∷ [])
+    (c .before .before .before .before .before .before .pre) (c .before .before .before .put-named .ensures)
+
+put-byte-requires : tie.Need-put-byte-requires
+unfolding print name
+put-byte-requires c κs =
+    omega (
+      arith,
+      fits-third _ _ (begin _ ++ print (name _) ++ (space ∷ [])) (print (name _)) (closing ∷ [])
+          (c .before .before .before .before .before .before .before .before .before .before .pre)
+          (c .before .before .before .before .before .before .before .put-named .ensures) (c .before .before .before .put-leaf .ensures),
+    )
+
+returns : tie.Need-returns
+unfolding print name
+returns c =
+    put-three _ _ (begin _ ++ print (name _) ++ (space ∷ [])) (print (name _)) (closing ∷ [])
+    (c .before .before .before .before .before .before .before .before .before .before .before .before .before .pre)
+    (c .before .before .before .before .before .before .before .before .before .before .put-named .ensures)
+    (c .before .before .before .before .before .before .put-leaf .ensures) (c .before .before .put-byte .ensures)
+
+pub put-two-spec : {M : Type 1} → statement M
+put-two-spec = tie.close (tie.spec put-named-requires put-leaf-requires put-byte-requires (λ c. search needs) returns)
