@@ -5,14 +5,18 @@
 
 use std::fmt::Write;
 
-use crate::circuit::{ADD, IN, MUL, OUT};
+use crate::circuit::MAX_GATES;
 use crate::prep;
 use crate::random::Random;
-use crate::requests::{blank_joint, Answered};
+use crate::requests::{blank_joint, score_request, Answered};
+use crate::sheet::read_sheet;
 use crate::text;
 
 const FIRMS: usize = 5;
 const HARBOUR_GATES: usize = 4;
+
+/// The file that has the sheet, beside the request.
+const SHEET_FILE: &str = "harbour.sheet";
 
 pub struct Example {
     /// For each harbour gate the late rounds of each firm.
@@ -31,12 +35,12 @@ impl Example {
         let preps = prep::make(&mut random, FIRMS as u32, &circuit, key);
         let mut inputs = Vec::new();
         for firm in 0..FIRMS {
-            inputs.extend(late.iter().map(|counts| counts[firm]));
-            let own = risks.iter().enumerate();
-            inputs.extend(
-                own.filter(|(gate, _)| holder(*gate) == firm)
-                    .map(|(_, risk)| risk),
-            );
+            for (gate, (counts, risk)) in late.iter().zip(&risks).enumerate() {
+                inputs.push(counts[firm]);
+                if holder(gate) == firm {
+                    inputs.push(*risk);
+                }
+            }
         }
         let coefficients = random.elements(2 * HARBOUR_GATES + 1);
         let request = blank_joint(FIRMS as u32, &circuit, &preps, &inputs, &coefficients);
@@ -57,12 +61,12 @@ impl Example {
         (0..HARBOUR_GATES).map(|gate| self.part(gate)).sum()
     }
 
-    /// The answer of `show`.
+    /// The answer of `score`.
     pub fn answer(&self) -> String {
         text::show(&self.run)
     }
 
-    /// The request to `show`, with comments.
+    /// The request to `score`, with comments; a line names the file that has the sheet.
     pub fn request(&self, seed: u64) -> String {
         let mut text = format!(
             "\
@@ -98,7 +102,8 @@ impl Example {
         text.push_str(
             "# The answer has a line for each round with the words that all parties send, and last the score.\n",
         );
-        for line in text::request_to("show", &self.run.request).lines() {
+        let sheet = format!("sheet {SHEET_FILE}\n");
+        for line in score_request(&sheet, &self.run.request).lines() {
             text.push_str(comment(line));
             text.push_str(line);
             text.push('\n');
@@ -115,11 +120,12 @@ fn holder(gate: usize) -> usize {
 /// What is said before a line of the request.
 fn comment(line: &str) -> &'static str {
     match line.split(' ').next() {
-        Some("circuit") => {
+        Some("sheet") => {
             "\
-# The circuit, four numbers a gate. 0 to 19 are inputs: 5g + f is firm f's late rounds at harbour gate g.
-# 20 to 23 are the risks of harbour gates 0 to 3. Then for each harbour gate four additions of the five counts and
-# a multiplication by the risk; 44 to 46 add the four products, and 47 is the output.
+# The circuit stands in a file of its own beside this one, as a sheet. A line of the sheet for each harbour gate, 0 to 3:
+# the five firms' late rounds there are added up and multiplied by the risk; (in 3) is a number that firm 3 enters.
+# The last line adds the values of lines 0 to 3 and gives out the sum. The sheet has 48 gates: 24 inputs, 19 additions,
+# 4 multiplications, 1 output. tools/expand puts the sheet's bytes in the place of the next line.
 "
         }
         Some("preps") => {
@@ -130,8 +136,8 @@ fn comment(line: &str) -> &'static str {
         }
         Some("inputs") => {
             "\
-# Party 0's late rounds at harbour gates 0 to 3 and the risk that it holds, then the same of parties 1, 2 and 3, then
-# party 4's late rounds.
+# What each party enters, parties 0 to 4 in turn: its late rounds at harbour gates 0 to 3, and after those at the gate
+# whose risk it holds, that risk.
 "
         }
         Some("coefficients") => {
@@ -153,33 +159,29 @@ fn comment(line: &str) -> &'static str {
     }
 }
 
+/// A row for each harbour gate, and one that adds them up.
+pub fn sheet() -> String {
+    let mut text = String::new();
+    for gate in 0..HARBOUR_GATES {
+        let sum = sum((0..FIRMS).map(|firm| format!("(in {firm})")));
+        let _ = writeln!(text, "(mul {sum} (in {}))", holder(gate));
+    }
+    let score = sum((0..HARBOUR_GATES).map(|gate| format!("(line {gate})")));
+    let _ = writeln!(text, "(out {score})");
+    text
+}
+
+/// A form that adds up forms from the left.
+fn sum(forms: impl Iterator<Item = String>) -> String {
+    let sum = forms.reduce(|sum, form| format!("(add {sum} {form})"));
+    sum.expect("at least one form")
+}
+
 fn circuit() -> Vec<u32> {
-    let mut gates = Vec::new();
-    let mut push = |gate: [usize; 4]| {
-        gates.push(gate.map(|number| number as u32));
-        gates.len() - 1
-    };
-    let [input, add, mul, out] = [IN, ADD, MUL, OUT].map(|kind| kind as usize);
-    let late: Vec<[usize; FIRMS]> = (0..HARBOUR_GATES)
-        .map(|_| std::array::from_fn(|firm| push([input, firm, 0, 0])))
-        .collect();
-    let risks: Vec<usize> = (0..HARBOUR_GATES)
-        .map(|gate| push([input, holder(gate), 0, 0]))
-        .collect();
-    let mut parts = Vec::new();
-    for (counts, risk) in late.iter().zip(risks) {
-        let mut sum = counts[0];
-        for &count in &counts[1..] {
-            sum = push([add, sum, count, 0]);
-        }
-        parts.push(push([mul, sum, risk, 0]));
-    }
-    let mut score = parts[0];
-    for &part in &parts[1..] {
-        score = push([add, score, part, 0]);
-    }
-    push([out, score, 0, 0]);
-    gates.concat()
+    let mut circuit = vec![0; 4 * MAX_GATES];
+    let gates = read_sheet(FIRMS as u32, sheet().as_bytes(), &mut circuit);
+    circuit.truncate(4 * gates.expect("an accepted sheet"));
+    circuit
 }
 
 #[cfg(test)]
@@ -220,6 +222,7 @@ mod tests {
             include_str!("../../examples/harbour.txt"),
             include_str!("../../examples/harbour.answer"),
         );
+        assert_eq!(include_str!("../../examples/harbour.sheet"), sheet());
         let example = Example::make(1);
         assert_eq!(request, example.request(1));
         assert_eq!(answer, example.answer());

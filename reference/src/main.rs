@@ -1,16 +1,18 @@
+use std::io::Read;
 use std::process::ExitCode;
 
-use reference::example::Example;
-use reference::requests::{self, Answered, Set, Size};
-use reference::{docket, text, theorems};
+use reference::example::{self, Example};
+use reference::requests::{self, Answered, Set, SheetSet, Size};
+use reference::{docket, replay, text, theorems};
 
 const USAGE: &str = "usage:
     reference docket
     reference coverage SEED COUNT
     reference theorems SEED COUNT
-    reference vectors small|large SEED requests|answers
+    reference vectors small|large|sheet|sheets-large SEED requests|answers
     reference vectors SEED coverage
-    reference example SEED request|answer";
+    reference example SEED request|sheet|answer
+    reference replay < REQUESTS";
 
 fn main() -> ExitCode {
     let arguments: Vec<String> = std::env::args().skip(1).collect();
@@ -43,8 +45,16 @@ fn output(arguments: &[&str]) -> Option<String> {
             requests::table(&small, &large)
         }
         ["vectors", name, seed, part] => {
-            let set = Set::ALL.into_iter().find(|set| set.name() == name)?;
             let seed = seed.parse().ok()?;
+            if let Some(set) = SheetSet::ALL.into_iter().find(|set| set.name() == name) {
+                let (requests, answers) = text::sheets(set, seed);
+                return match part {
+                    "requests" => Some(requests),
+                    "answers" => Some(answers),
+                    _ => None,
+                };
+            }
+            let set = Set::ALL.into_iter().find(|set| set.name() == name)?;
             match part {
                 "requests" => text::requests(set, seed),
                 "answers" => text::answers(set, seed),
@@ -56,9 +66,15 @@ fn output(arguments: &[&str]) -> Option<String> {
             let example = Example::make(seed);
             match part {
                 "request" => example.request(seed),
+                "sheet" => example::sheet(),
                 "answer" => example.answer(),
                 _ => return None,
             }
+        }
+        ["replay"] => {
+            let mut input = Vec::new();
+            std::io::stdin().read_to_end(&mut input).ok()?;
+            replay::replay(&input)
         }
         _ => return None,
     })

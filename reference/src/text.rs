@@ -4,17 +4,19 @@ use crate::circuit;
 use crate::joint::{Ending, JointResult};
 use crate::party::{Position, Received, Round, Sort, Stage};
 use crate::refusal::Refusal;
-use crate::requests::{Answer, Answered, Field, Request, Set};
+use crate::requests::{Answer, Answered, Field, Request, Set, SheetSet};
+
+/// Comments that say what the requests of a set are.
+fn head(count: usize, about: &str, name: &str, seed: u64) -> String {
+    format!(
+        "# {count} requests from seed {seed}: {about}.\n# Made by: reference vectors {name} {seed} requests\n"
+    )
+}
 
 /// The requests of a set, after comments that say what they are.
 pub fn requests(set: Set, seed: u64) -> String {
     let all = set.make(seed);
-    let mut text = format!(
-        "# {} requests from seed {seed}: {}.\n# Made by: reference vectors {} {seed} requests\n",
-        all.len(),
-        set.about(),
-        set.name(),
-    );
+    let mut text = head(all.len(), set.about(), set.name(), seed);
     for one in &all {
         text.push_str(&request(&one.request));
     }
@@ -25,6 +27,21 @@ pub fn requests(set: Set, seed: u64) -> String {
 pub fn answers(set: Set, seed: u64) -> String {
     let all = set.make(seed);
     all.iter().map(|one| answer(&one.answer)).collect()
+}
+
+/// The requests of a set about sheets with their answers. The number of a faulty line is that in the requests.
+pub fn sheets(set: SheetSet, seed: u64) -> (String, String) {
+    let all = set.make(seed);
+    let mut requests = head(all.len(), set.about(), set.name(), seed);
+    let mut answers = String::new();
+    let mut before = requests.lines().count();
+    for one in &all {
+        let request = one.request();
+        answers.push_str(&one.answer(before));
+        before += request.lines().count();
+        requests.push_str(&request);
+    }
+    (requests, answers)
 }
 
 /// A request to the entry that it is made for.
@@ -87,7 +104,8 @@ pub fn rounds(one: &Answered) -> String {
     text
 }
 
-fn line(name: &str, numbers: &[u32]) -> String {
+/// A list with its name.
+pub fn line(name: &str, numbers: &[u32]) -> String {
     let mut text = String::from(name);
     for number in numbers {
         text.push(' ');
@@ -119,8 +137,12 @@ fn first_line(answer: &Answer) -> String {
     };
     match text {
         Ok(text) => text + "\n",
-        Err(Refusal { number, index }) => format!("refusal {number} {index}\n"),
+        Err(refused) => refusal(refused),
     }
+}
+
+pub fn refusal(Refusal { number, index }: Refusal) -> String {
+    format!("refusal {number} {index}\n")
 }
 
 fn position(at: Position) -> String {
@@ -159,13 +181,14 @@ pub fn round(round: Round) -> String {
 mod tests {
     use super::*;
     use crate::docket;
-    use crate::requests::Lent;
+    use crate::requests::{Lent, SheetRequest};
 
     const REPLAY: &str = include_str!("../../docs/REPLAY.md");
 
-    /// The example at the end of docs/REPLAY.md: its indented lines, before and after "is answered by".
-    fn example() -> (String, String) {
-        let (_, example) = REPLAY.split_once("## An example\n").unwrap();
+    /// An example in docs/REPLAY.md: the indented lines of its section, before and after "is answered by".
+    fn example(title: &str) -> (String, String) {
+        let (_, example) = REPLAY.split_once(&format!("## {title}\n")).unwrap();
+        let example = example.split("\n## ").next().unwrap();
         let (request, answer) = example.split_once("is answered by\n").unwrap();
         let indented = |text: &str| {
             let lines = text.lines().filter_map(|line| line.strip_prefix("    "));
@@ -194,7 +217,21 @@ mod tests {
             out: vec![9, 9],
         }
         .answered();
-        assert_eq!((request(&one.request), answer(&one.answer)), example());
+        assert_eq!(
+            (request(&one.request), answer(&one.answer)),
+            example("An example")
+        );
+    }
+
+    #[test]
+    fn writes_the_documented_example_with_a_sheet() {
+        let one = SheetRequest::Read {
+            parties: 2,
+            text: b"(out (in 1))\n".to_vec(),
+            circuit: vec![9; 9],
+        };
+        let written = (one.request(), one.answer(0));
+        assert_eq!(written, example("An example with a sheet"));
     }
 
     #[test]

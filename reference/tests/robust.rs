@@ -4,8 +4,8 @@ mod common;
 
 use common::answers::{assert_refusal_is_right, assert_written_as_due};
 use reference::random::Random;
-use reference::requests::{generate, Lent, Request, Size};
-use reference::{Position, Sort, Stage, P};
+use reference::requests::{generate, random_sheet, Lent, Request, Size};
+use reference::{read_sheet, write_sheet, Position, Sort, Stage, P};
 
 /// Accepted requests with any number changed, and any list cut or lengthened.
 #[test]
@@ -163,6 +163,50 @@ fn garbage_never_panics() {
         ];
         for request in requests {
             assert_written_as_due(&request.answered());
+        }
+    }
+}
+
+/// Texts of any bytes, sheets of which parts are moved about, and circuits of any numbers.
+#[test]
+fn sheets_of_garbage_never_panic() {
+    let mut random = Random::new(11);
+    for turn in 0..30_000 {
+        let mut text: Vec<u8> = match turn % 3 {
+            0 => (0..random.below(60))
+                .map(|_| random.below(256) as u8)
+                .collect(),
+            _ => {
+                let rows = random.between(1, 12);
+                random_sheet(&mut random, rows)
+            }
+        };
+        if turn % 3 == 2 {
+            let (cut, len) = (random.below(text.len()), random.below(40));
+            let part: Vec<u8> = text
+                .iter()
+                .skip(random.below(text.len()))
+                .take(len)
+                .copied()
+                .collect();
+            text.splice(cut..cut, part);
+        }
+        let mut circuit = vec![9; random.below(200)];
+        let before = circuit.clone();
+        let parties = any_number(&mut random);
+        match read_sheet(parties, &text, &mut circuit) {
+            Ok(gates) => assert_eq!(before[4 * gates..], circuit[4 * gates..]),
+            Err(refusal) => {
+                assert!(refusal.index <= text.len());
+                assert_eq!(before, circuit);
+            }
+        }
+        let numbers: Vec<u32> = (0..random.below(20))
+            .map(|_| any_number(&mut random))
+            .collect();
+        let mut sheet = vec![7; random.below(100)];
+        if write_sheet(parties, &numbers, &mut sheet).is_err() {
+            assert!(sheet.iter().all(|&byte| byte == 7));
         }
     }
 }

@@ -1,21 +1,28 @@
-//! Requests to all four entries with this implementation's answers: the source of test vectors.
+//! Requests to all entries with this implementation's answers: the source of test vectors.
 //!
 //! `generate` goes through a fixed rotation of cases, filled in at random: a whole run of one party by
 //! single entries, every refusal number in every entry that asks it, and accepted requests at the
 //! edges of what is accepted. A `Set` has these, both sides of every question's boundary, and whole
-//! runs; `measured`, `neighbours` and `single_runs` tell what a list of requests covers.
+//! runs; `measured`, `neighbours` and `single_runs` tell what a list of requests covers. A `SheetSet` has
+//! requests to the entries that read and write sheets.
 
 mod accept;
 mod boundary;
 mod boundary_steps;
 mod coverage;
 mod neighbours;
+mod random_sheet;
 mod refuse;
 mod refuse_steps;
 mod rotation;
 mod runs;
 mod scene;
 mod sets;
+mod sheet_calls;
+mod sheet_reads;
+mod sheet_sets;
+mod sheet_writes;
+mod sheets;
 mod single_runs;
 
 use std::slice::from_ref;
@@ -27,8 +34,11 @@ use crate::refusal::Refusal;
 
 pub use coverage::{coverage, measured, table};
 pub use neighbours::neighbours;
+pub use random_sheet::random_sheet;
 pub use rotation::generate;
 pub use sets::Set;
+pub use sheet_sets::SheetSet;
+pub use sheets::{score_request, scored, SheetRequest};
 pub use single_runs::{single_runs, SingleRun};
 
 /// Bounds for the circuits and the numbers of parties. A few cases need more than a small bound

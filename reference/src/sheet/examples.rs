@@ -1,0 +1,96 @@
+//! Sheets with the answers that must be given to them, each worked out by hand from the documents.
+
+/// The text as parts, each repeated so many times.
+pub type Parts = &'static [(&'static [u8], usize)];
+
+#[derive(Clone, Copy, Debug)]
+pub enum Told {
+    /// A refusal's number and index.
+    Refused(u32, usize),
+    Circuit(&'static [[u32; 4]]),
+    /// A circuit of so many gates.
+    Gates(usize),
+}
+
+/// The number of parties, the text, and what is told.
+pub type Example = (u32, Parts, Told);
+
+pub fn text(parts: Parts) -> Vec<u8> {
+    parts
+        .iter()
+        .flat_map(|(bytes, times)| bytes.repeat(*times))
+        .collect()
+}
+
+#[rustfmt::skip]
+pub const EXAMPLES: [Example; 62] = [
+    // Shape.
+    (2, &[(b"", 1)], Told::Refused(3, 0)), // the empty text does not end within a row; a circuit of no gates
+    (2, &[(b"(", 1)], Told::Refused(22, 1)), // ends within a row
+    (2, &[(b"((in 0))\n", 1)], Told::Refused(22, 1)),
+    (2, &[(b"(in 0)\n", 1)], Told::Refused(3, 0)), // one gate
+    (2, &[(b"(out (in 0))\n", 1)], Told::Circuit(&[[1, 0, 0, 0], [7, 0, 0, 0]])), // one row, two gates
+    (2, &[(b"(in 0) \n", 1)], Told::Refused(22, 6)),
+    (2, &[(b"(in 0)\n(out (line 0))\n ", 1)], Told::Refused(22, 22)), // bytes after the last line feed
+    (2, &[(b"( in 0)\n", 1)], Told::Refused(22, 1)),
+    (2, &[(b"(in  0)\n", 1)], Told::Refused(22, 4)), // second space
+    (2, &[(b"(in 0 )\n", 1)], Told::Refused(22, 5)),
+    (2, &[(b"(IN 0)\n", 1)], Told::Refused(22, 1)),
+    (2, &[(b"(i 0)\n", 1)], Told::Refused(22, 2)), // `(i` may become `(in`; the space ends that
+    (2, &[(b"(inn 0)\n", 1)], Told::Refused(22, 3)),
+    (2, &[(b"(in )\n", 1)], Told::Refused(22, 4)),
+    (2, &[(b"(in 0))\n", 1)], Told::Refused(22, 6)),
+    (2, &[(b"(in \xb2)\n", 1)], Told::Refused(22, 4)), // byte 178 is no digit
+    (2, &[(b"(add(in 0) (in 0))\n", 1)], Told::Refused(22, 4)),
+    (2, &[(b"(add (in 0))\n", 1)], Told::Refused(22, 11)),
+    (2, &[(b"(plus (in 0) (in 0))\n", 1)], Told::Refused(22, 13)),
+    (2, &[(b"(out (in 0) (in 0))\n", 1)], Told::Refused(22, 11)),
+    // Numbers.
+    (2, &[(b"(in 05", 1)], Told::Refused(22, 5)),
+    (2, &[(b"(in 4294967296)\n", 1)], Told::Refused(22, 13)), // tenth digit
+    (2, &[(b"(in 42949672950)\n", 1)], Told::Refused(22, 14)), // eleventh digit
+    (2, &[(b"(plus (in 0) 2147483646)\n(out (line 0))\n", 1)], Told::Circuit(&[[1, 0, 0, 0], [4, 0, 0, 2147483646], [7, 1, 0, 0]])),
+    (2, &[(b"(plus (in 0) 2147483647)\n(out (line 0))\n", 1)], Told::Refused(6, 1)), // gate 1, row 0
+    (2, &[(b"(times (in 0) 0)\n(out (line 0))\n", 1)], Told::Circuit(&[[1, 0, 0, 0], [5, 0, 0, 0], [7, 1, 0, 0]])),
+    (2, &[(b"(plus (in 0) 4294967296)\n", 1)], Told::Refused(22, 22)),
+    (3, &[(b"(in 2)\n(out (line 0))\n", 1)], Told::Circuit(&[[1, 2, 0, 0], [7, 0, 0, 0]])),
+    // Where a word may stand.
+    (2, &[(b"(in 0)\n(line 0)\n", 1)], Told::Refused(22, 8)),
+    (2, &[(b"(add (out (in 0)) (in 0))\n", 1)], Told::Refused(22, 6)), // never inside: the `o`
+    (2, &[(b"(out (out (in 0)))\n", 1)], Told::Refused(22, 6)),
+    (2, &[(b"(ov", 1)], Told::Refused(22, 2)),
+    (2, &[(b"(g", 1)], Told::Refused(22, 1)),
+    // Names.
+    (2, &[(b"(add (line 0) (in 0))\n", 1)], Told::Refused(22, 6)), // no earlier row: the `l`
+    (2, &[(b"(out (in 0))\n(out (line 0))\n", 1)], Told::Refused(22, 19)), // no earlier row with a value: the `l`
+    (2, &[(b"(in 0)\n(out (in 0))\n(out (line 1))\n", 1)], Told::Refused(22, 31)), // an out row
+    (2, &[(b"(in 0)\n(out (line ))\n", 1)], Told::Refused(22, 18)),
+    (2, &[(b"(in 0)\n", 12), (b"(out (line 11))\n", 1)], Told::Gates(13)),
+    (2, &[(b"(in 0)\n", 12), (b"(out (line 12))\n", 1)], Told::Refused(22, 96)), // `1` may become 10 or 11; the `2`
+    (2, &[(b"(in 0)\n", 12), (b"(out (line 25))\n", 1)], Told::Refused(22, 96)), // `2` is itself a name; the `5`
+    (2, &[(b"(in 0)\n(out (in 0))\n", 1), (b"(in 0)\n", 8), (b"(out (line 1))\n", 1)], Told::Refused(22, 87)), // 1 has no value and there is no 10: the `1`
+    (2, &[(b"(in 0)\n(out (in 0))\n", 1), (b"(in 0)\n", 9), (b"(out (line 1))\n", 1)], Told::Refused(22, 95)), // 10 has a value: the `)`
+    (2, &[(b"(in 0)\n(out (in 0))\n", 1), (b"(in 0)\n", 9), (b"(out (line 10))\n", 1)], Told::Gates(13)),
+    (2, &[(b"(out (mul (add (in 0) (in 1)) (sub (in 0) (in 1))))\n", 1)], Told::Circuit(&[[1, 0, 0, 0], [1, 1, 0, 0], [2, 0, 1, 0], [1, 0, 0, 0], [1, 1, 0, 0], [3, 3, 4, 0], [6, 2, 5, 0], [7, 6, 0, 0]])), // inner first, left before right
+    // Depth.
+    (2, &[(b"(plus ", 16), (b"(in 0)", 1), (b" 1)", 16), (b"\n(out (line 0))\n", 1)], Told::Refused(23, 96)),
+    (2, &[(b"(in 0)\n", 1), (b"(plus ", 16), (b"(line 0)", 1)], Told::Refused(23, 103)), // a (line J) counts
+    (2, &[(b"(plus ", 16), (b"(", 1)], Told::Refused(23, 96)), // before the end of the text, 97
+    (2, &[(b"(plus ", 16), (b"x", 1)], Told::Refused(22, 96)),
+    (2, &[(b"(plus ", 15), (b"(in (", 1)], Told::Refused(22, 94)), // 22 and 23 on one byte
+    (2, &[(b"(plus ", 15), (b"((", 1)], Told::Refused(22, 91)), // 22 and 23 on one byte
+    // Count.
+    (2, &[(b"(in 0)\n", 255), (b"(out (line 0))\n", 1)], Told::Gates(256)),
+    (2, &[(b"(in 0)\n", 256), (b"(out (line 0))\n", 1)], Told::Refused(24, 1805)), // the bracket of out; that of (line 0), 1804, closes no gate
+    (2, &[(b"(in 0)\n", 256), (b"(in 0", 1)], Told::Refused(22, 1797)), // ends within a row
+    (2, &[(b"(in 0)\n", 256), (b"(in )", 1)], Told::Refused(22, 1796)), // 22 and 24 on one byte
+    (2, &[(b"(in 0)\n", 256), (b"(add (in 0) (line 999))\n", 1)], Told::Refused(24, 1802)),
+    (2, &[(b"(in 0)\n", 256), (b"(add (line 0) (line 999))\n", 1)], Told::Refused(22, 1814)), // 9 and 99 are names
+    (2, &[(b"(out (in 0))\n", 128)], Told::Gates(256)), // 128 rows
+    (2, &[(b"(out (in 0))\n", 128), (b"(out (in 0))\n", 1)], Told::Refused(24, 1674)),
+    // Order of the questions.
+    (1, &[(b"x", 1)], Told::Refused(1, 0)), // 1 before the text
+    (2, &[(b"(in 9)\n(plus (line 0) 4294967295)\nx", 1)], Told::Refused(22, 34)), // the text before 3 to 7
+    (2, &[(b"(in 0)\n(in 9)\n(times (line 0) 2147483647)\n", 1)], Told::Refused(5, 1)),
+    (2, &[(b"(in 0)\n(in 1)\n", 1)], Told::Refused(7, 0)),
+];

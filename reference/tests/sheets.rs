@@ -1,0 +1,209 @@
+//! The sets of requests about sheets: what they cover, measured from requests and answers alone.
+
+use std::collections::{BTreeMap, BTreeSet};
+
+use reference::requests::{SheetRequest, SheetSet};
+use reference::sheet::examples::{self, Told, EXAMPLES};
+use reference::text;
+
+/// The seed of the vectors that are kept, and of the larger set in the gate.
+const SEED: u64 = 1;
+
+/// The first line of an answer.
+fn first(request: &SheetRequest) -> String {
+    request.answer(0).lines().next().unwrap().to_string()
+}
+
+/// How often each entry gives each answer: its first word, with the number of a refusal.
+fn counted(requests: &[SheetRequest]) -> BTreeMap<(&'static str, String), usize> {
+    let mut counts = BTreeMap::new();
+    for request in requests {
+        let first = first(request);
+        let mut words = first.split(' ');
+        let answer = match (words.next(), words.next()) {
+            (Some("refusal"), Some(number)) => format!("refusal {number}"),
+            (Some("line"), _) => first.split_once(": ").unwrap().1.to_string(),
+            (word, _) => word.unwrap().to_string(),
+        };
+        *counts.entry((request.name(), answer)).or_default() += 1;
+    }
+    counts
+}
+
+fn assert_answers(requests: &[SheetRequest], entry: &str, accepted: &[&str], refused: &[u32]) {
+    let counts = counted(requests);
+    let found: BTreeSet<String> = counts
+        .into_keys()
+        .filter(|(name, _)| *name == entry)
+        .map(|(_, answer)| answer)
+        .collect();
+    let refused = refused.iter().map(|number| format!("refusal {number}"));
+    let wanted: BTreeSet<String> = accepted
+        .iter()
+        .map(|word| word.to_string())
+        .chain(refused)
+        .collect();
+    // Exactly these: no entry refuses with a number that it does not ask.
+    assert_eq!(found, wanted, "{entry}");
+}
+
+const READ: [u32; 9] = [1, 3, 5, 6, 7, 18, 22, 23, 24];
+const WRITE: [u32; 7] = [1, 3, 4, 5, 6, 7, 18];
+
+#[test]
+fn the_kept_set_has_every_answer_of_every_entry() {
+    let kept = SheetSet::Kept.make(SEED);
+    assert_answers(&kept, "read", &["lines"], &READ);
+    assert_answers(&kept, "write", &["bytes"], &WRITE);
+    let score = [1, 3, 5, 6, 7, 8, 9, 11, 12, 17, 18, 22, 23];
+    assert_answers(&kept, "score", &["done", "stopped"], &score);
+    let faults = [
+        "a byte above 255",
+        "not a number",
+        "a number above 4294967295",
+        "more than 16384 numbers",
+        "one number is wanted",
+        "nothing may follow the name of an entry",
+        "text is wanted",
+        "circuit is wanted",
+    ];
+    assert_answers(&kept, "fault", &faults, &[]);
+}
+
+#[test]
+fn the_large_set_has_the_answers_of_reader_and_writer() {
+    let large = SheetSet::Large.make(SEED);
+    assert_eq!(large.len(), 3000);
+    let counts = counted(&large);
+    for answer in [
+        "lines",
+        "refusal 5",
+        "refusal 6",
+        "refusal 18",
+        "refusal 22",
+        "refusal 23",
+        "refusal 24",
+    ] {
+        assert!(counts[&("read", answer.to_string())] > 2, "{answer}");
+    }
+    for answer in ["bytes", "refusal 4", "refusal 5", "refusal 6", "refusal 18"] {
+        assert!(counts[&("write", answer.to_string())] > 2, "{answer}");
+    }
+    assert!(counts[&("score", "done".to_string())] > 10);
+}
+
+#[test]
+fn the_kept_set_has_the_examples() {
+    let kept = SheetSet::Kept.make(SEED);
+    for (parties, parts, told) in EXAMPLES {
+        let wanted = examples::text(parts);
+        let found = kept.iter().find(|request| matches!(request, SheetRequest::Read { parties: n, text, .. } if *n == parties && *text == wanted));
+        let first = first(found.expect("every example is asked"));
+        assert_eq!(
+            first,
+            match told {
+                Told::Refused(number, index) => format!("refusal {number} {index}"),
+                Told::Circuit(gates) => format!("lines {}", gates.len()),
+                Told::Gates(count) => format!("lines {count}"),
+            }
+        );
+    }
+}
+
+/// Room for exactly what is written, for one less, and for more, of reader and writer.
+#[test]
+fn the_kept_set_has_both_sides_of_the_room() {
+    let kept = SheetSet::Kept.make(SEED);
+    let mut found = BTreeSet::new();
+    for request in &kept {
+        let (name, room) = match request {
+            SheetRequest::Read { circuit, .. } => ("read", circuit.len()),
+            SheetRequest::Write { text, .. } => ("write", text.len()),
+            _ => continue,
+        };
+        let mut longer = request.clone();
+        match &mut longer {
+            SheetRequest::Read { circuit, .. } => circuit.resize(1024, 9),
+            SheetRequest::Write { text, .. } => text.resize(16_384, 7),
+            _ => unreachable!("only these have a room"),
+        }
+        let needed = match first(&longer).split_once(' ') {
+            Some(("lines", gates)) => 4 * gates.parse::<usize>().unwrap(),
+            Some(("bytes", count)) => count.parse().unwrap(),
+            _ => continue,
+        };
+        let word = first(request).split(' ').next().unwrap().to_string();
+        found.insert((name, word, room as i64 - needed as i64));
+    }
+    for (name, word) in [("read", "lines"), ("write", "bytes")] {
+        for (word, more) in [("refusal", -1), (word, 0), (word, 1)] {
+            assert!(
+                found.contains(&(name, word.to_string(), more)),
+                "{name} {word} {more}"
+            );
+        }
+    }
+}
+
+/// On a refusal the list is as before; otherwise what lies beyond.
+#[test]
+fn nothing_else_is_written() {
+    for request in SheetSet::ALL.into_iter().flat_map(|set| set.make(SEED)) {
+        let (before, unit) = match &request {
+            SheetRequest::Read { circuit, .. } => (circuit.clone(), 4),
+            SheetRequest::Write { text, .. } => (text.iter().map(|&byte| byte.into()).collect(), 1),
+            _ => continue,
+        };
+        let answer = request.answer(0);
+        let (first, list) = answer.split_once('\n').unwrap();
+        let after: Vec<u32> = list
+            .split_whitespace()
+            .skip(1)
+            .map(|number| number.parse().unwrap())
+            .collect();
+        let written = match first.split_once(' ').unwrap() {
+            ("refusal", _) => 0,
+            (_, count) => unit * count.parse::<usize>().unwrap(),
+        };
+        assert_eq!(before.len(), after.len());
+        assert_eq!(before[written..], after[written..]);
+    }
+}
+
+#[test]
+fn the_text_keeps_within_the_limits_of_the_format() {
+    for set in SheetSet::ALL {
+        let (requests, _) = text::sheets(set, SEED);
+        for line in requests.lines() {
+            assert!(line.len() <= 262_144);
+        }
+        let long = requests
+            .lines()
+            .filter(|line| line.split(' ').count() > 1 + 16_384);
+        // The one that is a fault.
+        assert_eq!(long.count(), usize::from(set == SheetSet::Kept));
+    }
+}
+
+#[test]
+fn the_same_seed_gives_the_same_requests() {
+    for set in SheetSet::ALL {
+        assert_eq!(set.make(SEED), set.make(SEED));
+        assert_ne!(set.make(SEED), set.make(SEED + 1));
+    }
+}
+
+/// The counts that vectors/README.md tells.
+#[test]
+fn the_counts_are_the_printed_ones() {
+    let readme = include_str!("../../vectors/README.md");
+    for set in SheetSet::ALL {
+        let all = set.make(SEED);
+        assert!(
+            readme.contains(&format!("{} requests", all.len())),
+            "{}: {}",
+            set.name(),
+            all.len()
+        );
+    }
+}
