@@ -3,3 +3,4 @@ pub mod Names
 pub mod Order
 pub mod Lines
 pub mod Taking
+pub mod Passing

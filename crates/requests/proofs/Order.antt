@@ -27,10 +27,13 @@ pub record Table : Type 0 where
   pub received : lent "receive" ≡ bytes "parties party circuit prep inputs scratch position heard "
   pub joined : lent "joint" ≡ bytes "parties circuit preps inputs scratch coefficients transcript outputs "
   pub shown : lent "show" ≡ lent "joint"
+  pub read : lent "read" ≡ bytes "parties text circuit "
+  pub written : lent "write" ≡ bytes "parties circuit text "
+  pub scored : lent "score" ≡ bytes "parties text preps inputs scratch coefficients transcript outputs "
 
 pub in-order : Table
 unfolding isSpace belongs run alike startFrom endFrom wordFrom ends nth firstFrom bytes entryName entryNamed row fieldName has following course lent
-in-order = record { opened = refl; sent = refl; received = refl; joined = refl; shown = refl }
+in-order = record { opened = refl; sent = refl; received = refl; joined = refl; shown = refl; read = refl; written = refl; scored = refl }
 
 -- the first number that passes a test, by one step more
 module _ (test : ℕ → Bool) (other end k : ℕ) where

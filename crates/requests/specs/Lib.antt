@@ -4,3 +4,4 @@ pub mod Names
 pub mod Order
 pub mod Calls
 pub mod Lines
+pub mod Texts

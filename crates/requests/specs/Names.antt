@@ -23,7 +23,7 @@ bytes (T._∷_ c text) = code c ∷ bytes text
 
 -- an entry is the number of its name
 unfoldable pub entryName : ℕ → List ℕ
-entryName entry = nth entry (bytes "open send receive joint show")
+entryName entry = nth entry (bytes "open send receive joint show read write score")
 
 abbrev pub opening : ℕ
 opening = 0
@@ -34,8 +34,17 @@ sending = 1
 abbrev pub receiving : ℕ
 receiving = 2
 
+abbrev pub reading : ℕ
+reading = 5
+
+abbrev pub writing : ℕ
+writing = 6
+
+abbrev pub scoring : ℕ
+scoring = 7
+
 abbrev pub noEntry : ℕ
-noEntry = 5
+noEntry = 8
 
 -- docs/REPLAY.md's table, a row for each entry: the names of what it is lent, in their order, and `-` for what it is not lent; the last row is that of `joint` and `show`
 unfoldable pub row : ℕ → List ℕ
@@ -43,7 +52,10 @@ row entry =
     cond (eqb entry opening) (bytes "parties party circuit prep inputs scratch - - - -")
     (cond (eqb entry sending) (bytes "parties party circuit prep inputs scratch position coefficients out -")
     (cond (eqb entry receiving) (bytes "parties party circuit prep inputs scratch position heard - -")
-    (bytes "parties - circuit preps inputs scratch - coefficients transcript outputs")))
+    (cond (eqb entry reading) (bytes "parties - text - - - - - circuit -")
+    (cond (eqb entry writing) (bytes "parties - circuit - - - - - text -")
+    (cond (eqb entry scoring) (bytes "parties - text preps inputs scratch - coefficients transcript outputs")
+    (bytes "parties - circuit preps inputs scratch - coefficients transcript outputs"))))))
 
 -- a field is the number of its name in the row
 unfoldable pub fieldName : ℕ → ℕ → List ℕ

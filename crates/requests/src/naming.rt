@@ -20,10 +20,17 @@ pub const JOINT: usize = 3;
 
 pub const SHOW: usize = 4;
 
-pub const NO_ENTRY: usize = 5;
+pub const READ: usize = 5;
+
+pub const WRITE: usize = 6;
+
+pub const SCORE: usize = 7;
+
+pub const NO_ENTRY: usize = 8;
 
 // What an entry is lent is a field, the number of its name in the entry's row. Preprocessing is one party's or that of all; words are the
-// coefficients or the words received; out is a party's list or the transcript.
+// coefficients or the words received; out is a party's list or the transcript. A sheet's text stands for the circuit where it is read, and what is
+// written of a sheet or of its circuit is out.
 pub const PARTIES: usize = 0;
 
 pub const PARTY: usize = 1;
@@ -97,7 +104,7 @@ pub fn entry_named(word: &[u8]) -> usize
 {
     let mut entry = OPEN;
     while entry < NO_ENTRY {
-        if spell_nth(b"open send receive joint show", entry, false, word) {
+        if spell_nth(b"open send receive joint show read write score", entry, false, word) {
             return entry;
         }
         entry += 1;
@@ -128,6 +135,30 @@ pub fn spell_field(entry: usize, field: usize, printed: bool, word: &[u8]) -> bo
     if entry == RECEIVE {
         return spell_nth(
             b"parties party circuit prep inputs scratch position heard - -",
+            field,
+            printed,
+            word,
+        );
+    }
+    if entry == READ {
+        return spell_nth(
+            b"parties - text - - - - - circuit -",
+            field,
+            printed,
+            word,
+        );
+    }
+    if entry == WRITE {
+        return spell_nth(
+            b"parties - circuit - - - - - text -",
+            field,
+            printed,
+            word,
+        );
+    }
+    if entry == SCORE {
+        return spell_nth(
+            b"parties - text preps inputs scratch - coefficients transcript outputs",
             field,
             printed,
             word,

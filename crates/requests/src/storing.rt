@@ -1,4 +1,5 @@
 // Reading a line of a request, and storing its list.
+use crate::bytes::all_bytes;
 use crate::naming::CIRCUIT;
 use crate::naming::INPUTS;
 use crate::naming::OUT;
@@ -6,6 +7,8 @@ use crate::naming::OUTPUTS;
 use crate::naming::PREP;
 use crate::naming::SCRATCH;
 use crate::naming::WORDS;
+use crate::naming::spell_field;
+use crate::reading::complain;
 use crate::reading::complain_numbers;
 use crate::reading::shorter;
 use crate::reading::take_line;
@@ -17,12 +20,21 @@ use crate::request::Request;
 use crate::request::WORDS_ROOM;
 use crate::request::dropped;
 use crate::request::moved_on;
+use crate::request::part;
 use crate::request::with_number;
 use crate::request::within;
 use field::Word;
 use text::Numbers;
 ghost use Prim.Native.Nat.{_≤_};
 ghost use lib.ListN.{length};
+
+// May these numbers be what is wanted? A text has only bytes.
+fn fitting(request: Request, list: &[Word]) -> bool {
+    if spell_field(request.entry, request.wanted, false, b"text") {
+        return all_bytes(list);
+    }
+    true
+}
 
 // Reads the list that is wanted, which begins at a place of the line, into its room.
 fn take_list(
@@ -36,7 +48,14 @@ fn take_list(
     let read = text::read_numbers(&line[start..], list);
     complain_numbers(number, read);
     match read {
-        Numbers::Count(n) => moved_on(with_number(request, within(n) as u32)),
+        Numbers::Count(n) => {
+            let count = part(n, list);
+            if !fitting(request, &list[..count]) {
+                complain(number, b"a byte above 255");
+                return dropped(request);
+            }
+            moved_on(with_number(request, within(n) as u32))
+        }
         _ => dropped(request),
     }
 }
