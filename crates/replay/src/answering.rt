@@ -1,4 +1,7 @@
 // Calling the entry of a request and printing its answer.
+use crate::sheets::answer_read;
+use crate::sheets::answer_score;
+use crate::sheets::answer_write;
 use field::Word;
 use joint::JointAnswer;
 use requests::entries::answer_open;
@@ -14,11 +17,14 @@ use requests::naming::OUT;
 use requests::naming::OUTPUTS;
 use requests::naming::PARTIES;
 use requests::naming::PREP;
+use requests::naming::READ;
 use requests::naming::RECEIVE;
+use requests::naming::SCORE;
 use requests::naming::SCRATCH;
 use requests::naming::SEND;
 use requests::naming::SHOW;
 use requests::naming::WORDS;
+use requests::naming::WRITE;
 use requests::request::CIRCUIT_ROOM;
 use requests::request::INPUTS_ROOM;
 use requests::request::PREP_ROOM;
@@ -44,7 +50,7 @@ fn print_joint(answer: JointAnswer) {
     }
 }
 
-fn answer_joint(
+pub fn answer_joint(
     request: Request,
     c: &[Word],
     preps: &[Word],
@@ -67,10 +73,10 @@ fn answer_joint(
         outputs,
     );
     print_joint(answer);
-    if request.entry == SHOW {
-        print_shown(parties, c, answer, transcript, outputs);
-    } else {
+    if request.entry == JOINT {
         print_lists(scratch, transcript, outputs);
+    } else {
+        print_shown(parties, c, answer, transcript, outputs);
     }
 }
 
@@ -124,6 +130,9 @@ fn call(
         SEND => answer_send(request, c, prep, inputs, scratch, words, out),
         RECEIVE => answer_receive(request, c, prep, inputs, scratch, words),
         JOINT | SHOW => { answer_joint(request, c, prep, inputs, scratch, words, out, outputs) }
+        READ => answer_read(request, c, out),
+        WRITE => answer_write(request, c, out),
+        SCORE => { answer_score(request, c, prep, inputs, scratch, words, out, outputs) }
         _ => {}
     }
 }
