@@ -1,6 +1,6 @@
 /* The proved online phase for callers in C. Build the archive with `rt staticlib capi`; link target/staticlib/libcapi.a.
  *
- * Every list is a pointer and a length in numbers. Lists of one call must not overlap, except that two lists that are only
+ * Every list is a pointer and a length in numbers, a text one in bytes. Lists of one call must not overlap, except that two lists that are only
  * read may. Nothing is kept between calls, and nothing is allocated. What each entry does is proved (crates/capi/src/lib.rt)
  * for lists of any length and numbers of any size; that the pointers and lengths are right is the caller's part.
  */
@@ -31,11 +31,16 @@ struct spdz_refusal {
  *   of the joint run
  *   the run is finished                      SPDZ_DONE         rounds  0      0      0      0
  *   the run is aborted at a gate             SPDZ_ABORTED_RUN  rounds  gate   0      0      0
+ *
+ *   of the reader and the writer of sheets
+ *   a sheet is read as a circuit             SPDZ_READ         gates   0      0      0      0
+ *   a circuit is written as a sheet          SPDZ_WRITTEN      bytes   0      0      0      0
  */
 #define SPDZ_PLACES 6
 
 enum { SPDZ_NEXT = 1, SPDZ_OUTPUT = 2, SPDZ_ABORT = 3 };
 enum { SPDZ_DONE = 1, SPDZ_ABORTED_RUN = 2 };
+enum { SPDZ_READ = 4, SPDZ_WRITTEN = 5 };
 
 /* A position is four numbers: a gate, a half, a round, and the check share held. Numbers that name no half or no round, or a round beside
  * SPDZ_FINISHED or SPDZ_ABORTED, name a position that cannot occur, and question 13 refuses it in its turn. A number keeps its meaning:
@@ -94,5 +99,24 @@ struct spdz_refusal spdz_joint_run(size_t parties,
                                    uint32_t *transcript, size_t transcript_len,
                                    uint32_t *outputs, size_t outputs_len,
                                    uint64_t *answer, size_t answer_len);
+
+/* A circuit as text, a sheet: bracketed forms, one on each line. The numbers that refuse a text are 22 (it breaks the shape), 23 (a bracket opens depth
+ * 17) and 24 (a bracket closes gate 257), each with the index of the byte; then come 3 to 7 of the circuit that is read, and 18.
+ *
+ * Reading a sheet: the gates' numbers go to the start of `circuit`, four for each gate. SPDZ_MOST_NUMBERS are enough for any sheet. */
+struct spdz_refusal spdz_read_sheet(size_t parties,
+                                    const uint8_t *text, size_t text_len,
+                                    uint32_t *circuit, size_t circuit_len,
+                                    uint64_t *answer, size_t answer_len);
+
+/* Writing a circuit as a sheet with a line for each gate, which reads back as the same circuit: its bytes go to the start of `text`, with none after them to
+ * mark the end. SPDZ_MOST_BYTES are enough for any circuit. */
+struct spdz_refusal spdz_write_sheet(size_t parties,
+                                     const uint32_t *circuit, size_t circuit_len,
+                                     uint8_t *text, size_t text_len,
+                                     uint64_t *answer, size_t answer_len);
+
+/* 256 gates of four numbers; 256 lines of at most 30 bytes. */
+enum { SPDZ_MOST_NUMBERS = 1024, SPDZ_MOST_BYTES = 7680 };
 
 #endif

@@ -69,3 +69,19 @@ pub fn joint(result: Result<JointResult, Refusal>) -> Answer {
         },
     }
 }
+
+/// The kinds of the answers of reader and writer.
+const READ: u64 = 4;
+const WRITTEN: u64 = 5;
+
+fn counted(kind: u64, result: Result<usize, Refusal>) -> Answer {
+    result.map_or_else(refusal, |count| [kind, count as u64, 0, 0, 0, 0])
+}
+
+pub fn read(result: Result<usize, Refusal>) -> Answer {
+    counted(READ, result)
+}
+
+pub fn written(result: Result<usize, Refusal>) -> Answer {
+    counted(WRITTEN, result)
+}

@@ -149,3 +149,67 @@ pub fn last_rounds(run: &Run, party: u32) -> Vec<Halves> {
     }
     last
 }
+
+/// A sheet with the circuit that it is read as.
+pub struct Sheet {
+    pub name: &'static str,
+    pub parties: u32,
+    pub text: Vec<u8>,
+    pub circuit: Vec<u32>,
+}
+
+impl Sheet {
+    fn new(name: &'static str, parties: u32, text: Vec<u8>) -> Sheet {
+        let mut circuit = vec![0; 4 * circuit::MAX_GATES];
+        let gates = reference::read_sheet(parties, &text, &mut circuit).expect("an accepted sheet");
+        circuit.truncate(4 * gates);
+        Sheet {
+            name,
+            parties,
+            text,
+            circuit,
+        }
+    }
+
+    /// A row for each gate of a circuit, as the writer makes it.
+    pub fn plain(parties: u32, gates: usize) -> Sheet {
+        let run = Run::new(parties, gates);
+        let mut text = vec![0; LONGEST_ROW * gates];
+        let len = reference::write_sheet(parties, &run.circuit, &mut text).expect("accepted");
+        text.truncate(len);
+        Sheet::new("a gate a line", parties, text)
+    }
+
+    /// Rows of eleven gates, nested to depth 4, and an output of the first and the last.
+    pub fn nested(parties: u32, gates: usize) -> Sheet {
+        const ROW: &str = "(add (mul (plus (in 0) 1234567) (sub (in 1) (in 0))) (times (mul (in 1) (in 0)) 89))\n";
+        const GATES: usize = 11;
+        let rows = (gates - 2) / GATES;
+        let mut text = ROW.repeat(rows);
+        for _ in rows * GATES + 2..gates {
+            text.push_str("(in 1)\n");
+        }
+        text.push_str(&format!("(out (add (line 0) (line {})))\n", rows - 1));
+        Sheet::new("nested to depth 4", parties, text.into_bytes())
+    }
+
+    /// Rows nested as deep as may be.
+    pub fn deep(parties: u32, gates: usize) -> Sheet {
+        const DEPTH: usize = reference::sheet::MAX_DEPTH;
+        let row = "(plus ".repeat(DEPTH - 1) + "(in 0)" + &" 7)".repeat(DEPTH - 1) + "\n";
+        let rows = (gates - 1) / DEPTH;
+        let mut text = row.repeat(rows);
+        for _ in rows * DEPTH + 1..gates {
+            text.push_str("(in 1)\n");
+        }
+        text.push_str(&format!("(out (line {}))\n", rows - 1));
+        Sheet::new("nested to depth 16", parties, text.into_bytes())
+    }
+
+    pub fn gates(&self) -> usize {
+        self.circuit.len() / 4
+    }
+}
+
+/// Bytes of the longest row that the writer makes.
+pub const LONGEST_ROW: usize = 30;

@@ -14,9 +14,9 @@ use std::path::PathBuf;
 use reference::random::Random;
 use reference::{field, Round, P};
 
-use cases::{Halves, Lists, Run};
+use cases::{Halves, Lists, Run, Sheet, LONGEST_ROW};
 use measure::{compare, Pair};
-use report::{Facts, JointRow, Report, SingleRow};
+use report::{Facts, JointRow, Report, SheetRow, SingleRow};
 
 const PARTIES: [u32; 3] = [2, 5, 8];
 const GATES: [usize; 4] = [64, 128, 192, 256];
@@ -31,6 +31,8 @@ const SINGLE_ROUNDS: [Round; 5] = [
     Round::OpenOutput,
 ];
 const PRODUCTS: usize = 4096;
+const SHEET_PARTIES: u32 = 5;
+const SHEET_GATES: usize = 256;
 
 fn proved_joint(run: &Run, lists: &mut Lists) -> answers::Answer {
     proved::joint_run(
@@ -185,7 +187,59 @@ fn product<'a>() -> Pair<'a> {
     }
 }
 
+/// A sheet that is read, on which both must agree, and on every text that begins as it does.
+fn reading(sheet: &Sheet) -> Pair<'_> {
+    let (mut left, mut right) = (vec![0; sheet.circuit.len()], vec![0; sheet.circuit.len()]);
+    for len in 0..=sheet.text.len() {
+        let text = &sheet.text[..len];
+        let answer = proved::read_sheet(sheet.parties, text, &mut left);
+        let rust = answers::read(reference::read_sheet(sheet.parties, text, &mut right));
+        assert_eq!(answer, rust, "reading");
+        assert_eq!(left, right, "the circuit read");
+    }
+    assert_eq!(left, sheet.circuit, "the whole sheet is read");
+    Pair {
+        proved: Box::new(move || {
+            black_box(proved::read_sheet(
+                sheet.parties,
+                black_box(&sheet.text),
+                &mut left,
+            ));
+        }),
+        rust: Box::new(move || {
+            let read = reference::read_sheet(sheet.parties, black_box(&sheet.text), &mut right);
+            black_box(answers::read(read));
+        }),
+    }
+}
+
+/// The circuit of a sheet that is written as one.
+fn writing(sheet: &Sheet) -> Pair<'_> {
+    let room = LONGEST_ROW * sheet.gates();
+    let (mut left, mut right) = (vec![0; room], vec![0; room]);
+    let answer = proved::write_sheet(sheet.parties, &sheet.circuit, &mut left);
+    let rust = reference::write_sheet(sheet.parties, &sheet.circuit, &mut right);
+    assert_eq!(answer, answers::written(rust), "writing");
+    assert_eq!(left, right, "the sheet written");
+    Pair {
+        proved: Box::new(move || {
+            black_box(proved::write_sheet(
+                sheet.parties,
+                black_box(&sheet.circuit),
+                &mut left,
+            ));
+        }),
+        rust: Box::new(move || {
+            let written =
+                reference::write_sheet(sheet.parties, black_box(&sheet.circuit), &mut right);
+            black_box(answers::written(written));
+        }),
+    }
+}
+
 fn measured(repetitions: usize) -> Report {
+    let sheets =
+        [Sheet::plain, Sheet::nested, Sheet::deep].map(|make| make(SHEET_PARTIES, SHEET_GATES));
     let runs: Vec<Run> = PARTIES
         .into_iter()
         .flat_map(|parties| GATES.map(|gates| Run::new(parties, gates)))
@@ -208,6 +262,10 @@ fn measured(repetitions: usize) -> Report {
         pairs.push(send(run, halves));
         pairs.push(receive(run, halves));
     }
+    for sheet in &sheets {
+        pairs.push(reading(sheet));
+        pairs.push(writing(sheet));
+    }
     pairs.push(product());
     let mut times = compare(repetitions, &mut pairs).into_iter();
     let mut next = || times.next().expect("one time for each pair");
@@ -219,6 +277,16 @@ fn measured(repetitions: usize) -> Report {
                 gates: run.shape.gates,
                 send: next(),
                 receive: next(),
+            })
+            .collect(),
+        sheets: sheets
+            .iter()
+            .map(|sheet| SheetRow {
+                name: sheet.name,
+                gates: sheet.gates(),
+                bytes: sheet.text.len(),
+                read: next(),
+                write: next(),
             })
             .collect(),
         product: next().per(PRODUCTS as f64),

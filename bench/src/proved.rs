@@ -84,6 +84,26 @@ extern "C" {
         answer_len: usize,
     ) -> Refusal;
 
+    fn spdz_read_sheet(
+        parties: usize,
+        text: *const u8,
+        text_len: usize,
+        circuit: *mut u32,
+        circuit_len: usize,
+        answer: *mut u64,
+        answer_len: usize,
+    ) -> Refusal;
+
+    fn spdz_write_sheet(
+        parties: usize,
+        circuit: *const u32,
+        circuit_len: usize,
+        text: *mut u8,
+        text_len: usize,
+        answer: *mut u64,
+        answer_len: usize,
+    ) -> Refusal;
+
     fn spdz_scale(values: *mut u32, values_len: usize, by: u32) -> u32;
 }
 
@@ -180,6 +200,38 @@ pub fn joint_run(
             transcript.len(),
             outputs.as_mut_ptr(),
             outputs.len(),
+            answer.as_mut_ptr(),
+            answer.len(),
+        )
+    };
+    told(refusal, answer)
+}
+
+pub fn read_sheet(parties: u32, text: &[u8], circuit: &mut [u32]) -> Answer {
+    let mut answer = [0; PLACES];
+    let refusal = unsafe {
+        spdz_read_sheet(
+            parties as usize,
+            text.as_ptr(),
+            text.len(),
+            circuit.as_mut_ptr(),
+            circuit.len(),
+            answer.as_mut_ptr(),
+            answer.len(),
+        )
+    };
+    told(refusal, answer)
+}
+
+pub fn write_sheet(parties: u32, circuit: &[u32], text: &mut [u8]) -> Answer {
+    let mut answer = [0; PLACES];
+    let refusal = unsafe {
+        spdz_write_sheet(
+            parties as usize,
+            circuit.as_ptr(),
+            circuit.len(),
+            text.as_mut_ptr(),
+            text.len(),
             answer.as_mut_ptr(),
             answer.len(),
         )

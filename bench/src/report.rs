@@ -49,9 +49,19 @@ pub struct SingleRow {
     pub receive: Times,
 }
 
+pub struct SheetRow {
+    pub name: &'static str,
+    pub gates: usize,
+    /// Bytes of the sheet that is read.
+    pub bytes: usize,
+    pub read: Times,
+    pub write: Times,
+}
+
 pub struct Report {
     pub joint: Vec<JointRow>,
     pub single: Vec<SingleRow>,
+    pub sheets: Vec<SheetRow>,
     pub product: Times,
 }
 
@@ -117,6 +127,26 @@ impl Report {
                 cells(row.receive, MICRO, 3)
             );
         }
+        let _ = writeln!(
+            out,
+            "\n### A sheet read, and its circuit written, with all questions\n"
+        );
+        let _ = writeln!(out, "| sheet | gates | bytes | read proved µs | Rust µs | ratio | read proved ns a byte | Rust ns | write proved µs | Rust µs | ratio |");
+        let _ = writeln!(out, "|---|---|---|---|---|---|---|---|---|---|---|");
+        for row in &self.sheets {
+            let byte = row.read.per(row.bytes as f64);
+            let _ = writeln!(
+                out,
+                "| {} | {} | {} | {} | {:.2} | {:.2} | {} |",
+                row.name,
+                row.gates,
+                row.bytes,
+                cells(row.read, MICRO, 2),
+                byte.proved,
+                byte.rust,
+                cells(row.write, MICRO, 2)
+            );
+        }
         let _ = writeln!(out, "\n### Field product\n");
         let _ = writeln!(out, "| proved ns | Rust ns | ratio |\n|---|---|---|");
         let _ = writeln!(out, "| {} |", cells(self.product, 1.0, 3));
@@ -159,6 +189,7 @@ impl Report {
              Both sides get the same requests and their own lists of equal length, cleared alike; before a case is timed, both must give equal answers and leave equal\n\
              lists. Batches of at least half a millisecond are timed in turns, all cases one after another and {} times over, and the medians are told. Five of eight gates of each circuit multiply; the\n\
              others are linear, in and out gates, with an out gate every 32 gates. Single halves are those of the last round of each sort, at party 1 of 5.\n\
+             Sheets are for 5 parties; each is read, and the circuit that it is read as is written, a gate a line.\n\
              A field product is one of {} that multiply a list in place, once all its numbers are asked.\n\n\
              ## Results\n\n{}\n![Joint run: time over gates times parties](benchmarks.svg)\n",
             facts.date,

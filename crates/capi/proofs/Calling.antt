@@ -40,12 +40,12 @@ then-accepted Accepted = refl
 then-accepted (Refused number index) = refl
 
 -- what a refusal leaves
-kept : (v : Verdict) (number index : ℕ) (later before : List ℕ) → leave (v then Refused number index) later before ≡ before
+pub kept : (v : Verdict) (number index : ℕ) (later before : List ℕ) → leave (v then Refused number index) later before ≡ before
 unfolding _then_ leave
 kept Accepted number index later before = refl
 kept (Refused m i) number index later before = refl
 
-leave-again : (v : Verdict) (later before : List ℕ) → leave v (leave v later before) before ≡ leave v later before
+pub leave-again : (v : Verdict) (later before : List ℕ) → leave v (leave v later before) before ≡ leave v later before
 unfolding leave
 leave-again Accepted later before = refl
 leave-again (Refused number index) later before = refl
@@ -53,7 +53,7 @@ leave-again (Refused number index) later before = refl
 module _ (v : Verdict) (answer : List ℕ) where
   -- the list for the answer is too short
   module _ (short : length answer < places) where
-    no-room : called v answer ≡ (v then Refused roomQuestion 0)
+    pub no-room : called v answer ≡ (v then Refused roomQuestion 0)
     unfolding called
     no-room = rw (ask-no roomQuestion 0 (lt-leb places (length answer) short))
 
@@ -193,19 +193,19 @@ an-output n c e =
     let last : suc (gates c - 1) ≡ gates c = omega (arith, ok .two) in
     subst (λ (j : ℕ). 0 < count isOut c j) last (some-output c (gates c - 1) (ok .last))
 
-then-assoc : (a b c : Verdict) → ((a then b) then c) ≡ (a then (b then c))
+pub then-assoc : (a b c : Verdict) → ((a then b) then c) ≡ (a then (b then c))
 unfolding _then_
 then-assoc Accepted b c = refl
 then-assoc (Refused number index) b c = refl
 
 -- what follows two groups of questions matters only where the second accepts
-then-where : (a b : Verdict) {x y : Verdict} → (b ≡ Accepted → x ≡ y) → (a then (b then x)) ≡ (a then (b then y))
+pub then-where : (a b : Verdict) {x y : Verdict} → (b ≡ Accepted → x ≡ y) → (a then (b then x)) ≡ (a then (b then y))
 unfolding _then_
 then-where Accepted Accepted f = f refl
 then-where Accepted (Refused number index) f = refl
 then-where (Refused number index) b f = refl
 
-then-refuses : (number index : ℕ) (t : Bool) → (ask number index t then Refused number index) ≡ Refused number index
+pub then-refuses : (number index : ℕ) (t : Bool) → (ask number index t then Refused number index) ≡ Refused number index
 unfolding ask _then_
 then-refuses number index true = refl
 then-refuses number index false = refl

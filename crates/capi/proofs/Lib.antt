@@ -2,3 +2,4 @@
 pub mod Writing
 pub mod Calling
 pub mod Stages
+pub mod SheetCalls

@@ -2,3 +2,4 @@
 pub mod Stages
 pub mod Numbers
 pub mod Calls
+pub mod Sheets

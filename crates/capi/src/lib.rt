@@ -1,4 +1,6 @@
 // The entries for callers in C: numbers and lists of numbers only. A call returns its refusal; an accepted one writes its answer into a lent list.
+pub mod sheets;
+
 use circuit::Check;
 use circuit::Round;
 use circuit::Verdict;
@@ -35,7 +37,7 @@ pub struct Refusal {
 }
 
 // How many numbers an answer takes.
-const PLACES: usize = 6;
+pub const PLACES: usize = 6;
 
 // The question that is asked last, of the list for the answer.
 const ROOM_QUESTION: u32 = 18;
@@ -196,7 +198,7 @@ fn stage_round(s: Stage) -> u32
     }
 }
 
-fn put(answer: &mut [u64], kind: u64, value: u64, gate: u64, half: u64, round: u64, held: u64)
+pub fn put(answer: &mut [u64], kind: u64, value: u64, gate: u64, half: u64, round: u64, held: u64)
     requires { ⌜ places ≤ length (now answer) ⌝ }
     ensures { λ r. ⌜ now (answer .exit) ≡ overwrite (kind ∷ value ∷ gate ∷ half ∷ round ∷ held ∷ []) (now (answer .entry)) ⌝ }
 {
@@ -297,7 +299,7 @@ fn asked_verdict(a: Asked) -> Verdict
 }
 
 // What a call returns whose answer has room.
-fn returned_of(v: Verdict) -> Refusal
+pub fn returned_of(v: Verdict) -> Refusal
     ensures { λ r. ⌜ r ≡ returned (verdictOf v) ⌝ }
 {
     match v {
