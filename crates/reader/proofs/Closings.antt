@@ -4,7 +4,7 @@
 use Prim.Native.Nat.{ℕ, _+_, _*_, _/_, _≤_, _<_}
 use mathlib.Core.Path.{_≡_, refl, sym, ap, _∙_}
 use mathlib.Core.Bool.{Bool, true, false, false≢true}
-use mathlib.Core.List.{List, [], _∷_, _++_, append-assoc, append-nil}
+use mathlib.Core.List.{List, [], _++_, append-assoc, append-nil}
 use mathlib.Core.Option.{some}
 use native.Mathlib.Omega.{arith}
 use lib.ListN.{length, getD, take, drop}
@@ -25,7 +25,8 @@ use Rattle.tokens.proofs.Numerals.{fits-at}
 use Rattle.tokens.proofs.Onward.{at-inside, expected, calm}
 use Rattle.reader.specs.declared.Outcome.{Outcome}
 use Rattle.reader.specs.declared.Outcome.the-variants as O
-use Rattle.reader.specs.Code.{Ready, Place, worded, Made, Stopped, Told, Closes}
+use Rattle.reader.specs.Code.{Ready, Place, worded, gate, Made, Stopped, Told, Closes}
+use Rattle.reader.proofs.Pushing.{line-as}
 use Rattle.reader.proofs.Places.{calm-number, made-closed, made-open, too-many, worded-leaf}
 
 -- a name makes no gate and any other leaf one ---------------------------------------------------------------------------
@@ -72,10 +73,11 @@ module _ (text table before : List ℕ) (from left count : ℕ) where
       → ((rows : List Form) (stack : List Frame) → Ready table left count rows stack
       → step largest (S rows stack) closing ≡ some (at rows stack (made f)))
       → isAt text to closing ≡ true → head f ≡ h → count ≤ n → count + gatesIn f ≡ n + 1 → wireOf (gatesAt table) count f ≡ n
-      → take (gateSize * n) mid ≡ take (gateSize * count) before ++ inner → flat (gatesAt table) count f ≡ inner ++ line h x y v
-      → Closes h x y v mid later to n o → Told P text table before later from left count o
+      → length mid ≡ length before → take (gateSize * n) mid ≡ take (gateSize * count) before ++ inner
+      → flat (gatesAt table) count f ≡ inner ++ line h x y v
+      → Closes h (line h x y v) mid later to n o → Told P text table before later from left count o
   unfolding Told Closes
-  closes P S f h n to x y v inner mid later (O.Done to′ total wire mark) c s b q k e w t g p = record {
+  closes P S f h n to x y v inner mid later (O.Done to′ total wire mark) c s b q k e w z t g p = record {
     form = f;
     reads = λ rows stack r. rw (p .to-is)
         (c rows stack r ∙ expected largest text to closing (S rows stack) (at rows stack (made f)) b (s rows stack r)
@@ -88,9 +90,10 @@ module _ (text table before : List ℕ) (from left count : ℕ) where
     written = p .written
         ∙ (ap (λ (z : List ℕ). z ++ line h x y v) t
         ∙ (append-assoc (take (gateSize * count) before) inner (line h x y v) ∙ ap (λ (z : List ℕ). take (gateSize * count) before ++ z) (sym g)));
+    sized = p .sized ∙ z;
     own = λ d. (omega (arith, p .total-is), omega (arith, p .total-is, p .wire-is));
   }
-  closes P S f h n to x y v inner mid later (O.Refused reason index) c s b q k e w t g p = record {
+  closes P S f h n to x y v inner mid later (O.Refused reason index) c s b q k e w z t g p = record {
     stops = λ rows stack r. rw (p .number-is, p .index-is)
         (c rows stack r
         ∙ too-many text to (S rows stack) (at rows stack (made f)) b (s rows stack r) (made-open r f)
@@ -142,13 +145,15 @@ module _ (text table before : List ℕ) (from left count : ℕ) where
             written = sym
                 (ap (λ (x : List ℕ). take (gateSize * count) before ++ x) (name-flat (gatesAt table) count h v z)
                 ∙ append-nil (take (gateSize * count) before));
+            sized = refl;
             own = λ e. absurd (name-inside h left i z e);
           }
 
-      pub leaf-closes : (later : List ℕ) (o : Outcome) → naming ≡ false → Closes h 0 0 v before later to count o
+      pub leaf-closes : (later : List ℕ) (o : Outcome) → naming ≡ false → Closes h (gate h v 0 0) before later to count o
           → Told (worded h) text table before later from left count o
       leaf-closes later o t c =
           let z : names h ≡ false = sym q ∙ t in
           closes (worded h) (λ rows stack. at rows stack (digit (plain h) v)) (leaf h v) h count to 0 0 v [] before later o
           leaf-comes leaf-step (d .closes) (unfold head in refl) (omega arith) (omega (arith, own-gates (gatesAt table) count h v z))
-          (own-wire (gatesAt table) count h v z) (sym (append-nil (take (gateSize * count) before))) (own-flat (gatesAt table) count h v z) c
+          (own-wire (gatesAt table) count h v z) refl (sym (append-nil (take (gateSize * count) before))) (own-flat (gatesAt table) count h v z)
+          (rw (line-as h 0 0 v Leaf s z) c)

@@ -1,8 +1,8 @@
 -- How the rows of a text grow, one after another: what is read so far, the table of rows, and the gates written.
 -- Assumes nothing.
-use Prim.Native.Nat.{ℕ, suc, _+_, _-_, _*_, _/_, _%_, _≤_, _<_}
+use Prim.Native.Nat.{ℕ, suc, _+_, _-_, _*_, _/_, _%_, _^_, _≤_, _<_}
 use mathlib.Core.Path.{_≡_, refl, sym, ap, _∙_}
-use mathlib.Core.Bool.{Bool, true, false, _||_}
+use mathlib.Core.Bool.{Bool, true, false}
 use mathlib.Core.List.{List, [], _∷_, _++_}
 use mathlib.Core.Option.{none}
 use native.Mathlib.Omega.{arith}
@@ -17,7 +17,23 @@ use Rattle.forms.specs.Words.{valued}
 use Rattle.forms.specs.Form.{Form, head, marks, gatesInAll, wireOf, flat, circuitFrom, circuitOf, feed}
 use Rattle.forms.specs.Refusals.{deepest}
 use Rattle.forms.specs.Machine.{
-  Frame, at, start, made, isNil, when, handed, ended, anyNamed, openIn, openHere, closedIn, closedHere, closedFrames, step, read, reading, No,
+  Frame,
+  at,
+  start,
+  made,
+  isNil,
+  when,
+  handed,
+  ended,
+  openIn,
+  openHere,
+  closedIn,
+  closedHere,
+  closedFrames,
+  step,
+  read,
+  reading,
+  No,
 }
 use Rattle.forms.proofs.Counting.{gates-snoc}
 use Rattle.forms.proofs.Rows.{marks-more, valuesFrom, values-more, circuit-more}
@@ -25,13 +41,6 @@ use Rattle.tokens.specs.Code.{isAt, known, gatesAt}
 use Rattle.tokens.proofs.Onward.{at-inside, expected, unexpected, calm}
 use Rattle.tokens.proofs.Tables.{known-append, gates-append}
 use Rattle.reader.specs.Code.{Ready, fresh, Made, Stopped, RowMade, RowsRead, Given}
-
-any-append : (ms : List Bool) (m : Bool) → anyNamed (ms ++ (m ∷ [])) ≡ (anyNamed ms || m)
-unfolding anyNamed
-any-append [] true = refl
-any-append [] false = refl
-any-append (true ∷ ms) m = refl
-any-append (false ∷ ms) m = any-append ms m
 
 -- what the table says of a row
 pub entry-valued : (w : ℕ) {b : Bool} → b ≡ true → ((2 * w + 1) / 2 ≡ w) × (eqb ((2 * w + 1) % 2) 1 ≡ b)
@@ -63,12 +72,11 @@ abbrev pub lent : List ℕ → ℕ → List ℕ
 lent table k = take (k - 0) (drop 0 table)
 
 -- after k rows: text, table and gates are read so far
-pub record Grown (text table lines : List ℕ) (any : Bool) (k from count : ℕ) : Type 0 where
+pub record Grown (text table lines : List ℕ) (k from count : ℕ) : Type 0 where
   pub rows : List Form
   pub reads : reading largest text ≡ read largest (at rows [] start) (drop from text) from
   pub marked : marks rows ≡ known (lent table k)
   pub valued : gatesAt (lent table k) ≡ valuesFrom [] 0 rows
-  pub any-is : any ≡ anyNamed (known (lent table k))
   pub counted : gatesInAll rows ≡ count
   pub written : take (gateSize * count) lines ≡ circuitOf rows
   pub inside : from ≤ length text
@@ -76,14 +84,13 @@ pub record Grown (text table lines : List ℕ) (any : Bool) (k from count : ℕ)
   pub rows-few : k ≤ count
   pub sized : length table ≡ mostGates
 
-pub grown-none : (text table lines : List ℕ) → length table ≡ mostGates → Grown text table lines false 0 0 0
-unfolding reading marks known gatesAt valuesFrom anyNamed gatesInAll circuitOf circuitFrom
+pub grown-none : (text table lines : List ℕ) → length table ≡ mostGates → Grown text table lines 0 0 0
+unfolding reading marks known gatesAt valuesFrom gatesInAll circuitOf circuitFrom
 grown-none text table lines e = record {
   rows = [];
   reads = refl;
   marked = refl;
   valued = refl;
-  any-is = refl;
   counted = refl;
   written = refl;
   inside = omega arith;
@@ -92,7 +99,7 @@ grown-none text table lines e = record {
   sized = e;
 }
 
-module _ {text table lines : List ℕ} {any : Bool} {k from count : ℕ} (g : Grown text table lines any k from count) where
+module _ {text table lines : List ℕ} {k from count : ℕ} (g : Grown text table lines k from count) where
   pub grown-ready : Ready (lent table k) deepest count (g .rows) []
   grown-ready = record {
     marked = g .marked;
@@ -100,9 +107,9 @@ module _ {text table lines : List ℕ} {any : Bool} {k from count : ℕ} (g : Gr
     counted = unfold closedIn closedFrames closedHere in omega (arith, g .counted);
   }
 
-  pub grown-given : gateSize * mostGates ≤ length lines → Given text (lent table k) lines any from count
-  grown-given l = record {
-    any-is = g .any-is;
+  pub grown-given : length text < 2 ^ 64 → gateSize * mostGates ≤ length lines → Given text (lent table k) lines from count
+  grown-given s l = record {
+    short = s;
     rows-fit = simp length-take (omega (arith, g .rows-few, g .few, g .sized));
     within = g .inside;
     few = g .few;
@@ -113,12 +120,13 @@ module _ {text table lines : List ℕ} {any : Bool} {k from count : ℕ} (g : Gr
   grown-stops d = g .reads ∙ d .stops (g .rows) [] grown-ready
 
   -- the text is at its end, between two rows
-  pub grown-all : length text ≤ from → RowsRead text lines count
-  grown-all h = record {
+  pub grown-all : gateSize * mostGates ≤ length lines → length text ≤ from → RowsRead text lines count
+  grown-all l h = record {
     rows = g .rows;
     reads = g .reads ∙ unfold read ended isNil in rw (drop-of-length-le text h);
     few = g .few;
     written = g .written;
+    long = l;
   }
 
   module _ {later : List ℕ} {to total wire : ℕ} {mark : Bool} (a : RowMade text (lent table k) lines later from count to total wire mark) where
@@ -133,20 +141,19 @@ module _ {text table lines : List ℕ} {any : Bool} {k from count : ℕ} (g : Gr
     grown-less = a .read .own refl .0
 
     -- its entry
-    pub grown-more : (w : ℕ) → w / 2 ≡ wire → eqb (w % 2) 1 ≡ mark → {any′ : Bool} → any′ ≡ (any || mark)
-        → Grown text (set table k w) later any′ (k + 1) to total
+    pub grown-more : (w : ℕ) → w / 2 ≡ wire → eqb (w % 2) 1 ≡ mark → Grown text (set table k w) later (k + 1) to total
     unfolding circuitOf
-    grown-more w ew em ea =
+    grown-more w ew em =
         let f : Form = a .read .form in
         let place : count ≡ 0 + gatesInAll (g .rows) = omega (arith, g .counted) in
         let more : k + 1 - 0 ≡ suc k = omega arith in
         let none : k - 0 ≡ k = omega arith in
         let table-is : lent (set table k w) (k + 1) ≡ lent table k ++ (w ∷ []) =
-            rw (more, none) (take-suc-set table k w (omega (arith, grown-room, g .sized))) in
+        rw (more, none) (take-suc-set table k w (omega (arith, grown-room, g .sized))) in
         let known-is : known (lent (set table k w) (k + 1)) ≡ known (lent table k) ++ (mark ∷ []) =
-            ap known table-is ∙ (known-append (lent table k) (w ∷ []) ∙ unfold known in rw em) in
+        ap known table-is ∙ (known-append (lent table k) (w ∷ []) ∙ unfold known in rw em) in
         let gates-is : gatesAt (lent (set table k w) (k + 1)) ≡ gatesAt (lent table k) ++ (wire ∷ []) =
-            ap gatesAt table-is ∙ (gates-append (lent table k) (w ∷ []) ∙ unfold gatesAt in rw ew) in
+        ap gatesAt table-is ∙ (gates-append (lent table k) (w ∷ []) ∙ unfold gatesAt in rw ew) in
         record {
           rows = g .rows ++ (f ∷ []);
           reads = rw (a .to-is)
@@ -164,8 +171,6 @@ module _ {text table lines : List ℕ} {any : Bool} {k from count : ℕ} (g : Gr
               ∙ (ap (λ (vs : List ℕ). vs ++ (wireOf vs count f ∷ [])) (g .valued)
               ∙ (ap (λ (n : ℕ). valuesFrom [] 0 (g .rows) ++ (wireOf (valuesFrom [] 0 (g .rows)) n f ∷ [])) place
               ∙ sym (values-more [] 0 (g .rows) f))));
-          any-is = ea
-              ∙ (ap (λ (b : Bool). b || mark) (g .any-is) ∙ (sym (any-append (known (lent table k)) mark) ∙ ap anyNamed (sym known-is)));
           counted = gates-snoc (g .rows) f ∙ omega (arith, g .counted, a .read .counted);
           written = a .read .written
               ∙ (ap (λ (ls : List ℕ). ls ++ flat (gatesAt (lent table k)) count f) (g .written)

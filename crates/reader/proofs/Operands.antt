@@ -8,8 +8,8 @@ use mathlib.Core.List.{List, [], _∷_, _++_, append-assoc}
 use mathlib.Core.Option.{some}
 use native.Mathlib.Omega.{arith}
 use lib.ListN.{length, getD, take, drop}
-use lib.Dec.{eqb}
-use borrow.Author.Tests.{ne-eqb}
+use lib.Dec.{eqb, ltb}
+use borrow.Author.Tests.{ne-eqb, ltb-true, ltb-false}
 use Rattle.circuit.specs.Gate.{gateSize, decode}
 use Rattle.circuit.specs.Kind.{kindShape, isClass}
 use Rattle.circuit.specs.Accept.{mostGates}
@@ -22,8 +22,27 @@ use Rattle.forms.specs.Words.{letters, sort, valued, inner, stands, line}
 use Rattle.forms.specs.Form.{Form, one, two, scaled, head, gatesIn, wireOf, flat, opening, closing, space}
 use Rattle.forms.specs.Refusals.{deepest}
 use Rattle.forms.specs.Machine.{
-  Frame, first, second, after, whose, closed, at, start, spelling, number, digit, made, starts, anyNamed, may, when, operand, handed, ended,
-  closedNumbered, step,
+  Frame,
+  first,
+  second,
+  after,
+  whose,
+  closed,
+  at,
+  start,
+  spelling,
+  number,
+  digit,
+  made,
+  starts,
+  anyNamed,
+  may,
+  when,
+  operand,
+  handed,
+  ended,
+  closedNumbered,
+  step,
 }
 use Rattle.forms.proofs.Table.{holds, holder-names-none}
 use Rattle.tokens.specs.Code.{isAt, Calm, known, gatesAt, Wanted, NumberIs, NumberDies, WordWanted, WordIs, WordDies}
@@ -32,9 +51,19 @@ use Rattle.tokens.proofs.Lettering.{standing-word}
 use Rattle.tokens.proofs.Onward.{dies, ends, expected, unexpected, is-at}
 use Rattle.reader.specs.declared.Outcome.{Outcome}
 use Rattle.reader.specs.declared.Outcome.the-variants as O
-use Rattle.reader.specs.Code.{Ready, Place, fresh, worded, Made, Stopped, Told, Closes}
+use Rattle.reader.specs.Code.{Ready, Place, fresh, worded, gate, Made, Stopped, Told, Closes}
+use Rattle.reader.proofs.Pushing.{line-as}
 use Rattle.reader.proofs.Places.{
-  calm-word, calm-number, calm-start, ready-first, ready-second, place-is, too-deep, wants, worded-first, wanted-none,
+  calm-word,
+  calm-number,
+  calm-start,
+  ready-first,
+  ready-second,
+  place-is,
+  too-deep,
+  wants,
+  worded-first,
+  wanted-none,
 }
 use Rattle.reader.proofs.Closings.{Comes, closes}
 
@@ -88,14 +117,14 @@ module _ (text table before : List ℕ) (from left count : ℕ) where
 
   module _ (h : Head) (l : 1 ≤ left) {mid : List ℕ} {to n x : ℕ} {m : Bool}
       (a : Made fresh text table before mid from (left - 1) count to n x m) where
-    pub one-closes : sort h ≡ One → (later : List ℕ) (o : Outcome) → isAt text to closing ≡ true → Closes h x 0 0 mid later to n o
+    pub one-closes : sort h ≡ One → (later : List ℕ) (o : Outcome) → isAt text to closing ≡ true → Closes h (gate h x 0 0) mid later to n o
         → Told (worded h) text table before later from left count o
     one-closes s later o b c =
         closes text table before from left count (worded h) (λ rows stack. at rows (first h ∷ stack) (made (a .form))) (one h (a .form)) h n to x 0 0
         (flat (gatesAt table) count (a .form)) mid later o
         (first-comes h One s refl l a) (λ rows stack r. unfold step handed operand when in rw s) b
         (unfold head in refl) (omega (arith, a .counted)) (unfold gatesIn in omega (arith, a .counted)) (unfold wireOf in sym (a .counted))
-        (a .written) (unfold flat in rw (a .carried)) c
+        (a .sized) (a .written) (unfold flat in rw (a .carried)) (rw (line-as h x 0 0 One s (holder-names-none h (rw s))) c)
 
     module _ (s : sort h ≡ Two) (b : isAt text to space ≡ true) where
       two-ready : (rows : List Form) (stack : List Frame) → Ready table left count rows stack
@@ -122,7 +151,7 @@ module _ (text table before : List ℕ) (from left count : ℕ) where
               (λ z q. unfold step handed when in rw (ne-eqb z closing q)) (unfold ended in refl);
         }
 
-        pub two-closes : (later : List ℕ) (o : Outcome) → isAt text to₂ closing ≡ true → Closes h x y 0 mid₂ later to₂ n₂ o
+        pub two-closes : (later : List ℕ) (o : Outcome) → isAt text to₂ closing ≡ true → Closes h (gate h x y 0) mid₂ later to₂ n₂ o
             → Told (worded h) text table before later from left count o
         two-closes later o d p =
             closes text table before from left count (worded h) (λ rows stack. at rows (second h (a .form) ∷ stack) (made (c .form)))
@@ -130,13 +159,14 @@ module _ (text table before : List ℕ) (from left count : ℕ) where
             (flat (gatesAt table) count (a .form) ++ flat (gatesAt table) (count + gatesIn (a .form)) (c .form)) mid₂ later o
             both-come (λ rows stack r. unfold step handed when in refl) d
             (unfold head in refl) (omega (arith, a .counted, c .counted)) (unfold gatesIn in omega (arith, a .counted, c .counted))
-            (unfold wireOf in sym (c .counted ∙ ap (λ (z : ℕ). z + gatesIn (c .form)) (a .counted)))
+            (unfold wireOf in sym (c .counted ∙ ap (λ (z : ℕ). z + gatesIn (c .form)) (a .counted))) (c .sized ∙ a .sized)
             (c .written
             ∙ (ap (λ (z : List ℕ). z ++ flat (gatesAt table) n (c .form)) (a .written)
             ∙ (append-assoc (take (gateSize * count) before) (flat (gatesAt table) count (a .form)) (flat (gatesAt table) n (c .form))
             ∙ ap (λ (z : ℕ). take (gateSize * count) before ++ (flat (gatesAt table) count (a .form) ++ flat (gatesAt table) z (c .form)))
             (a .counted))))
-            (two-flat h (a .form) (c .form) x y n (a .counted) (a .carried) (c .carried)) p
+            (two-flat h (a .form) (c .form) x y n (a .counted) (a .carried) (c .carried))
+            (rw (line-as h x y 0 Two s (holder-names-none h (rw s))) p)
 
     module _ (s : sort h ≡ Scaled) (b : isAt text to space ≡ true) where
       scaled-wanted : (rows : List Form) (stack : List Frame) → Ready table left count rows stack → Wanted table false rows stack (after h (a .form))
@@ -156,8 +186,8 @@ module _ (text table before : List ℕ) (from left count : ℕ) where
         stops = λ rows stack r. scaled-comes rows stack r ∙ d .dies rows stack (after h (a .form)) (scaled-wanted rows stack r);
       }
 
-      pub scaled-closes : {v to₂ : ℕ} → NumberIs text table false (to + 1) v to₂ → (later : List ℕ) (o : Outcome) → Closes h x 0 v mid later to₂ n o
-          → Told (worded h) text table before later from left count o
+      pub scaled-closes : {v to₂ : ℕ} → NumberIs text table false (to + 1) v to₂ → (later : List ℕ) (o : Outcome)
+          → Closes h (line h x 0 v) mid later to₂ n o → Told (worded h) text table before later from left count o
       scaled-closes {v} {to₂} d later o p =
           closes text table before from left count (worded h) (λ rows stack. at rows stack (digit (after h (a .form)) v))
           (scaled h (a .form) v) h n to₂ x 0 v (flat (gatesAt table) count (a .form)) mid later o
@@ -165,21 +195,20 @@ module _ (text table before : List ℕ) (from left count : ℕ) where
           (λ rows stack r. unfold step when closed in
           rw (fits-at text table false rows stack (after h (a .form)) (scaled-wanted rows stack r) v, d .fitting))
           (d .closes) (unfold head in refl) (omega (arith, a .counted)) (unfold gatesIn in omega (arith, a .counted))
-          (unfold wireOf in sym (a .counted)) (a .written) (unfold flat in rw (a .carried)) p
+          (unfold wireOf in sym (a .counted)) (a .sized) (a .written) (unfold flat in rw (a .carried)) p
 
   -- brackets and words --------------------------------------------------------------------------------------------------
 
-  pub form-shut : from < length text → isAt text from opening ≡ false → Stopped fresh text table from left count 22 from
+  form-shut : from < length text → isAt text from opening ≡ false → Stopped fresh text table from left count 22 from
   form-shut h e = record {
     stops = λ rows stack r. dies largest text from (at rows stack start) h
         (unfold step when in rw (ne-eqb (getD text from 0) opening (λ q. true≢false (sym (is-at text from opening h q) ∙ e))));
   }
 
-  module _ {any o : Bool} (p : any ≡ anyNamed (known table)) (q : o ≡ eqb left deepest) (l : 1 ≤ left) (k : count ≤ mostGates)
-      (b : isAt text from opening ≡ true) where
-    form-wanted : (rows : List Form) (stack : List Frame) → Ready table left count rows stack → WordWanted any o rows stack
+  module _ {o : Bool} (q : o ≡ eqb left deepest) (l : 1 ≤ left) (k : count ≤ mostGates) (b : isAt text from opening ≡ true) where
+    form-wanted : (rows : List Form) (stack : List Frame) → Ready table left count rows stack → WordWanted (anyNamed (known table)) o rows stack
     form-wanted rows stack r = record {
-      any-is = ap anyNamed (r .marked) ∙ sym p;
+      any-is = ap anyNamed (r .marked);
       place = place-is table left count rows stack r ∙ sym q;
       calm = calm-word r l k;
     }
@@ -188,10 +217,10 @@ module _ (text table before : List ℕ) (from left count : ℕ) where
     form-comes rows stack r =
         expected largest text from opening (at rows stack start) (at rows stack (spelling [])) b (unfold step when in refl) (calm-word r l k)
 
-    pub form-dies : {index : ℕ} → WordDies text any o (from + 1) index → Stopped fresh text table from left count 22 index
+    pub form-dies : {index : ℕ} → WordDies text (anyNamed (known table)) o (from + 1) index → Stopped fresh text table from left count 22 index
     form-dies d = record { stops = λ rows stack r. form-comes rows stack r ∙ d .dies rows stack (form-wanted rows stack r) }
 
-    pub form-told : {h : Head} {to : ℕ} → WordIs text any o (from + 1) h to → (later : List ℕ) (r : Outcome)
+    pub form-told : {h : Head} {to : ℕ} → WordIs text (anyNamed (known table)) o (from + 1) h to → (later : List ℕ) (r : Outcome)
         → Told (worded h) text table before later to left count r → Told fresh text table before later from left count r
     unfolding Told
     form-told d later (O.Done to₂ total wire mark) a = record {
@@ -203,6 +232,7 @@ module _ (text table before : List ℕ) (from left count : ℕ) where
       carried = a .carried;
       marked = a .marked;
       written = a .written;
+      sized = a .sized;
       own = a .own;
     }
     form-told d later (O.Refused reason index) a = record {
@@ -211,11 +241,18 @@ module _ (text table before : List ℕ) (from left count : ℕ) where
 
   -- an operand: a text that ends there ends within a row, and a bracket there may be too deep -------------------------------
 
-  pub operand-ends : left < deepest → length text ≤ from → Stopped fresh text table from left count 22 from
-  operand-ends l h = record {
+  operand-ends : (left ≡ deepest → ⊥) → length text ≤ from → Stopped fresh text table from left count 22 from
+  operand-ends n h = record {
     stops = λ rows stack r. ends largest text from (at rows stack start) h
-        (unfold ended in rw (place-is table left count rows stack r, ne-eqb left deepest (omega arith)));
+        (unfold ended in rw (place-is table left count rows stack r, ne-eqb left deepest n));
   }
+
+  pub operand-shut : (left ≡ deepest → from < length text) → isAt text from opening ≡ false → Stopped fresh text table from left count 22 from
+  operand-shut m e = go (ltb from (length text)) refl
+    where
+      go : (b : Bool) → ltb from (length text) ≡ b → Stopped fresh text table from left count 22 from
+      go true t = form-shut (ltb-true from (length text) t) e
+      go false t = let h : length text ≤ from = ltb-false from (length text) t in operand-ends (λ q. omega (arith, m q)) h
 
   pub operand-deep : left ≡ 0 → isAt text from opening ≡ true → Stopped fresh text table from left count 23 from
   operand-deep z b = record { stops = λ rows stack r. too-deep text from rows stack b (omega (arith, r .room)) }

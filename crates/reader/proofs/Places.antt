@@ -2,7 +2,7 @@
 -- Assumes nothing.
 use Prim.Native.Nat.{ℕ, suc, _+_, _-_, _≤_}
 use mathlib.Core.Path.{_≡_, refl, sym}
-use mathlib.Core.Bool.{Bool, true, false≢true}
+use mathlib.Core.Bool.{true, false≢true}
 use mathlib.Core.List.{List, [], _∷_}
 use mathlib.Core.Option.{some, none}
 use native.Mathlib.Omega.{arith}
@@ -18,8 +18,32 @@ use Rattle.forms.specs.Words.{sort}
 use Rattle.forms.specs.Form.{Form, gatesIn, gatesInAll, opening, closing, space}
 use Rattle.forms.specs.Refusals.{deepest}
 use Rattle.forms.specs.Machine.{
-  Frame, first, second, Numbered, plain, State, at, start, spelling, number, made, isNil, when, begun, operand, step, read, No, openIn, openHere,
-  closedIn, closedHere, closedFrames, closedNumbered, tooDeep, tooMany,
+  Frame,
+  first,
+  second,
+  Numbered,
+  plain,
+  State,
+  at,
+  start,
+  spelling,
+  number,
+  made,
+  isNil,
+  when,
+  begun,
+  operand,
+  step,
+  read,
+  No,
+  openIn,
+  openHere,
+  closedIn,
+  closedHere,
+  closedFrames,
+  closedNumbered,
+  tooDeep,
+  tooMany,
 }
 use Rattle.forms.proofs.Table.{holds}
 use Rattle.tokens.specs.Code.{Calm, isAt}
@@ -27,10 +51,10 @@ use Rattle.tokens.proofs.Onward.{calm, at-inside, at-is, deep, many}
 use Rattle.reader.specs.Code.{Ready, worded, Given}
 
 -- a call is given what its caller was, further on
-pub given-next : {text table lines : List ℕ} {any : Bool} {from count : ℕ} → Given text table lines any from count
+pub given-next : {text table lines : List ℕ} {from count : ℕ} → Given text table lines from count
     → {lines′ : List ℕ} {from′ count′ : ℕ} → length lines′ ≡ length lines → from′ ≤ length text → count′ ≤ mostGates
-    → Given text table lines′ any from′ count′
-given-next g e f c = record { any-is = g .any-is; rows-fit = g .rows-fit; within = f; few = c; long = omega (arith, g .long) }
+    → Given text table lines′ from′ count′
+given-next g e f c = record { short = g .short; rows-fit = g .rows-fit; within = f; few = c; long = omega (arith, g .long) }
 
 module _ {table : List ℕ} {left count : ℕ} {rows : List Form} {stack : List Frame} (r : Ready table left count rows stack) where
   -- the gates of a state are those before it and those in its hole

@@ -1,9 +1,9 @@
 -- What the code's readers of forms and of rows promise: reading on, as the readers of words and numbers do, and what is written on the way.
 -- Assumes nothing.
-use Prim.Native.Nat.{ℕ, _+_, _*_, _<_, _≤_}
+use Prim.Native.Nat.{ℕ, _+_, _*_, _^_, _<_, _≤_}
 use mathlib.Core.Path.{_≡_}
 use mathlib.Core.Bool.{Bool, true}
-use mathlib.Core.List.{List, _++_}
+use mathlib.Core.List.{List, [], _∷_, _++_}
 use lib.ListN.{length, take, drop}
 use lib.Dec.{leb}
 use Rattle.circuit.specs.Verdict.{Verdict, ask, _then_}
@@ -13,10 +13,10 @@ use Rattle.protocol.specs.Send.{overwrite}
 use Rattle.protocol.specs.Entry.{leave}
 use Rattle.field.specs.Words.{size, largest}
 use Rattle.forms.specs.declared.Head.{Head}
-use Rattle.forms.specs.Words.{sort, valued, line}
+use Rattle.forms.specs.Words.{sort, kind, valued}
 use Rattle.forms.specs.Form.{Form, head, marks, gatesIn, wireOf, flat, circuitOf, feed}
 use Rattle.forms.specs.Refusals.{deepest}
-use Rattle.forms.specs.Machine.{Frame, State, at, start, made, begun, anyNamed, closedIn, read, reading, Rows, No}
+use Rattle.forms.specs.Machine.{Frame, State, at, start, made, begun, closedIn, read, reading, Rows, No}
 use Rattle.forms.specs.Entry as E
 use Rattle.forms.specs.Code.{answerOf}
 use Rattle.forms.specs.declared.Answer.{Answer}
@@ -49,48 +49,54 @@ worded h rows stack = begun rows stack h (sort h)
 pub record Made (place : Place) (text table before later : List ℕ) (from left count to total wire : ℕ) (mark : Bool) : Type 0 where
   pub form : Form
   pub reads : (rows : List Form) (stack : List Frame) → Ready table left count rows stack →
-    read largest (place rows stack) (drop from text) from ≡ read largest (at rows stack (made form)) (drop to text) to
+      read largest (place rows stack) (drop from text) from ≡ read largest (at rows stack (made form)) (drop to text) to
   pub inside : to ≤ length text
   pub counted : total ≡ count + gatesIn form
   pub few : total ≤ mostGates
   pub carried : wire ≡ wireOf (gatesAt table) count form
   pub marked : mark ≡ valued (head form)
   pub written : take (gateSize * total) later ≡ take (gateSize * count) before ++ flat (gatesAt table) count form
+  pub sized : length later ≡ length before
   pub own : left ≡ deepest → (count < total) × (wire < total)
 
 pub record Stopped (place : Place) (text table : List ℕ) (from left count number index : ℕ) : Type 0 where
   pub stops : (rows : List Form) (stack : List Frame) → Ready table left count rows stack →
-    read largest (place rows stack) (drop from text) from ≡ No number index
+      read largest (place rows stack) (drop from text) from ≡ No number index
 
 unfoldable pub Told : Place → List ℕ → List ℕ → List ℕ → List ℕ → ℕ → ℕ → ℕ → Outcome → Type 0
 Told place text table before later from left count (O.Done to total wire mark) = Made place text table before later from left count to total wire mark
 Told place text table before later from left count (O.Refused number index) = Stopped place text table from left count number index
 
--- what a call is given: the table of the rows before, a place in the text, and room for every gate
-pub record Given (text table lines : List ℕ) (any : Bool) (from count : ℕ) : Type 0 where
-  pub any-is : any ≡ anyNamed (known table)
+-- what a call is given: the table of the rows before, a place in the text, whose length is a number, and room for every gate
+pub record Given (text table lines : List ℕ) (from count : ℕ) : Type 0 where
+  pub short : length text < 2 ^ 64
   pub rows-fit : length table ≤ mostGates
   pub within : from ≤ length text
   pub few : count ≤ mostGates
   pub long : gateSize * mostGates ≤ length lines
 
+-- a word's gate with these numbers
+abbrev pub gate : Head → ℕ → ℕ → ℕ → List ℕ
+gate h first second constant = kind h ∷ first ∷ second ∷ constant ∷ []
+
 -- a bracket that closes a form with a gate: the gate is written, unless there are 256 before it
-pub record Pushed (h : Head) (x y n : ℕ) (before later : List ℕ) (at count to total wire : ℕ) (mark : Bool) : Type 0 where
+pub record Pushed (h : Head) (numbers before later : List ℕ) (at count to total wire : ℕ) (mark : Bool) : Type 0 where
   pub to-is : to ≡ at + 1
   pub total-is : total ≡ count + 1
   pub wire-is : wire ≡ count
   pub mark-is : mark ≡ valued h
   pub room : count < mostGates
-  pub written : take (gateSize * total) later ≡ take (gateSize * count) before ++ line h x y n
+  pub written : take (gateSize * total) later ≡ take (gateSize * count) before ++ numbers
+  pub sized : length later ≡ length before
 
 pub record Full (at count number index : ℕ) : Type 0 where
   pub number-is : number ≡ 24
   pub index-is : index ≡ at
   pub full : count ≡ mostGates
 
-unfoldable pub Closes : Head → ℕ → ℕ → ℕ → List ℕ → List ℕ → ℕ → ℕ → Outcome → Type 0
-Closes h x y n before later at count (O.Done to total wire mark) = Pushed h x y n before later at count to total wire mark
-Closes h x y n before later at count (O.Refused number index) = Full at count number index
+unfoldable pub Closes : Head → List ℕ → List ℕ → List ℕ → ℕ → ℕ → Outcome → Type 0
+Closes h numbers before later at count (O.Done to total wire mark) = Pushed h numbers before later at count to total wire mark
+Closes h numbers before later at count (O.Refused number index) = Full at count number index
 
 -- rows ------------------------------------------------------------------------------------------------------------------
 
@@ -107,6 +113,7 @@ pub record RowsRead (text later : List ℕ) (count : ℕ) : Type 0 where
   pub reads : reading largest text ≡ Rows rows
   pub few : count ≤ mostGates
   pub written : take (gateSize * count) later ≡ circuitOf rows
+  pub long : gateSize * mostGates ≤ length later
 
 unfoldable pub RowsTold : List ℕ → List ℕ → Reading → Type 0
 RowsTold text later (R.Done count) = RowsRead text later count

@@ -1,5 +1,7 @@
-// Reading a form with all that is in it: document 01's cycle of form reader and operand reader, in which the remaining depth falls.
+// Reading a form with all that is in it: document 01's cycle of form reader and operand reader, in which the remaining depth falls. The text and
+// the table of rows are lent by references to their slices, which a call passes on as they are.
 use crate::Outcome;
+use circuit::Role;
 use field::Word;
 use forms::Head;
 use forms::Sort;
@@ -19,25 +21,27 @@ ghost use lib.ListN.{length};
 ghost use Rattle.circuit.specs.Gate.{gateSize};
 ghost use Rattle.circuit.specs.Accept.{mostGates};
 ghost use Rattle.forms.specs.declared.Sort.the-variants.{Leaf, One, Two, Scaled};
-ghost use Rattle.forms.specs.Words.{sort, stands};
+ghost use Rattle.forms.specs.Words.{sort, stands, line};
+ghost use Rattle.forms.specs.Form.{opening};
 ghost use Rattle.forms.specs.Refusals.{deepest};
-ghost use Rattle.reader.specs.Code.{Given, worded, fresh, Told, Closes};
+ghost use Rattle.tokens.specs.Code.{isAt};
+ghost use Rattle.reader.specs.Code.{Given, worded, fresh, gate, Told, Closes};
 
 // "at most 16 deep"
 pub const DEEPEST: usize = 16;
 
 // Closes a form at its bracket: its gate is written, unless there are 256 before it.
 fn close_gate(
-    lines: &mut [Word],
+    lines: &mut [Word; crate::MOST_NUMBERS],
     at: usize,
     h: Head,
-    x: Word,
-    y: Word,
-    n: Word,
+    first: Word,
+    second: Word,
+    constant: Word,
     count: usize,
 ) -> Outcome
     requires { ⌜ (count ≤ mostGates) × (gateSize * mostGates ≤ length (now lines)) × (at + 1 < 2 ^ 64) ⌝ }
-    ensures { λ r. ⌜ Closes h x y n (now (lines .entry)) (now (lines .exit)) at count r ⌝ }
+    ensures { λ r. ⌜ Closes h (gate h first second constant) (now (lines .entry)) (now (lines .exit)) at count r ⌝ }
 {
     if crate::MOST_GATES <= count {
         return Outcome::Refused {
@@ -46,14 +50,11 @@ fn close_gate(
         };
     }
     let row = table::row(h);
-    let first = row.first;
-    let second = row.second;
-    let constant = row.constant;
     let i = reading::GATE_SIZE * count;
     lines[i] = row.kind;
-    lines[i + 1] = table::placed(first, x, n);
-    lines[i + 2] = table::placed(second, y, n);
-    lines[i + 3] = table::placed(constant, 0, n);
+    lines[i + 1] = first;
+    lines[i + 2] = second;
+    lines[i + 3] = constant;
     Outcome::Done {
         to: at + 1,
         count: count + 1,
@@ -62,22 +63,45 @@ fn close_gate(
     }
 }
 
+// The gate of a form with an operand and a number, which is its constant or its second number, as its word has it.
+fn close_scaled(
+    lines: &mut [Word; crate::MOST_NUMBERS],
+    at: usize,
+    h: Head,
+    x: Word,
+    n: Word,
+    count: usize,
+) -> Outcome
+    requires { ⌜ (count ≤ mostGates) × (gateSize * mostGates ≤ length (now lines)) × (at + 1 < 2 ^ 64) × (sort h ≡ Scaled) ⌝ }
+    ensures { λ r. ⌜ Closes h (line h x 0 n) (now (lines .entry)) (now (lines .exit)) at count r ⌝ }
+{
+    let row = table::row(h);
+    let constant = row.constant;
+    match constant {
+        Role::Constant => close_gate(lines, at, h, x, 0, n, count),
+        Role::Unused => close_gate(lines, at, h, x, n, 0, count),
+        Role::Party => close_gate(lines, at, h, x, n, 0, count),
+        Role::Wire => close_gate(lines, at, h, x, n, 0, count),
+    }
+}
+
 // (w N). A name makes no gate of its own.
 fn read_leaf(
-    text: &[u8],
-    table: &[Word],
-    lines: &mut [Word],
-    any: bool,
+    text: &&[u8],
+    table: &&[Word],
+    lines: &mut [Word; crate::MOST_NUMBERS],
     from: usize,
     h: Head,
     left: usize,
     count: usize,
 ) -> Outcome
-    requires { ⌜ Given (now text) (now table) (now lines) any from count × (sort h ≡ Leaf) × (1 ≤ left) × (stands (eqb left deepest) h ≡ true) ⌝ }
-    ensures { λ r. ⌜ Told (worded h) (now (text .entry)) (now (table .entry)) (now (lines .entry)) (now (lines .exit)) from left count r ⌝ }
+    requires { ⌜ Given (now (now text)) (now (now table)) (now lines) from count × (sort h ≡ Leaf) × (1 ≤ left)
+        × (stands (eqb left deepest) h ≡ true) ⌝ }
+    ensures { λ r. ⌜ Told (worded h) (now (now (text .entry))) (now (now (table .entry))) (now (lines .entry)) (now (lines .exit))
+        from left count r ⌝ }
 {
     let row = table::row(h);
-    match numbers::read_number(text, table, from, row.naming) {
+    match numbers::read_number(*text, *table, from, row.naming) {
         Number::Dies { index } => Outcome::Refused {
             number: crate::SHAPE,
             index,
@@ -92,26 +116,26 @@ fn read_leaf(
                     valued: row.valued,
                 };
             }
-            close_gate(lines, to, h, 0, 0, value, count)
+            close_gate(lines, to, h, value, 0, 0, count)
         }
     }
 }
 
 // (w F)
 fn read_one(
-    text: &[u8],
-    table: &[Word],
-    lines: &mut [Word],
-    any: bool,
+    text: &&[u8],
+    table: &&[Word],
+    lines: &mut [Word; crate::MOST_NUMBERS],
     from: usize,
     h: Head,
     left: usize,
     count: usize,
 ) -> Outcome
-    requires { ⌜ Given (now text) (now table) (now lines) any from count × (sort h ≡ One) × (1 ≤ left) × (left ≤ deepest) ⌝ }
-    ensures { λ r. ⌜ Told (worded h) (now (text .entry)) (now (table .entry)) (now (lines .entry)) (now (lines .exit)) from left count r ⌝ }
+    requires { ⌜ Given (now (now text)) (now (now table)) (now lines) from count × (sort h ≡ One) × (1 ≤ left) × (left ≤ deepest) ⌝ }
+    ensures { λ r. ⌜ Told (worded h) (now (now (text .entry))) (now (now (table .entry))) (now (lines .entry)) (now (lines .exit))
+        from left count r ⌝ }
 {
-    match read_operand(text, table, lines, any, from, left - 1, count) {
+    match read_operand(text, table, lines, from, left - 1, count) {
         Outcome::Refused { number, index } => Outcome::Refused { number, index },
         Outcome::Done {
             to,
@@ -119,7 +143,7 @@ fn read_one(
             wire: x,
             valued: _,
         } => {
-            if !tokens::expect(text, to, tokens::CLOSING) {
+            if !tokens::expect(*text, to, tokens::CLOSING) {
                 return Outcome::Refused {
                     number: crate::SHAPE,
                     index: to,
@@ -132,19 +156,19 @@ fn read_one(
 
 // (w F N)
 fn read_scaled(
-    text: &[u8],
-    table: &[Word],
-    lines: &mut [Word],
-    any: bool,
+    text: &&[u8],
+    table: &&[Word],
+    lines: &mut [Word; crate::MOST_NUMBERS],
     from: usize,
     h: Head,
     left: usize,
     count: usize,
 ) -> Outcome
-    requires { ⌜ Given (now text) (now table) (now lines) any from count × (sort h ≡ Scaled) × (1 ≤ left) × (left ≤ deepest) ⌝ }
-    ensures { λ r. ⌜ Told (worded h) (now (text .entry)) (now (table .entry)) (now (lines .entry)) (now (lines .exit)) from left count r ⌝ }
+    requires { ⌜ Given (now (now text)) (now (now table)) (now lines) from count × (sort h ≡ Scaled) × (1 ≤ left) × (left ≤ deepest) ⌝ }
+    ensures { λ r. ⌜ Told (worded h) (now (now (text .entry))) (now (now (table .entry))) (now (lines .entry)) (now (lines .exit))
+        from left count r ⌝ }
 {
-    match read_operand(text, table, lines, any, from, left - 1, count) {
+    match read_operand(text, table, lines, from, left - 1, count) {
         Outcome::Refused { number, index } => Outcome::Refused { number, index },
         Outcome::Done {
             to,
@@ -152,18 +176,18 @@ fn read_scaled(
             wire: x,
             valued: _,
         } => {
-            if !tokens::expect(text, to, tokens::SPACE) {
+            if !tokens::expect(*text, to, tokens::SPACE) {
                 return Outcome::Refused {
                     number: crate::SHAPE,
                     index: to,
                 };
             }
-            match numbers::read_number(text, table, to + 1, false) {
+            match numbers::read_number(*text, *table, to + 1, false) {
                 Number::Dies { index } => Outcome::Refused {
                     number: crate::SHAPE,
                     index,
                 },
-                Number::Is { value, to: end } => close_gate(lines, end, h, x, 0, value, n),
+                Number::Is { value, to: end } => close_scaled(lines, end, h, x, value, n),
             }
         }
     }
@@ -171,19 +195,19 @@ fn read_scaled(
 
 // (w F F)
 fn read_two(
-    text: &[u8],
-    table: &[Word],
-    lines: &mut [Word],
-    any: bool,
+    text: &&[u8],
+    table: &&[Word],
+    lines: &mut [Word; crate::MOST_NUMBERS],
     from: usize,
     h: Head,
     left: usize,
     count: usize,
 ) -> Outcome
-    requires { ⌜ Given (now text) (now table) (now lines) any from count × (sort h ≡ Two) × (1 ≤ left) × (left ≤ deepest) ⌝ }
-    ensures { λ r. ⌜ Told (worded h) (now (text .entry)) (now (table .entry)) (now (lines .entry)) (now (lines .exit)) from left count r ⌝ }
+    requires { ⌜ Given (now (now text)) (now (now table)) (now lines) from count × (sort h ≡ Two) × (1 ≤ left) × (left ≤ deepest) ⌝ }
+    ensures { λ r. ⌜ Told (worded h) (now (now (text .entry))) (now (now (table .entry))) (now (lines .entry)) (now (lines .exit))
+        from left count r ⌝ }
 {
-    match read_operand(text, table, lines, any, from, left - 1, count) {
+    match read_operand(text, table, lines, from, left - 1, count) {
         Outcome::Refused { number, index } => Outcome::Refused { number, index },
         Outcome::Done {
             to,
@@ -191,13 +215,13 @@ fn read_two(
             wire: x,
             valued: _,
         } => {
-            if !tokens::expect(text, to, tokens::SPACE) {
+            if !tokens::expect(*text, to, tokens::SPACE) {
                 return Outcome::Refused {
                     number: crate::SHAPE,
                     index: to,
                 };
             }
-            match read_operand(text, table, lines, any, to + 1, left - 1, n) {
+            match read_operand(text, table, lines, to + 1, left - 1, n) {
                 Outcome::Refused { number, index } => Outcome::Refused { number, index },
                 Outcome::Done {
                     to: end,
@@ -205,7 +229,7 @@ fn read_two(
                     wire: y,
                     valued: _,
                 } => {
-                    if !tokens::expect(text, end, tokens::CLOSING) {
+                    if !tokens::expect(*text, end, tokens::CLOSING) {
                         return Outcome::Refused {
                             number: crate::SHAPE,
                             index: end,
@@ -218,26 +242,20 @@ fn read_two(
     }
 }
 
-// A form, from its bracket on. So many forms may be open, this one with them.
-pub fn read_form(
-    text: &[u8],
-    table: &[Word],
-    lines: &mut [Word],
-    any: bool,
+// A form, from its bracket on, which stands there. So many forms may be open, this one with them.
+fn read_form(
+    text: &&[u8],
+    table: &&[Word],
+    lines: &mut [Word; crate::MOST_NUMBERS],
     from: usize,
     left: usize,
     count: usize,
 ) -> Outcome
-    requires { ⌜ Given (now text) (now table) (now lines) any from count × (from < length (now text)) × (1 ≤ left) × (left ≤ deepest) ⌝ }
-    ensures { λ r. ⌜ Told fresh (now (text .entry)) (now (table .entry)) (now (lines .entry)) (now (lines .exit)) from left count r ⌝ }
+    requires { ⌜ Given (now (now text)) (now (now table)) (now lines) from count × (isAt (now (now text)) from opening ≡ true) × (1 ≤ left)
+        × (left ≤ deepest) ⌝ }
+    ensures { λ r. ⌜ Told fresh (now (now (text .entry))) (now (now (table .entry))) (now (lines .entry)) (now (lines .exit)) from left count r ⌝ }
 {
-    if !tokens::expect(text, from, tokens::OPENING) {
-        return Outcome::Refused {
-            number: crate::SHAPE,
-            index: from,
-        };
-    }
-    match words::read_word(text, from + 1, any, left == DEEPEST) {
+    match words::read_word(text, table, from + 1, left == DEEPEST) {
         Spelt::Dies { index } => Outcome::Refused {
             number: crate::SHAPE,
             index,
@@ -247,71 +265,50 @@ pub fn read_form(
             let sort = row.sort;
             match sort {
                 Sort::Leaf => {
-                    return read_leaf(text, table, lines, any, to, head, left, count);
+                    return read_leaf(text, table, lines, to, head, left, count);
                 }
                 Sort::One => {
-                    return read_one(text, table, lines, any, to, head, left, count);
+                    return read_one(text, table, lines, to, head, left, count);
                 }
                 Sort::Two => {
-                    return read_two(text, table, lines, any, to, head, left, count);
+                    return read_two(text, table, lines, to, head, left, count);
                 }
                 Sort::Scaled => {
-                    return read_scaled(text, table, lines, any, to, head, left, count);
+                    return read_scaled(text, table, lines, to, head, left, count);
                 }
             }
         }
     }
 }
 
-// A form inside another. Where no more forms may be open, its bracket is refused.
-fn read_inner(
-    text: &[u8],
-    table: &[Word],
-    lines: &mut [Word],
-    any: bool,
+// A form inside another, or a row. Where no more forms may be open, its bracket is refused. A name or an input, which most operands are, is
+// read at once.
+pub fn read_operand(
+    text: &&[u8],
+    table: &&[Word],
+    lines: &mut [Word; crate::MOST_NUMBERS],
     from: usize,
     left: usize,
     count: usize,
 ) -> Outcome
-    requires { ⌜ Given (now text) (now table) (now lines) any from count × (left < deepest) ⌝ }
-    ensures { λ r. ⌜ Told fresh (now (text .entry)) (now (table .entry)) (now (lines .entry)) (now (lines .exit)) from left count r ⌝ }
+    requires { ⌜ Given (now (now text)) (now (now table)) (now lines) from count × (left ≤ deepest)
+        × (left ≡ deepest → from < length (now (now text))) ⌝ }
+    ensures { λ r. ⌜ Told fresh (now (now (text .entry))) (now (now (table .entry))) (now (lines .entry)) (now (lines .exit)) from left count r ⌝ }
 {
-    if text.len() <= from {
+    if !tokens::expect(*text, from, tokens::OPENING) {
         return Outcome::Refused {
             number: crate::SHAPE,
             index: from,
         };
     }
     if left == 0 {
-        if tokens::expect(text, from, tokens::OPENING) {
-            return Outcome::Refused {
-                number: crate::DEPTH,
-                index: from,
-            };
-        }
         return Outcome::Refused {
-            number: crate::SHAPE,
+            number: crate::DEPTH,
             index: from,
         };
     }
-    read_form(text, table, lines, any, from, left, count)
-}
-
-// A form inside another. A name or an input, which most are, is read at once.
-fn read_operand(
-    text: &[u8],
-    table: &[Word],
-    lines: &mut [Word],
-    any: bool,
-    from: usize,
-    left: usize,
-    count: usize,
-) -> Outcome
-    requires { ⌜ Given (now text) (now table) (now lines) any from count × (left < deepest) ⌝ }
-    ensures { λ r. ⌜ Told fresh (now (text .entry)) (now (table .entry)) (now (lines .entry)) (now (lines .exit)) from left count r ⌝ }
-{
-    if 0 < left {
-        match numbers::read_name(text, table, from) {
+    if left < DEEPEST {
+        match numbers::read_name(*text, *table, from) {
             Name::Is { wire, to } => {
                 return Outcome::Done {
                     to,
@@ -322,12 +319,12 @@ fn read_operand(
             }
             Name::Other => {}
         }
-        match numbers::read_input(text, from) {
+        match numbers::read_input(*text, from) {
             Digits::Are { value, to } => {
-                return close_gate(lines, to, Head::In, 0, 0, value, count);
+                return close_gate(lines, to, Head::In, value, 0, 0, count);
             }
             Digits::Unsure => {}
         }
     }
-    read_inner(text, table, lines, any, from, left, count)
+    read_form(text, table, lines, from, left, count)
 }

@@ -5,7 +5,6 @@ use crate::nesting;
 use field::Word;
 ghost use Prim.Native.Nat.{_*_, _/_, _%_, _<_, _≤_};
 ghost use mathlib.Core.Path.{_≡_};
-ghost use mathlib.Core.Bool.{_||_};
 ghost use lib.Dec.{eqb};
 ghost use lib.ListN.{length};
 ghost use Rattle.circuit.specs.Gate.{gateSize};
@@ -23,27 +22,18 @@ fn entry_of(wire: Word, valued: bool) -> Word
     2 * wire
 }
 
-fn either(a: bool, b: bool) -> bool
-    ensures { λ r. ⌜ r ≡ (a || b) ⌝ }
-{
-    if a {
-        return true;
-    }
-    b
-}
-
 // All rows, each a form and its line feed. Every row makes a gate, so that the table has room for as many as there may be gates.
-pub fn read_rows(text: &[u8], lines: &mut [Word]) -> Reading
+pub fn read_rows(text: &[u8], lines: &mut [Word; crate::MOST_NUMBERS]) -> Reading
     requires { ⌜ gateSize * mostGates ≤ length (now lines) ⌝ }
     ensures { λ r. ⌜ RowsTold (now (text .entry)) (now (lines .exit)) r ⌝ }
 {
     let mut table: [Word; crate::MOST_GATES] = [0; crate::MOST_GATES];
     let mut rows = 0;
-    let mut any = false;
     let mut at = 0;
     let mut count = 0;
     while at < text.len() {
-        match nesting::read_form(text, &table[0..rows], lines, any, at, nesting::DEEPEST, count) {
+        let known = &table[0..rows];
+        match nesting::read_operand(&text, &known, lines, at, nesting::DEEPEST, count) {
             Outcome::Refused { number, index } => {
                 return Reading::Refused { number, index };
             }
@@ -61,7 +51,6 @@ pub fn read_rows(text: &[u8], lines: &mut [Word]) -> Reading
                 }
                 table[rows] = entry_of(wire, valued);
                 rows += 1;
-                any = either(any, valued);
                 at = to + 1;
                 count = total;
             }

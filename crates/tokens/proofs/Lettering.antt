@@ -2,7 +2,7 @@
 -- Assumes nothing.
 use Prim.Native.Nat.{ℕ, zero, suc, _+_, _-_, _≤_, _<_}
 use mathlib.Core.Path.{_≡_, refl, sym, ap, _∙_}
-use mathlib.Core.Bool.{Bool, true, false, not, _&&_}
+use mathlib.Core.Bool.{Bool, true, false, not, _&&_, _||_, false≢true}
 use mathlib.Core.List.{List, [], _∷_, _++_, append-assoc}
 use mathlib.Core.Option.{some, none}
 use native.Mathlib.Omega.{arith}
@@ -15,7 +15,7 @@ use Rattle.field.specs.Words.{largest}
 use Rattle.forms.specs.declared.Head.{Head}
 use Rattle.forms.specs.declared.Sort.{Sort}
 use Rattle.forms.specs.declared.Sort.the-variants.{Leaf, One, Two, Scaled}
-use Rattle.forms.specs.Words.{heads, letters, sort}
+use Rattle.forms.specs.Words.{heads, letters, sort, names, stands}
 use Rattle.forms.specs.Form.{Form, space}
 use Rattle.forms.specs.Machine.{
   Frame, State, at, start, spelling, starts, may, wordLives, wordIs, begun, begunAs, step, when, read, ended, openHere, openIn, closedHere,
@@ -189,6 +189,25 @@ standing-word text any o from h to l m e p t =
     sym (getD-drop from text n 0) ∙ ap (λ (xs : List ℕ). getD xs n 0) all ∙ getD-append-seam (letters h) space (s .0) 0 in
     rw e (whole-word text any o from (from + n) h m (omega arith) (omega arith) word (omega arith) next)
 
+-- and it ends within the text
+pub word-inside : (text : List ℕ) (from : ℕ) (h : Head) {l : ℕ} → from ≤ length text → l ≡ length (letters h)
+    → starts (letters h ++ (space ∷ [])) (drop from text) ≡ true → from + l + 1 ≤ length text
+word-inside text from h i e p =
+    let s = stand-rest (letters h ++ (space ∷ [])) (drop from text) p in
+    let long : length text - from ≡ length (letters h ++ (space ∷ [])) + length (s .0) =
+        sym (length-drop from text) ∙ (ap length (s .1) ∙ length-append (letters h ++ (space ∷ [])) (s .0)) in
+    omega (arith, long, e, length-append (letters h) (space ∷ []))
+
 -- a word that is found may stand
 pub found-stands : (any o : Bool) (w : List ℕ) (h : Head) → some h ≡ wordIs heads any o w → may any o h ≡ true
 found-stands any o w h e = word-found heads any o w h (sym e) .stands
+
+-- what may stand where no row can be named may stand where one can
+pub may-more : (any o : Bool) (h : Head) → may false o h ≡ true → may any o h ≡ true
+unfolding may
+may-more any o h = go (stands o h) (names h)
+  where
+    go : (a n : Bool) → (a && (not n || false)) ≡ true → (a && (not n || any)) ≡ true
+    go true false e = refl
+    go true true e = absurd (false≢true e)
+    go false n e = absurd (false≢true e)

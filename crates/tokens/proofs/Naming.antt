@@ -9,12 +9,12 @@ use native.Mathlib.Numerals.{add-one}
 use lib.ListN.{length, getD, drop, drop-of-length-le}
 use lib.Seq.{drop-cons}
 use lib.Dec.{eqb, ltb}
-use borrow.Author.Tests.{lt-ltb, le-ltb, ne-eqb, eqb-true, leb-true, ltb-false}
+use borrow.Author.Tests.{lt-ltb, le-ltb, eq-eqb, ne-eqb, eqb-true, leb-true, ltb-false}
 use Rattle.circuit.specs.Accept.{mostGates}
 use Rattle.circuit.proofs.Tests.{both-right}
 use Rattle.field.specs.Words.{largest}
 use Rattle.forms.specs.Form.{ten}
-use Rattle.forms.specs.Machine.{begins, nameLives}
+use Rattle.forms.specs.Machine.{begins, nameLives, anyNamed}
 use Rattle.forms.proofs.Choices.{or-elim}
 use Rattle.forms.proofs.Numerals.{begins-self}
 use Rattle.tokens.specs.Code.{known, livesAs}
@@ -90,3 +90,16 @@ pub lives-small : (table : List ℕ) (naming : Bool) (v : ℕ) → length table 
 unfolding livesAs
 lives-small table true v h e = omega (arith, name-low (known table) 0 v e, length-known table)
 lives-small table false v h e = leb-true v largest e
+
+module _ (table : List ℕ) (j : ℕ) where
+  pub any-next : j < length table → (getD table j 0 % 2 ≡ 1 → ⊥) → anyNamed (known (drop j table)) ≡ anyNamed (known (drop (j + 1) table))
+  unfolding anyNamed known
+  any-next h n = rw (add-one j, drop-cons table j 0 h, ne-eqb (getD table j 0 % 2) 1 n)
+
+  pub any-here : j < length table → getD table j 0 % 2 ≡ 1 → anyNamed (known (drop j table)) ≡ true
+  unfolding anyNamed known
+  any-here h e = rw (drop-cons table j 0 h, eq-eqb (getD table j 0 % 2) 1 e)
+
+  pub any-nowhere : length table ≤ j → anyNamed (known (drop j table)) ≡ false
+  unfolding anyNamed known
+  any-nowhere h = rw (drop-of-length-le table h)

@@ -12,7 +12,7 @@ ghost use lib.ListN.{length};
 ghost use Rattle.circuit.specs.Accept.{mostGates};
 ghost use Rattle.forms.specs.declared.Head.the-variants.{In};
 ghost use Rattle.forms.specs.Form.{named};
-ghost use Rattle.forms.specs.Machine.{isDigit, begins, nameLives};
+ghost use Rattle.forms.specs.Machine.{isDigit, begins, nameLives, anyNamed};
 ghost use Rattle.tokens.specs.Code.{known, livesAs, fitsAs, NumberRead, DigitsRead, leading, BehindRead, NameRead};
 
 const NAUGHT: u8 = b'0';
@@ -58,6 +58,20 @@ fn name_lives(table: &[Word], v: usize) -> bool
     let mut j = 0;
     while j < table.len() {
         if row_lives(table[j], v, j) {
+            return true;
+        }
+        j += 1;
+    }
+    false
+}
+
+// Has any row a value?
+pub fn any_named(table: &[Word]) -> bool
+    ensures { λ r. ⌜ r ≡ anyNamed (known (now (table .entry))) ⌝ }
+{
+    let mut j = 0;
+    while j < table.len() {
+        if table[j] % 2 == 1 {
             return true;
         }
         j += 1;

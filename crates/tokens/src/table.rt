@@ -8,8 +8,7 @@ ghost use mathlib.Core.Path.{_≡_};
 ghost use mathlib.Core.List.{_∷_};
 ghost use Prim.Native.Nat.{_+_, _<_};
 ghost use lib.ListN.{drop};
-ghost use Rattle.circuit.specs.Code.{roleOf};
-ghost use Rattle.forms.specs.Words.{heads, placed};
+ghost use Rattle.forms.specs.Words.{heads};
 ghost use Rattle.tokens.specs.Code.{RowOf, valuedRow};
 
 // A row of a word with a gate that has a value.
@@ -90,16 +89,4 @@ pub fn head_at(k: usize) -> Head
         return Head::Out;
     }
     Head::Line
-}
-
-// A number of a gate by what it is for.
-pub fn placed(role: Role, wire: Word, number: Word) -> Word
-    ensures { λ r. ⌜ r ≡ placed (roleOf role) wire number ⌝ }
-{
-    match role {
-        Role::Unused => 0,
-        Role::Party => number,
-        Role::Wire => wire,
-        Role::Constant => number,
-    }
 }

@@ -1,17 +1,19 @@
 // Words. The one that its first letter suggests is tried first; only where it does not stand there, the letters are gone through one by one.
 use crate::Found;
 use crate::Spelt;
+use crate::numbers;
 use crate::table;
+use field::Word;
 use forms::Head;
 ghost use mathlib.Core.Path.{_≡_};
 ghost use mathlib.Core.Bool.{_&&_};
 ghost use mathlib.Core.List.{[], _∷_, _++_};
-ghost use Prim.Native.Nat.{_+_, _≤_};
+ghost use Prim.Native.Nat.{_+_, _^_, _≤_, _<_};
 ghost use lib.ListN.{length, drop};
 ghost use Rattle.forms.specs.Words.{heads, letters};
 ghost use Rattle.forms.specs.Form.{space};
-ghost use Rattle.forms.specs.Machine.{starts, same, may, wordLives, wordIs};
-ghost use Rattle.tokens.specs.Code.{part, foundAs, WordRead};
+ghost use Rattle.forms.specs.Machine.{starts, same, may, wordLives, wordIs, anyNamed};
+ghost use Rattle.tokens.specs.Code.{part, foundAs, known, WordRead};
 
 // Does a part of the text begin a word?
 fn starts_word(text: &[u8], from: usize, to: usize, w: &[u8]) -> bool
@@ -210,22 +212,24 @@ fn suggested(b: u8) -> Head {
     Head::Out
 }
 
-// A word and its space.
-pub fn read_word(text: &[u8], from: usize, any: bool, outermost: bool) -> Spelt
-    requires { ⌜ from ≤ length (now text) ⌝ }
-    ensures { λ r. ⌜ WordRead (now (text .entry)) any outermost from r ⌝ }
+// A word and its space. A (line J) is left to the letters: a name that stands where it may is read without its word.
+pub fn read_word(text: &&[u8], table: &&[Word], from: usize, outermost: bool) -> Spelt
+    requires { ⌜ (from ≤ length (now (now text))) × (length (now (now text)) < 2 ^ 64) ⌝ }
+    ensures { λ r. ⌜ WordRead (now (now (text .entry))) (anyNamed (known (now (now (table .entry))))) outermost from r ⌝ }
 {
-    if from < text.len() {
-        let h = suggested(text[from]);
-        if word_stands(text, from, h) {
-            if may_stand(h, any, outermost) {
-                let row = table::row(h);
-                return Spelt::Is {
-                    head: h,
-                    to: from + row.length + 1,
-                };
-            }
-        }
+    if text.len() <= from {
+        return read_slowly(*text, from, numbers::any_named(*table), outermost);
     }
-    read_slowly(text, from, any, outermost)
+    let h = suggested(text[from]);
+    if !word_stands(*text, from, h) {
+        return read_slowly(*text, from, numbers::any_named(*table), outermost);
+    }
+    if !may_stand(h, false, outermost) {
+        return read_slowly(*text, from, numbers::any_named(*table), outermost);
+    }
+    let row = table::row(h);
+    Spelt::Is {
+        head: h,
+        to: from + row.length + 1,
+    }
 }

@@ -14,33 +14,31 @@ unfolding verdictOf
 returns c = entered-refused _ _ _ (sym (c .before .before .before .ask-parties .ensures) ∙ ap verdictOf (c .before .number .given .1))
 
 mul-end : tie.Need-mul-end
-mul-end c = let d = rows-done (c .before .before .before .before .read-rows .ensures) (c .before .count .given .1) in omega (arith, d .few)
+mul-end c = let d = rows-done (c .before .before .before .read-rows .ensures) (c .before .count .given .1) in omega (arith, d .few)
 
 part-settle-end : tie.Need-part-settle-end
-part-settle-end c =
-    let d = rows-done (c .before .before .before .before .before .read-rows .ensures) (c .before .before .count .given .1) in
-    omega (arith, d .few)
+part-settle-end c = let d = rows-done (c .before .before .before .before .read-rows .ensures) (c .before .before .count .given .1) in omega
+    (arith, d .few, d .long)
 
 returns-2 : tie.Need-returns-2
 unfolding verdictOf
 returns-2 c =
-    let k = sym (c .before .before .before .before .before .before .before .before .ask-parties .ensures) ∙ ap verdictOf
-    (c .before .before .before .before .before .before .enum-told .given .1) in
-    entered-no _ _ _ k (rows-refused _ _ (c .before .before .before .before .read-rows .ensures) (c .before .number2 .given .1))
+    let k = sym (c .before .before .before .before .before .before .before .ask-parties .ensures) ∙ ap verdictOf
+    (c .before .before .before .before .before .enum-told .given .1) in
+    entered-no _ _ _ k (rows-refused _ _ (c .before .before .before .read-rows .ensures) (c .before .number2 .given .1))
 
 returns-3 : tie.Need-returns-3
 unfolding verdictOf
 returns-3 c =
-    let d = rows-done (c .before .before .before .before .before .before .before .before .before .before .read-rows .ensures)
+    let d = rows-done (c .before .before .before .before .before .before .before .before .before .read-rows .ensures)
     (c .before .before .before .before .before .before .before .count .given .1) in
     let k = sym
-    (c .before .before .before .before .before .before .before .before .before .before .before .before .before .before .ask-parties .ensures) ∙ ap
-    verdictOf (c .before .before .before .before .before .before .before .before .before .before .before .before .enum-told .given .1) in
+    (c .before .before .before .before .before .before .before .before .before .before .before .before .before .ask-parties .ensures) ∙ ap
+    verdictOf (c .before .before .before .before .before .before .before .before .before .before .before .enum-told .given .1) in
     entered-settled _ _ _ k d (c .before .before .settle .ensures)
 
 pub read-sheet-spec : {M : Type 1} → statement M
 read-sheet-spec =
     tie.close
-    (tie.spec (λ c κs. search needs) (λ c. search needs) returns (λ c. search needs) (λ c. search needs) (λ c κs. search needs)
-        (λ c. search needs) (λ c. search needs) mul-end (λ c. search needs) (λ c. search needs) part-settle-end (λ c κs. search needs) returns-2
-        (λ c. search needs) returns-3)
+    (tie.spec (λ c κs. search needs) (λ c. search needs) returns (λ c. search needs) (λ c κs. search needs) (λ c. search needs) (λ c. search needs)
+    mul-end (λ c. search needs) (λ c. search needs) part-settle-end (λ c κs. search needs) returns-2 (λ c. search needs) returns-3)

@@ -3,7 +3,6 @@
 use mathlib.Core.Path.{refl}
 use native.Mathlib.Omega.{arith}
 use borrow.Author.Needs.{needs}
-use lib.ListN.{length-set}
 use Rattle.reader.specs.Code.{Closes}
 use Rattle.reader.proofs.Pushing.{pushed-gate}
 use Rattle.reader.proofs.nesting.close_gate.Statement.{statement}
@@ -13,26 +12,14 @@ returns : tie.Need-returns
 unfolding Closes
 returns c = record { number-is = refl; index-is = refl; full = omega arith }
 
-slice-write-lines-2 : tie.Need-slice-write-lines-2
-slice-write-lines-2 c = simp length-set (omega arith)
-
-slice-write-lines-3 : tie.Need-slice-write-lines-3
-slice-write-lines-3 c = simp length-set (omega arith)
-
-slice-write-lines-4 : tie.Need-slice-write-lines-4
-slice-write-lines-4 c = simp length-set (omega arith)
-
 returns-2 : tie.Need-returns-2
 unfolding Closes
-returns-2 c =
-    pushed-gate _ _ _ (c .before .before .before .before .before .before .args .h) _ _ _ (c .before .before .before .row .ensures)
-    (c .before .before .placed .ensures) (c .before .placed2 .ensures) (c .placed3 .ensures) (c .before .before .before .before .if1 .left)
-    (c .before .before .before .before .before .before .pre .1)
+returns-2 c = pushed-gate _ _ _ (c .before .before .args .h) _ _ _ (c .row .ensures) (c .before .if1 .left)
+    (c .before .before .pre .1)
 
 pub close-gate-spec : {M : Type 1} → statement M
 close-gate-spec =
     tie.close
-    (tie.spec returns (λ c κs. search needs) (λ c. search needs) (λ c. search needs) (λ c. search needs) (λ c κs. search needs)
-        (λ c. search needs) (λ c. search needs) slice-write-lines-2 (λ c κs. search needs) (λ c. search needs) (λ c. search needs)
-        slice-write-lines-3 (λ c κs. search needs) (λ c. search needs) (λ c. search needs) slice-write-lines-4 (λ c. search needs)
-        (λ c. search needs) (λ c. search needs) (λ c. search needs) returns-2)
+    (tie.spec returns (λ c κs. search needs) (λ c. search needs) (λ c. search needs) (λ c. search needs) (λ c. search needs) (λ c. search needs)
+    (λ c. search needs) (λ c. search needs) (λ c. search needs) (λ c. search needs) (λ c. search needs) (λ c. search needs) (λ c. search needs)
+    (λ c. search needs) (λ c. search needs) (λ c. search needs) returns-2)

@@ -10,57 +10,54 @@ use Rattle.reader.proofs.Closings.{leaf-dies, leaf-names, leaf-closes, 
 use Rattle.reader.proofs.nesting.read_leaf.Statement.{statement}
 use Rattle.reader.proofs.nesting.read_leaf.Tie as tie
 
-read-number-requires : tie.Need-read-number-requires
-read-number-requires c κs = (c .before .before .before .before .pre .0 .within, c .before .before .before .before .pre .0 .rows-fit)
-
-add-t17 : tie.Need-add-t17
-add-t17 c =
+add-t18 : tie.Need-add-t18
+add-t18 c =
     let v = number-is (c .before .before .before .before .before .read-number .ensures) (c .before .before .before .value .given .1) in
-    omega (arith, at-inside _ _ closing (v .closes))
+    omega (arith, c .before .before .before .before .before .before .before .before .before .pre .0 .short, at-inside _ _ closing (v .closes))
 
-shared-slice-read-t20 : tie.Need-shared-slice-read-t20
-shared-slice-read-t20 c =
-    let s = c .before .before .before .before .before .before .before .before .before .before .before in
-    let v = number-is (c .before .before .before .before .before .before .read-number .ensures) (c .before .before .before .before .value .given .1)
-    in
+index-1-t21 : tie.Need-index-1-t21
+index-1-t21 c =
+    let s = c .before .before .before .before .before .before .before .before .before in
+    let v = number-is (c .before .before .before .before .before .read-number .ensures) (c .before .before .before .value .given .1) in
     leaf-row _ _ (s .args .lines .now) _ _ _ (s .args .h) (s .pre .1)
-    (c .before .before .before .before .before .before .before .row .ensures .naming-is) (s .pre .2) (s .pre .0 .few) v (c .before .index2 .ensures)
-    (c .before .before .if1 .taken)
+    (c .before .before .before .before .before .before .before .before .row .ensures .naming-is) (s .pre .2) (s .pre .0 .few) v (c .index2 .ensures)
+    (c .before .if1 .taken)
 
 returns : tie.Need-returns
 unfolding Told
 returns c =
-    let s = c .before .before .before .before .before .before .before .before .before .before .before in
-    let v = number-is (c .before .before .before .before .before .before .read-number .ensures) (c .before .before .before .before .value .given .1)
-    in
-    leaf-names _ _ _ _ _ _ (s .args .h) (s .pre .1) (c .before .before .before .before .before .before .before .row .ensures .naming-is) (s .pre .2)
-    (s .pre .0 .few) v (c .before .index2 .ensures) (c .before .before .if1 .taken) (s .pre .3)
-    (c .before .before .before .before .before .before .before .row .ensures .valued-is)
+    let s = c .before .before .before .before .before .before .before .before .before .before in
+    let v = number-is (c .before .before .before .before .before .before .read-number .ensures)
+    (c .before .before .before .before .value .given .1) in
+    leaf-names _ _ _ _ _ _ (s .args .h) (s .pre .1) (c .before .before .before .before .before .before .before .before .before .row .ensures
+    .naming-is) (s .pre .2) (s .pre .0 .few) v (c .before .index2 .ensures) (c .before .before .if1 .taken)
+    (s .pre .3) (c .before .before .before .before .before .before .before .before .before .row .ensures .valued-is)
 
 close-gate-requires : tie.Need-close-gate-requires
 close-gate-requires c κs =
-    let g = c .before .before .before .before .before .before .before .before .before .before .pre .0 in
+    let g = c .before .before .before .before .before .before .before .before .before .pre .0 in
     let v = number-is (c .before .before .before .before .before .read-number .ensures) (c .before .before .before .value .given .1) in
-    (g .few, g .long, omega (arith, at-inside _ _ closing (v .closes)))
+    (g .few, g .long, omega (arith, g .short, at-inside _ _ closing (v .closes)))
 
 returns-2 : tie.Need-returns-2
 unfolding Told
 returns-2 c =
-    let s = c .before .before .before .before .before .before .before .before in
-    leaf-dies _ _ (s .args .lines .now) _ _ _ (s .args .h) (s .pre .1) (c .before .before .before .before .row .ensures .naming-is) (s .pre .2)
-    (s .pre .0 .few) (number-dies (c .before .before .before .read-number .ensures) (c .before .index .given .1))
+    let s = c .before .before .before .before .before .before .before in
+    leaf-dies _ _ (s .args .lines .now) _ _ _ (s .args .h) (s .pre .1) (c .before .before .before .before .before .before .row .ensures .naming-is)
+    (s .pre .2) (s .pre .0 .few)
+    (number-dies (c .before .before .before .read-number .ensures) (c .before .index .given .1))
 
 returns-3 : tie.Need-returns-3
 returns-3 c =
-    let s = c .before .before .before .before .before .before .before .before .before .before .before .before .before in
-    let v = number-is (c .before .before .before .before .before .before .before .before .read-number .ensures)
-    (c .before .before .before .before .before .before .value .given .1) in
-    leaf-closes _ _ _ _ _ _ (s .args .h) (s .pre .1)
-    (c .before .before .before .before .before .before .before .before .before .row .ensures .naming-is) (s .pre .2) (s .pre .0 .few) v _ _
-    (c .before .before .before .before .if1 .left) (c .before .before .close-gate .ensures)
+    let s = c .before .before .before .before .before .before .before .before .before .before in
+    let v = number-is (c .before .before .before .before .before .before .read-number .ensures)
+    (c .before .before .before .before .value .given .1) in
+    leaf-closes _ _ _ _ _ _ (s .args .h) (s .pre .1) (c .before .before .before .before .before .before .before .before .before .row .ensures
+    .naming-is) (s .pre .2) (s .pre .0 .few) v _ _ (c .before .before .if1 .left)
+    (c .close-gate .ensures)
 
 pub read-leaf-spec : {M : Type 1} → statement M
 read-leaf-spec =
     tie.close
-    (tie.spec (λ c κs. search needs) read-number-requires (λ c. search needs) (λ c. search needs) (λ c κs. search needs) add-t17
-        (λ c. search needs) shared-slice-read-t20 returns close-gate-requires returns-2 (λ c. search needs) returns-3)
+    (tie.spec (λ c κs. search needs) (λ c κs. search needs) (λ c. search needs) (λ c. search needs) (λ c κs. search needs) add-t18
+    (λ c. search needs) index-1-t21 returns close-gate-requires returns-2 returns-3)

@@ -2,26 +2,48 @@
 -- Assumes nothing.
 use borrow.Author.Needs.{needs}
 use Prim.Native.Nat.{ℕ, _+_}
-use mathlib.Core.Path.{sym, ap, _∙_}
+use mathlib.Core.Path.{refl, ap}
 use native.Mathlib.Omega.{arith}
 use Rattle.tokens.specs.Code.{WordRead}
-use Rattle.forms.proofs.Lengths.{letters-few}
-use Rattle.tokens.proofs.Lettering.{standing-word}
+use Rattle.tokens.proofs.Numerals.{granted}
+use Rattle.tokens.proofs.Lettering.{standing-word, word-inside, may-more}
 use Rattle.tokens.proofs.words.read_word.Statement.{statement}
 use Rattle.tokens.proofs.words.read_word.Tie as tie
 
 returns : tie.Need-returns
-unfolding WordRead
-returns c =
+returns c = let w = c .read-slowly .ensures in rw (c .before .any-named .ensures) at w
+
+returns-2 : tie.Need-returns-2
+returns-2 c = let w = c .read-slowly2 .ensures in rw (c .before .any-named2 .ensures) at w
+
+returns-3 : tie.Need-returns-3
+returns-3 c = let w = c .read-slowly3 .ensures in rw (c .before .any-named3 .ensures) at w
+
+add-t7 : tie.Need-add-t7
+add-t7 c =
     let a = c .before .before .before .before .before .before .before .before .before .before in
-    standing-word _ _ _ _ _ _ (a .pre) (sym (c .before .before .before .may-stand .ensures) ∙ c .before .before .if3 .taken)
-    (ap (λ (n : ℕ). a .args .from + n + 1) (c .before .row .ensures .length-is)) (c .before .before .before .before .before .word-stands .ensures)
-    (c .before .before .before .before .if2 .taken)
+    let p = granted (c .before .before .before .before .before .word-stands .ensures) (c .before .before .before .before .if2 .left) in
+    omega (arith, a .pre .1, word-inside _ _ (c .before .before .before .before .before .before .before .suggested .result) (a .pre .0)
+    (c .before .row .ensures .length-is) p)
+
+add-t22 : tie.Need-add-t22
+add-t22 c =
+    let a = c .before .before .before .before .before .before .before .before .before .before in
+    let p = granted (c .before .before .before .before .before .word-stands .ensures) (c .before .before .before .before .if2 .left) in
+    omega (arith, a .pre .1, word-inside _ _ (c .before .before .before .before .before .before .before .suggested .result) (a .pre .0)
+    (c .before .row .ensures .length-is) p)
+
+returns-4 : tie.Need-returns-4
+unfolding WordRead
+returns-4 c =
+    let a = c .before .before .before .before .before .before .before .before .before .before in
+    let p = granted (c .before .before .before .before .before .word-stands .ensures) (c .before .before .before .before .if2 .left) in
+    standing-word _ _ _ _ _ _ (a .pre .0) (may-more _ _ _ (granted (c .before .before .before .may-stand .ensures) (c .before .before .if3 .left)))
+    (ap (λ (n : ℕ). a .args .from + n + 1) (c .before .row .ensures .length-is)) refl p
 
 pub read-word-spec : {M : Type 1} → statement M
 read-word-spec =
     tie.close
-    (tie.spec (λ c. search needs) (λ c κs. search needs) (λ c κs. search needs) (λ c κs. search needs) (λ c κs. search needs)
-    (λ c. omega (arith, c .before .row .ensures .length-is, letters-few (c .before .before .before .before .before .before .suggested .result)))
-    (λ c. omega (arith, c .before .row .ensures .length-is, letters-few (c .before .before .before .before .before .before .suggested .result)))
-    returns (λ c κs. search needs) (λ c. search needs))
+    (tie.spec (λ c κs. search needs) (λ c κs. search needs) returns (λ c. search needs) (λ c κs. search needs) (λ c κs. search needs)
+        (λ c κs. search needs) (λ c κs. search needs) returns-2 (λ c κs. search needs) (λ c κs. search needs) (λ c κs. search needs) returns-3
+        (λ c κs. search needs) add-t7 add-t22 returns-4)
