@@ -83,13 +83,3 @@ print-rows-append (f ∷ fs) gs = rw (print-rows-append fs gs) (simp append-asso
 pub print-more : (c : List ℕ) (j : ℕ) → printRows (rowsUpTo c (suc j)) ≡ printRows (rowsUpTo c j) ++ (print (rowOf c j) ++ (feed ∷ []))
 unfolding printRows rowsUpTo
 print-more c j = print-rows-append (rowsUpTo c j) (rowOf c j ∷ []) ∙ rw append-nil
-
--- fewer gates have no more bytes
-pub print-grows : (c : List ℕ) (j k : ℕ) → j ≤ k → length (printRows (rowsUpTo c j)) ≤ length (printRows (rowsUpTo c k))
-print-grows c j zero h = let e : j ≡ 0 = omega arith in rw e (omega arith)
-print-grows c j (suc k) h = go (ltb k j) refl (λ l. print-grows c j k l)
-  where
-    go : (r : Bool) → ltb k j ≡ r → (j ≤ k → length (printRows (rowsUpTo c j)) ≤ length (printRows (rowsUpTo c k)))
-        → length (printRows (rowsUpTo c j)) ≤ length (printRows (rowsUpTo c (suc k)))
-    go true e r = let same : j ≡ suc k = omega (arith, ltb-true k j e) in rw same (omega arith)
-    go false e r = rw (print-more c k, length-append) (omega (arith, r (ltb-false k j e)))

@@ -1,6 +1,6 @@
 -- What a row is made of, and how many bytes it has.
 -- Assumes nothing.
-use Prim.Native.Nat.{ℕ, _+_, _*_}
+use Prim.Native.Nat.{ℕ, _+_, _*_, _^_, _≤_, _<_}
 use mathlib.Core.Path.{_≡_, refl}
 use mathlib.Core.Logic.{_≢_}
 use mathlib.Core.Bool.{Bool, true, false, cond}
@@ -13,13 +13,14 @@ use borrow.Author.Tests.{ne-eqb}
 use Rattle.circuit.specs.Gate.{gateSize, entry}
 use Rattle.forms.specs.declared.Head.{Head}
 use Rattle.forms.specs.declared.Head.the-variants.{Line}
+use Rattle.forms.specs.declared.Sort.{Sort}
 use Rattle.forms.specs.declared.Sort.the-variants.{Leaf, One, Two, Scaled}
-use Rattle.forms.specs.Words.{sort, letters, shapeOf}
-use Rattle.forms.specs.Form.{Form, leaf, one, two, scaled, feed, print, decimal}
+use Rattle.forms.specs.Words.{sort, shapeOf}
+use Rattle.forms.specs.Form.{Form, leaf, one, two, scaled, feed, print}
 use Rattle.forms.specs.Entry.{headOf, picked, numberOf, counted, name, formOf, rowFor, rowOf}
-use Rattle.forms.proofs.Lengths.{letters-few, length-leaf, length-one, length-two, length-scaled}
+use Rattle.forms.proofs.Lengths.{letters-few, length-word, length-leaf, length-one, length-two, length-scaled}
 use Rattle.writer.specs.declared.Parts.{Parts}
-use Rattle.writer.specs.Code.{Counts, formIn, rowText}
+use Rattle.writer.specs.Code.{formIn, rowText, rowRoom}
 
 -- a number that is no kind
 pub head-line : (k : ℕ) → 1 ≢ k → 2 ≢ k → 3 ≢ k → 4 ≢ k → 5 ≢ k → 6 ≢ k → 7 ≢ k → Line ≡ headOf k
@@ -66,41 +67,36 @@ pub length-row : (f : Form) → length (rowText f) ≡ length (print f) + 1
 unfolding rowText
 length-row f = length-append (print f) (feed ∷ [])
 
-pub leaf-counts : (h : Head) (n : ℕ) {l d : ℕ} → l ≡ length (letters h) → Counts (decimal n) 20 d → Counts (print (leaf h n)) 28 (l + d + 3)
-leaf-counts h n e d = record {
-  counted = omega (arith, e, d .counted, length-leaf h n);
-  small = omega (arith, e, d .small, letters-few h);
-}
+length-name : (n : ℕ) → n < 2 ^ 64 → length (print (name n)) ≤ 28
+unfolding name
+length-name n h = omega (arith, length-leaf Line n, letters-few Line, length-word n h)
 
-module _ (p : Parts) where
-  pub row-leaf : {k : ℕ} → sort (p .head) ≡ Leaf → Counts (print (leaf (p .head) (p .number))) 28 k → Counts (rowText (formIn p)) 66 (k + 1)
-  row-leaf s k = rw (form-leaf p s) (record {
-    counted = omega (arith, k .counted, length-row (leaf (p .head) (p .number)));
-    small =
-        omega (arith, k .small);
-  })
+-- a row whose numbers are those of a machine
+pub row-few : (p : Parts) → p .first < 2 ^ 64 → p .second < 2 ^ 64 → p .number < 2 ^ 64 → length (rowText (formIn p)) ≤ rowRoom
+row-few p x y n = go (sort (p .head)) refl
+  where
+    h : Head
+    h = p .head
 
-  module _ {l k : ℕ} (e : l ≡ length (letters (p .head))) (x : Counts (print (name (p .first))) 28 k) where
-    pub row-one : sort (p .head) ≡ One → Counts (rowText (formIn p)) 66 (l + k + 4)
-    row-one s =
-        let f : Form = one (p .head) (name (p .first)) in
-        rw (form-one p s) (record {
-          counted = omega (arith, e, x .counted, length-row f, length-one (p .head) (name (p .first)));
-          small = omega (arith, e, x .small, letters-few (p .head));
-        })
-
-    pub row-two : {m : ℕ} → sort (p .head) ≡ Two → Counts (print (name (p .second))) 28 m → Counts (rowText (formIn p)) 66 (l + k + m + 5)
-    row-two s y =
-        let f : Form = two (p .head) (name (p .first)) (name (p .second)) in
-        rw (form-two p s) (record {
-          counted = omega (arith, e, x .counted, y .counted, length-row f, length-two (p .head) (name (p .first)) (name (p .second)));
-          small = omega (arith, e, x .small, y .small, letters-few (p .head));
-        })
-
-    pub row-scaled : {m : ℕ} → sort (p .head) ≡ Scaled → Counts (decimal (p .number)) 20 m → Counts (rowText (formIn p)) 66 (l + k + m + 5)
-    row-scaled s n =
-        let f : Form = scaled (p .head) (name (p .first)) (p .number) in
-        rw (form-scaled p s) (record {
-          counted = omega (arith, e, x .counted, n .counted, length-row f, length-scaled (p .head) (name (p .first)) (p .number));
-          small = omega (arith, e, x .small, n .small, letters-few (p .head));
-        })
+    go : (k : Sort) → sort (p .head) ≡ k → length (rowText (formIn p)) ≤ rowRoom
+    go Leaf s =
+        rw (form-leaf p s) (omega (arith, length-row (leaf h (p .number)), length-leaf h (p .number), letters-few h, length-word (p .number) n))
+    go One s =
+        let f : Form = name (p .first) in
+        rw (form-one p s) (omega (arith, length-row (one h f), length-one h f, letters-few h, length-name (p .first) x))
+    go Two s =
+        let f : Form = name (p .first) in
+        let g : Form = name (p .second) in
+        rw (form-two p s)
+        (omega (arith, length-row (two h f g), length-two h f g, letters-few h, length-name (p .first) x, length-name (p .second) y))
+    go Scaled s =
+        let f : Form = name (p .first) in
+        rw (form-scaled p s)
+        (omega (
+          arith,
+          length-row (scaled h f (p .number)),
+          length-scaled h f (p .number),
+          letters-few h,
+          length-name (p .first) x,
+          length-word (p .number) n,
+        ))

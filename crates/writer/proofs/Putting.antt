@@ -3,12 +3,13 @@
 use Prim.Native.Nat.{ℕ, suc, _+_, _-_, _≤_, _<_}
 use mathlib.Core.Path.{_≡_, refl, sym, ap, _∙_}
 use mathlib.Core.List.{List, [], _∷_, _++_, append-assoc, append-nil}
-use native.Mathlib.Nat.{add-assoc, add-zero}
+use native.Mathlib.Nat.{add-assoc, add-zero, zero-add}
 use native.Mathlib.Numerals.{add-one}
 use native.Mathlib.Omega.{arith}
 use lib.ListN.{length, getD, take, drop, set, length-append, length-drop, length-set, take-append-drop}
 use lib.Seq.{length-take-le, take-at, drop-append-add, drop-drop, take-suc, set-split, drop-cons, take-set-le, drop-set-lt, getD-set-same}
-use lib.Seq.{take-length}
+use lib.Seq.{take-length, take-append-seam}
+use Rattle.protocol.specs.Send.{overwrite}
 use Rattle.writer.specs.Code.{over, Put}
 
 module _ (text : List ℕ) (at : ℕ) where
@@ -58,6 +59,19 @@ over-last text at xs b h =
     behind =
         drop-cons (set text (at + length xs) b) (at + length xs) 0 (rw length-set h)
         ∙ rw (getD-set-same text (at + length xs) b 0 h, drop-set-lt (suc (at + length xs)) text (at + length xs) b (omega arith))
+
+-- from the start -------------------------------------------------------------------------------------------------------
+
+-- what was put, as it is lent
+pub put-front : {before later bytes : List ℕ} {to : ℕ} → Put before later 0 to bytes → take (to - 0) (drop 0 later) ≡ bytes
+unfolding over
+put-front {before} {later} {bytes} {to} p =
+    let e : to - 0 ≡ length bytes = omega (arith, p .ends) in
+    rw (e, p .holds) (take-append-seam bytes (drop (0 + length bytes) before))
+
+pub over-start : (text bytes : List ℕ) → over text 0 bytes ≡ overwrite bytes text
+unfolding over overwrite
+over-start text bytes = rw zero-add
 
 -- what is put in two goes ------------------------------------------------------------------------------------------------
 

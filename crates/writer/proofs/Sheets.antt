@@ -1,13 +1,12 @@
--- The rows of a circuit one after another: how many bytes they have, and that they are put; what the writer answers.
+-- The rows of a circuit one after another: that they are put, and handed over; what the writer answers.
 -- Assumes nothing.
-use Prim.Native.Nat.{ℕ, _+_, _*_, _/_, _≤_, _<_}
-use mathlib.Core.Path.{_≡_, refl, sym, ap, _∙_}
+use Prim.Native.Nat.{ℕ, _+_, _-_, _*_, _/_, _≤_, _<_}
+use mathlib.Core.Path.{_≡_, refl, sym, _∙_}
 use mathlib.Core.List.{List, _++_}
-use native.Mathlib.Nat.{zero-add}
 use native.Mathlib.Numerals.{add-one}
 use native.Mathlib.Omega.{arith}
 use lib.Dec.{leb}
-use lib.ListN.{length, length-append}
+use lib.ListN.{length, take, drop, length-append}
 use borrow.Author.Tests.{le-leb, lt-leb}
 use Rattle.field.specs.Words.{size}
 use Rattle.circuit.specs.Gate.{gateSize, gates}
@@ -23,9 +22,12 @@ use Rattle.protocol.specs.Entry.{leave}
 use Rattle.forms.specs.Form.{Form, printRows}
 use Rattle.forms.specs.Entry as E
 use Rattle.forms.specs.Entry.{answer, rowOf, rowsUpTo, rowsOf, sheetOf, askWrite, writeAnswer, writeText}
-use Rattle.forms.proofs.Lengths.{print-more, print-grows}
-use Rattle.writer.specs.Code.{over, Put, Counts, rowText}
-use Rattle.writer.proofs.Putting.{over-nothing, next-fits, put-next}
+use Rattle.forms.proofs.Lengths.{print-more}
+use Rattle.forms.specs.Code.{answerOf}
+use Rattle.forms.specs.declared.Answer.{Answer}
+use Rattle.forms.specs.declared.Answer.the-variants as A
+use Rattle.writer.specs.Code.{Put, rowText, rowRoom, askRoom, Handed}
+use Rattle.writer.proofs.Putting.{over-nothing, put-next, put-front, over-start}
 
 -- the sheet of the first k gates
 abbrev pub upTo : List ℕ → ℕ → List ℕ
@@ -35,65 +37,74 @@ row-more : (c : List ℕ) (j : ℕ) → upTo c (j + 1) ≡ upTo c j ++ rowText (
 unfolding rowText
 row-more c j = rw add-one (print-more c j)
 
--- counted ---------------------------------------------------------------------------------------------------------------
-
--- the bytes of the first j gates are counted
-pub record Summed (c : List ℕ) (count j total : ℕ) : Type 0 where
-  pub upto : j ≤ count
-  pub counted : total ≡ length (upTo c j)
-  pub small : total ≤ 66 * j
-
-module _ (c : List ℕ) (count : ℕ) where
-  pub summed-none : Summed c count 0 0
-  unfolding printRows rowsUpTo
-  summed-none = record { upto = omega arith; counted = refl; small = omega arith }
-
-  pub summed-more : {j total k : ℕ} (f : Form) → Summed c count j total → j < count → f ≡ rowOf c j → Counts (rowText f) 66 k
-      → Summed c count (j + 1) (total + k)
-  summed-more {j} f s h e k = record {
-    upto = omega arith;
-    counted =
-        let a : length (upTo c (j + 1)) ≡ length (upTo c j) + length (rowText (rowOf c j)) =
-        rw (row-more c j) (length-append (upTo c j) (rowText (rowOf c j))) in
-        omega (arith, s .counted, a, k .counted, ap (λ g. length (rowText g)) e);
-    small = omega (arith, s .small, k .small);
-  }
-
-  pub summed-all : {j total : ℕ} → Summed c count j total → count ≤ j → total ≡ length (upTo c count)
-  summed-all {j} s h = let e : j ≡ count = omega (arith, s .upto) in rw (sym e) (s .counted)
-
 -- put -------------------------------------------------------------------------------------------------------------------
 
 -- the first j gates are put over a text, as far as place at
 pub record Rowed (c : List ℕ) (count : ℕ) (before text : List ℕ) (j at : ℕ) : Type 0 where
   pub upto : j ≤ count
+  pub few : at ≤ rowRoom * j
   pub long : length text ≡ length before
   pub put : Put before text 0 at (upTo c j)
 
 module _ (c : List ℕ) (count : ℕ) (before : List ℕ) where
   pub rowed-none : Rowed c count before before 0 0
   unfolding printRows rowsUpTo
-  rowed-none = record { upto = omega arith; long = refl; put = record { ends = refl; holds = sym (over-nothing before 0) } }
+  rowed-none = record {
+    upto = omega arith;
+    few = omega arith;
+    long = refl;
+    put = record { ends = refl; holds = sym (over-nothing before 0) };
+  }
 
-  module _ (fits : length (upTo c count) ≤ length before) {text : List ℕ} {j at : ℕ} (s : Rowed c count before text j at) where
-    all-fits : j < count → 0 + length (upTo c j ++ rowText (rowOf c j)) ≤ length before
-    all-fits h = rw (sym (row-more c j)) (omega (arith, print-grows c (j + 1) count (omega arith)))
+  module _ (fits : rowRoom * count ≤ length before) {text : List ℕ} {j at : ℕ} (s : Rowed c count before text j at) (h : j < count) (f : Form)
+      (e : f ≡ rowOf c j) (l : length (rowText f) ≤ rowRoom) where
+    pub rowed-fits : at + length (rowText f) ≤ length text
+    rowed-fits = omega (arith, s .few, s .long)
 
-    pub rowed-fits : j < count → (f : Form) → f ≡ rowOf c j → at + length (rowText f) ≤ length text
-    rowed-fits h f e = rw e (next-fits (upTo c j) (rowText (rowOf c j)) (all-fits h) (s .put))
+    all-fits : 0 + length (upTo c j ++ rowText f) ≤ length before
+    all-fits = omega (arith, length-append (upTo c j) (rowText f), s .put .ends, s .few)
 
-    pub rowed-more : {later : List ℕ} {to : ℕ} → j < count → (f : Form) → f ≡ rowOf c j → length later ≡ length text
-        → Put text later at to (rowText f)
+    pub rowed-more : {later : List ℕ} {to : ℕ} → length later ≡ length text → Put text later at to (rowText f)
         → Rowed c count before later (j + 1) to
-    rowed-more {later} {to} h f e l q = record {
+    rowed-more {later} {to} m q = record {
       upto = omega arith;
-      long = l ∙ s .long;
-      put = rw (row-more c j) (put-next (upTo c j) (rowText (rowOf c j)) (all-fits h) (s .put) (rw e at q));
+      few = omega (arith, s .few, q .ends);
+      long = m ∙ s .long;
+      put = rw (row-more c j, sym e) (put-next (upTo c j) (rowText f) all-fits (s .put) q);
     }
 
-    pub rowed-all : count ≤ j → text ≡ overwrite (upTo c count) before
-    unfolding over overwrite
-    rowed-all h = let e : j ≡ count = omega (arith, s .upto) in s .put .holds ∙ rw (e, zero-add)
+  pub rowed-all : {text : List ℕ} {j at : ℕ} → Rowed c count before text j at → count ≤ j → Put before text 0 at (upTo c count) ×
+      (at ≤ rowRoom * count)
+  rowed-all {text} {j} s h = let e : j ≡ count = omega (arith, s .upto) in rw (sym e) (s .put, s .few)
+
+-- handed over -----------------------------------------------------------------------------------------------------------
+
+module _ (c : List ℕ) (k : ℕ) (text : List ℕ) where
+  whole : {later : List ℕ} {count : ℕ} → count ≡ length (upTo c k) → count ≤ length text → later ≡ overwrite (upTo c k) text
+      → Handed c k text later (A.Done count)
+  unfolding askRoom answer leave answerOf
+  whole e h w =
+      let r = ask-yes 18 0 (le-leb (length (upTo c k)) (length text) (omega (arith, e))) in
+      record { answers = rw (r, e); leaves = rw r w }
+
+  -- the rows were put over a list
+  module _ {own sheet : List ℕ} {count : ℕ} (s : Put own sheet 0 count (upTo c k)) where
+    rows-size : count ≡ length (upTo c k)
+    rows-size = omega (arith, s .ends)
+
+    pub short-handed : length text < count → Handed c k text text (A.Refusal 18 0)
+    unfolding askRoom answer leave answerOf
+    short-handed h =
+        let r = ask-no 18 0 (lt-leb (length (upTo c k)) (length text) (omega (arith, rows-size))) in
+        record { answers = rw r; leaves = rw r }
+
+    pub rows-handed : count ≤ length text → {later : List ℕ} {to : ℕ} → Put text later 0 to (take (count - 0) (drop 0 sheet))
+        → Handed c k text later (A.Done count)
+    rows-handed h p = whole rows-size h (p .holds ∙ rw (put-front s) (over-start text (upTo c k)))
+
+  -- or over the text itself
+  pub rows-put : {later : List ℕ} {count : ℕ} → Put text later 0 count (upTo c k) → count ≤ length text → Handed c k text later (A.Done count)
+  rows-put s h = whole (rows-size s) h (s .holds ∙ over-start text (upTo c k))
 
 -- answered --------------------------------------------------------------------------------------------------------------
 
@@ -125,24 +136,10 @@ module _ (n : ℕ) (c text : List ℕ) where
     unfolding gates
     gates-few = accepted .few
 
-    asked : askWrite n size c (length text) ≡ ask 18 0 (leb (length (sheetOf c)) (length text))
+    asked : askWrite n size c (length text) ≡ askRoom c (length c / gateSize) (length text)
+    unfolding askRoom sheetOf rowsOf gates
     asked = asks (length text) ∙ then-passed (ask 18 0 (leb (length (sheetOf c)) (length text))) (sym e)
 
-    -- the bytes of the sheet, as the code counts them
-    module _ {count : ℕ} (s : count ≡ length (upTo c (length c / gateSize))) where
-      sheet-size : count ≡ length (sheetOf c)
-      unfolding sheetOf rowsOf gates
-      sheet-size = s
-
-      pub short-refused : length text < count → Written n c text (E.Refusal 18 0) text
-      unfolding writeAnswer writeText answer leave
-      short-refused h =
-          let r = asked ∙ ask-no 18 0 (lt-leb (length (sheetOf c)) (length text) (omega (arith, sheet-size))) in
-          (rw r, rw r)
-
-      pub sheet-written : count ≤ length text → (later : List ℕ) → later ≡ overwrite (upTo c (length c / gateSize)) text
-          → Written n c text (E.Done count) later
-      unfolding writeAnswer writeText answer leave sheetOf rowsOf gates
-      sheet-written h later w =
-          let r = asked ∙ ask-yes 18 0 (le-leb (length (sheetOf c)) (length text) (omega (arith, sheet-size))) in
-          (rw (r, s), rw r w)
+    pub handed-written : (r : Answer) {later : List ℕ} → Handed c (length c / gateSize) text later r → Written n c text (answerOf r) later
+    unfolding writeAnswer writeText sheetOf rowsOf gates
+    handed-written r h = (rw asked (h .answers), rw asked (h .leaves))

@@ -12,7 +12,7 @@ ghost use Rattle.circuit.specs.Gate.{gateSize};
 ghost use Rattle.circuit.specs.Code.{roleOf};
 ghost use Rattle.forms.specs.Words.{shapeOf};
 ghost use Rattle.forms.specs.Entry.{headOf, counted, numberOf, rowOf};
-ghost use Rattle.writer.specs.Code.{formIn};
+ghost use Rattle.writer.specs.Code.{formIn, rowText, rowRoom};
 
 const KIND_IN: Word = 1;
 
@@ -72,7 +72,7 @@ fn number_of(h: Head, first: Word, second: Word, constant: Word) -> usize
 // What the row of gate j is made of.
 pub fn parts_at(c: &[Word], j: usize) -> Parts
     requires { ⌜ gateSize * j + gateSize ≤ length (now c) ⌝ }
-    ensures { λ r. ⌜ formIn r ≡ rowOf (now (c .entry)) j ⌝ }
+    ensures { λ r. ⌜ (formIn r ≡ rowOf (now (c .entry)) j) × (length (rowText (formIn r)) ≤ rowRoom) ⌝ }
 {
     let at = reading::GATE_SIZE * j;
     let head = head_of(c[at]);

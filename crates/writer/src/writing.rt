@@ -6,15 +6,13 @@ use field::Word;
 use forms::Head;
 use forms::Sort;
 use tokens::table;
-ghost use mathlib.Core.Path.{_≡_};
 ghost use mathlib.Core.List.{[], _∷_, _++_};
 ghost use Prim.Native.Nat.{_+_, _*_, _≤_, _<_};
 ghost use lib.ListN.{length};
 ghost use Rattle.circuit.specs.Gate.{gateSize};
-ghost use Rattle.protocol.specs.Send.{overwrite};
 ghost use Rattle.forms.specs.Form.{leaf, one, two, scaled, space, begin, print, printRows, decimal};
 ghost use Rattle.forms.specs.Entry.{name, rowsUpTo};
-ghost use Rattle.writer.specs.Code.{Put, formIn, rowText};
+ghost use Rattle.writer.specs.Code.{Put, formIn, rowText, rowRoom};
 
 const NAUGHT: u8 = b'0';
 
@@ -26,7 +24,7 @@ fn put_byte(text: &mut [u8], at: usize, b: u8) -> usize
     at + 1
 }
 
-fn put_bytes(text: &mut [u8], at: usize, bytes: &[u8]) -> usize
+pub fn put_bytes(text: &mut [u8], at: usize, bytes: &[u8]) -> usize
     requires { ⌜ at + length (now bytes) ≤ length (now text) ⌝ }
     ensures { λ r. ⌜ Put (now (text .entry)) (now (text .exit)) at r (now (bytes .entry)) ⌝ }
 {
@@ -147,9 +145,9 @@ fn put_row(text: &mut [u8], at: usize, p: Parts) -> usize
 }
 
 // The first count gates as rows.
-pub fn put_rows(text: &mut [u8], c: &[Word], count: usize)
-    requires { ⌜ (gateSize * count ≤ length (now c)) × (length (printRows (rowsUpTo (now c) count)) ≤ length (now text)) ⌝ }
-    ensures { λ r. ⌜ now (text .exit) ≡ overwrite (printRows (rowsUpTo (now (c .entry)) count)) (now (text .entry)) ⌝ }
+pub fn put_rows(text: &mut [u8], c: &[Word], count: usize) -> usize
+    requires { ⌜ (gateSize * count ≤ length (now c)) × (rowRoom * count ≤ length (now text)) ⌝ }
+    ensures { λ r. ⌜ Put (now (text .entry)) (now (text .exit)) 0 r (printRows (rowsUpTo (now (c .entry)) count)) × (r ≤ rowRoom * count) ⌝ }
 {
     let mut at = 0;
     let mut j = 0;
@@ -157,4 +155,5 @@ pub fn put_rows(text: &mut [u8], c: &[Word], count: usize)
         at = put_row(text, at, rows::parts_at(c, j));
         j += 1;
     }
+    at
 }

@@ -19,19 +19,22 @@ parts-at-requires : tie.Need-parts-at-requires Inv-loop μ-loop
 parts-at-requires c κs = search needs
 
 put-row-requires : tie.Need-put-row-requires Inv-loop μ-loop
-put-row-requires c κs = rowed-fits _ _ _ (c .before .before .before .before .before .before .pre .1) (c .before .before .before .loop .inv) (c
-    .before .before .loop-test .taken) _ (c .parts-at .ensures)
+put-row-requires c κs =
+    let e = c .parts-at .ensures in rowed-fits _ _ _ (c .before .before .before .before .before .before .pre .1)
+    (c .before .before .before .loop .inv) (c .before .before .loop-test .taken) _ (e .0) (e .1)
 
 loop-again : tie.Need-loop-again Inv-loop μ-loop
-loop-again c = rowed-more _ _ _ (c .before .before .before .before .before .before .before .before .before .pre .1) (c .before .before .before
-    .before .before .before .loop .inv) (c .before .before .before .before .before .loop-test .taken) _ (c .before .before .before .parts-at
-    .ensures) (search needs) (c .before .before .put-row .ensures)
+loop-again c =
+    let e = c .before .before .before .parts-at .ensures in
+    rowed-more _ _ _ (c .before .before .before .before .before .before .before .before .before .pre .1)
+    (c .before .before .before .before .before .before .loop .inv) (c .before .before .before .before .before .loop-test .taken) _ (e .0) (e .1)
+    (search needs) (c .before .before .put-row .ensures)
 
 same-length : tie.Need-same-length Inv-loop μ-loop
 same-length c = c .before .loop .inv .long
 
 returns : tie.Need-returns Inv-loop μ-loop
-returns c = rowed-all _ _ _ (c .before .before .before .before .pre .1) (c .before .loop .inv) (c .loop-test .left)
+returns c = rowed-all _ _ _ (c .before .loop .inv) (c .loop-test .left)
 
 pub put-rows-spec : {M : Type 1} → statement M
 put-rows-spec =
