@@ -3,3 +3,4 @@ pub mod Lending
 pub mod Accepted
 pub mod Halves
 pub mod Answers
+pub mod Slots

@@ -284,11 +284,19 @@ fn ask_slot(c: &[Word], l: &[Word], y: Layout, sort: Sort, t: usize) -> Verdict
     Verdict::Accepted
 }
 
-// Question 15 of the slots of one sort below k.
+// Question 15 of the slots of one sort below k, which stand side by side. Where all their numbers are elements, none is looked at alone.
 fn ask_slots(c: &[Word], l: &[Word], y: Layout, k: usize, sort: Sort) -> Verdict
     requires { ⌜ Laid (now c) (now l) y × ((t : ℕ) → t < k → Within (layout (now c)) (sortOf sort t)) ⌝ }
     ensures { λ r. ⌜ verdictOf r ≡ askSlots size (now (c .entry)) (now (l .entry)) k (wantedOf (now (c .entry)) sort) (sortOf sort) ⌝ }
 {
+    if k == 0 {
+        return Verdict::Accepted;
+    }
+    let from = protocol::offset_of(y, slot_at(sort, 0));
+    let to = from + k;
+    if all_elements(&l[from..to]) {
+        return Verdict::Accepted;
+    }
     let mut t = 0;
     while t < k {
         match ask_slot(c, l, y, sort, t) {
