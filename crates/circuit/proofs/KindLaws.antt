@@ -2,12 +2,11 @@
 -- Assumes nothing.
 use Prim.Native.Nat.{ℕ, zero, suc, _+_, _*_, _≤_}
 use mathlib.Core.Path.{_≡_, refl, ap, sym, subst, _∙_}
-use mathlib.Core.Bool.{Bool, true, false}
+use mathlib.Core.Bool.{true, false}
 use native.Mathlib.Omega.{arith}
-use lib.Dec.{eqb}
 use borrow.Author.Tests.{eqb-true, eq-eqb}
 use Rattle.circuit.specs.Gate.{Kind, In, Add, Sub, Plus, Times, Mul, Out, Gate}
-use Rattle.circuit.specs.Kind.{Class, Local, Owned, Opens, Output, Role, Unused, Party, Wire, Constant, Shape, kindShape, shape, classNumber, isClass}
+use Rattle.circuit.specs.Kind.{Class, Local, Owned, Opens, Output, Party, Wire, Shape, kindShape, shape, classNumber, isClass, isLinear, isIn, isOut, ownedBy}
 use Rattle.circuit.specs.Code.{classOf, shapeOf}
 use Rattle.circuit.specs.declared.Shape as code
 
@@ -118,6 +117,26 @@ module _ (g : Gate) where
 
   pub output-facts : shape g .class ≡ Output → OutputFacts (shape g)
   output-facts = gate-facts
+
+-- a linear gate has no record, opens nothing and is nobody's
+pub record Idle (g : Gate) : Type 0 where
+  pub prep : shape g .prep ≡ 0
+  pub openings : shape g .openings ≡ 0
+  pub no-in : isIn g ≡ false
+  pub nobody : (i : ℕ) → ownedBy i g ≡ false
+  pub no-out : isOut g ≡ false
+
+pub idle : (g : Gate) → isLinear g ≡ true → Idle g
+unfolding ownedBy
+idle g e =
+    let k : shape g .class ≡ Local = is-class Local e in
+    record {
+      prep = local-facts g k .prep;
+      openings = local-facts g k .openings;
+      no-in = local-no-in k;
+      nobody = λ i. rw (local-no-in k);
+      no-out = local-no-out k;
+    }
 
 -- the longest record, the most openings and the most words of a kind
 pub record Low (s : Shape) : Type 0 where

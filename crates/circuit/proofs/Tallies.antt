@@ -1,20 +1,24 @@
 -- A count goes on by one gate, and every count is small enough to fit.
 -- Assumes nothing.
 use Prim.Native.Nat.{ℕ, _+_, _*_, _≤_}
-use mathlib.Core.Path.{_≡_}
-use mathlib.Core.Bool.{Bool, cond}
+use mathlib.Core.Path.{_≡_, ap, sym, _∙_}
+use mathlib.Core.Bool.{Bool, true, cond}
 use mathlib.Core.List.{List}
+use native.Mathlib.Omega.{arith}
 use Rattle.circuit.specs.Gate.{gate}
-use Rattle.circuit.specs.Kind.{Owned, Output, shape, isClass, isIn, isOut, ownedBy}
+use Rattle.circuit.specs.Kind.{Local, Owned, Output, shape, isClass, isIn, isOut, ownedBy}
 use Rattle.circuit.specs.Count as N
 use Rattle.circuit.specs.Round.{classRounds, shapeWords, coefficientsIn, overRounds}
 use Rattle.circuit.specs.Code.{classOf, shapeOf, Tallied, Totalled}
 use Rattle.circuit.specs.declared.Shape.{Shape}
 use Rattle.circuit.specs.declared.Tally.{Tally}
 use Rattle.circuit.specs.declared.Totals.{Totals}
-use Rattle.circuit.proofs.KindLaws.{shape-class, shape-prep, shape-openings}
-use Rattle.circuit.proofs.Counts.{prep-more, prep-le, openings-more, openings-le, unchecked-more, unchecked-few, input-more, input-le, count-more, count-le}
-use Rattle.circuit.proofs.RoundLaws.{words-more, words-run-le, coefficients-more, coefficients-run-le}
+use Rattle.circuit.proofs.KindLaws.{is-class, Idle, idle, shape-class, shape-prep, shape-openings}
+use Rattle.circuit.proofs.Counts.{prep-more, prep-le, openings-more, openings-le, unchecked-valued, unchecked-more, unchecked-few, input-more, input-le, count-more, count-le}
+use Rattle.circuit.proofs.RoundLaws.{words-local, words-more, words-run-le, coefficients-local, coefficients-more, coefficients-run-le}
+
+idle-shape : (c : List ℕ) (j : ℕ) (s : Shape) → shapeOf s ≡ shape (gate c j) → isClass Local (classOf (s .class)) ≡ true → Idle (gate c j)
+idle-shape c j s said e = idle (gate c j) (ap (isClass Local) (sym (shape-class s (gate c j .kind) said)) ∙ e)
 
 module _ {c : List ℕ} {i j : ℕ} {t : Tally} (was : Tallied c i j t) where
   pub tally-low : (t .prep ≤ 1 + 6 * j) × (t .openings ≤ 2 * j) × (t .unchecked ≤ 2 * j) × (t .inputs ≤ j)
@@ -33,6 +37,18 @@ module _ {c : List ℕ} {i j : ℕ} {t : Tally} (was : Tallied c i j t) where
         openings = cc (was .openings, shape-openings s (gate c j .kind) said, openings-more c j);
         unchecked = cc (was .unchecked, unchecked-more c j);
         inputs = cc (was .inputs, input-more c i j);
+      }
+
+  -- a linear gate counts nothing
+  pub tally-kept : (s : Shape) → shapeOf s ≡ shape (gate c j) → isClass Local (classOf (s .class)) ≡ true → Tallied c i (j + 1) t
+  tally-kept s said e =
+      let q = idle-shape c j s said e in
+      let nobody : _≡_ {A = ℕ} (cond (ownedBy i (gate c j)) 1 0) 0 = rw (q .nobody i) in
+      record {
+        prep = omega (arith, was .prep, prep-more c j, q .prep);
+        openings = omega (arith, was .openings, openings-more c j, q .openings);
+        unchecked = omega (arith, was .unchecked, unchecked-more c j, unchecked-valued (shape (gate c j)) (N.unchecked c j) (q .no-out), q .openings);
+        inputs = omega (arith, was .inputs, input-more c i j, nobody);
       }
 
 module _ {c : List ℕ} {j : ℕ} {t : Totals} (was : Totalled c j t) where
@@ -59,4 +75,21 @@ module _ {c : List ℕ} {j : ℕ} {t : Totals} (was : Totalled c j t) where
         outs = cc (was .outs, count-more isOut c j);
         words = cc (was .words, words-more c j);
         coefficients = cc (was .coefficients, coefficients-more c j);
+      }
+
+  pub totals-kept : (s : Shape) → shapeOf s ≡ shape (gate c j) → isClass Local (classOf (s .class)) ≡ true → Totalled c (j + 1) t
+  totals-kept s said e =
+      let q = idle-shape c j s said e in
+      let k : shape (gate c j) .class ≡ Local = sym (shape-class s (gate c j .kind) said) ∙ is-class Local e in
+      let no-in : _≡_ {A = ℕ} (cond (isIn (gate c j)) 1 0) 0 = rw (q .no-in) in
+      let no-out : _≡_ {A = ℕ} (cond (isOut (gate c j)) 1 0) 0 = rw (q .no-out) in
+      let no-words : overRounds (shapeWords (shape (gate c j))) (classRounds (N.unchecked c j) (shape (gate c j) .class)) ≡ 0 = rw k (words-local _ _) in
+      let no-coefficients : overRounds (coefficientsIn (N.unchecked c j)) (classRounds (N.unchecked c j) (shape (gate c j) .class)) ≡ 0 = rw k (coefficients-local _) in
+      record {
+        prep = omega (arith, was .prep, prep-more c j, q .prep);
+        openings = omega (arith, was .openings, openings-more c j, q .openings);
+        ins = omega (arith, was .ins, count-more isIn c j, no-in);
+        outs = omega (arith, was .outs, count-more isOut c j, no-out);
+        words = omega (arith, was .words, words-more c j, no-words);
+        coefficients = omega (arith, was .coefficients, coefficients-more c j, no-coefficients);
       }

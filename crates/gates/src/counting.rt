@@ -27,12 +27,16 @@ fn owned_by(s: Shape, c: &[Word], i: usize, j: usize) -> bool
     false
 }
 
-// The count of party i goes on by gate j.
+// The count of party i goes on by gate j. A linear gate counts nothing.
 pub fn tally_gate(c: &[Word], i: usize, j: usize, t: Tally) -> Tally
     requires { ⌜ (gateSize * j + gateSize ≤ length (now c)) × (j < mostGates) × Tallied (now c) i j t ⌝ }
     ensures { λ r. ⌜ Tallied (now (c .entry)) i (j + 1) r ⌝ }
 {
     let s = reading::shape_at(c, j);
+    let class = s.class;
+    if shapes::is_linear(class) {
+        return t;
+    }
     Tally {
         prep: t.prep + s.prep,
         openings: t.openings + s.openings,
@@ -55,12 +59,15 @@ pub fn tally_between(c: &[Word], i: usize, from: usize, to: usize, start: Tally)
     t
 }
 
-// The totals go on by gate j, which has that shape and before which that many entries wait for a check.
+// The totals go on by gate j, which has that shape and before which that many entries wait for a check. A linear gate counts nothing.
 fn total_gate(c: &[Word], j: usize, s: Shape, waiting: usize, t: Totals) -> Totals
     requires { ⌜ (shapeOf s ≡ shape (gate (now c) j)) × (j < mostGates) × (waiting ≡ unchecked (now c) j) × Totalled (now c) j t ⌝ }
     ensures { λ r. ⌜ Totalled (now (c .entry)) (j + 1) r ⌝ }
 {
     let class = s.class;
+    if shapes::is_linear(class) {
+        return t;
+    }
     Totals {
         prep: t.prep + s.prep,
         openings: t.openings + s.openings,

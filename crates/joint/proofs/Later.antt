@@ -10,32 +10,19 @@ use native.Mathlib.Numerals.{add-one}
 use native.Mathlib.Omega.{arith}
 use Rattle.algebra.specs.Ops.{Ops}
 use Rattle.circuit.specs.Gate.{Gate, gate, gates}
-use Rattle.circuit.specs.Kind.{Local, isOut, isLinear, ownedBy, shape}
+use Rattle.circuit.specs.Kind.{isOut, isLinear, ownedBy, shape}
 use Rattle.circuit.specs.Count.{total, count, prepAt, inputAt, unchecked}
 use Rattle.circuit.specs.Round.{Round}
 use Rattle.circuit.specs.Valid.{Valid}
 use Rattle.circuit.specs.Code.{Tallied}
 use Rattle.circuit.specs.declared.Tally.{Tally}
 use Rattle.circuit.proofs.Counts.{total-mono}
-use Rattle.circuit.proofs.KindLaws.{is-class, local-no-in, local-no-out, local-facts}
+use Rattle.circuit.proofs.KindLaws.{Idle, idle}
 use Rattle.protocol.specs.Position.{Point, finished, aborted, reach, resume, follow}
 use Rattle.protocol.specs.Receive.{passes, next}
 use Rattle.protocol.proofs.Following.{unchecked-reach}
 use Rattle.protocol.proofs.Points.{Reached, reached, Entered, ended, begun, entered, Followed, stays, leaves, followed}
 use Rattle.joint.specs.Code.{Onward, Placed}
-
--- A linear gate has no record, opens nothing and is nobody's.
-record Idle (g : Gate) : Type 0 where
-  pub prep : shape g .prep ≡ 0
-  pub openings : shape g .openings ≡ 0
-  pub nobody : (i : ℕ) → ownedBy i g ≡ false
-  pub no-out : isOut g ≡ false
-
-idle : (g : Gate) → isLinear g ≡ true → Idle g
-unfolding ownedBy
-idle g e =
-    let k : shape g .class ≡ Local = is-class Local e in
-    record { prep = local-facts g k .prep; openings = local-facts g k .openings; nobody = λ i. rw (local-no-in k); no-out = local-no-out k }
 
 module _ (c : List ℕ) where
   -- So a sum to which such gates add nothing passes over them.
