@@ -1,17 +1,19 @@
 -- What an accepted circuit's gates are: which gates are there, what they name, and how it starts.
 -- Assumes nothing.
-use Prim.Native.Nat.{ℕ, _+_, _*_, _<_, _≤_}
+use Prim.Native.Nat.{ℕ, zero, suc, _+_, _*_, _<_, _≤_}
 use mathlib.Core.Path.{_≡_, refl, subst}
+use mathlib.Core.Bool.{true, false, not}
 use mathlib.Core.List.{List}
 use native.Mathlib.Nat.{not-suc-le-zero}
 use native.Mathlib.Omega.{arith}
 use lib.ListN.{length, List·getD-eq-default}
-use lib.Dec.{eqb}
-use borrow.Author.Tests.{eqb-true}
-use Rattle.circuit.specs.Gate.{gateSize, Kind, decode, Out, Gate, gateOf, entry, gate, gates}
-use Rattle.circuit.specs.Kind.{Class, Local, Owned, Opens, Output, Role, Wire, shape, factor}
+use lib.Dec.{eqb, leb}
+use borrow.Author.Tests.{eqb-true, leb-true}
+use Rattle.circuit.specs.Gate.{gateSize, Kind, kindOut, firstKind, lastKind, decode, Out, Gate, gateOf, entry, gate, gates}
+use Rattle.circuit.specs.Kind.{Class, Local, Owned, Opens, Output, Role, kindShape, isClass, shape, factor}
+use Rattle.circuit.specs.Accept.{isKind}
 use Rattle.circuit.specs.Valid.{Ref, Fits, Valid}
-use Rattle.circuit.proofs.Tests.{by-cases}
+use Rattle.circuit.proofs.Tests.{by-cases, both-right, false-no}
 use Rattle.circuit.proofs.KindLaws.{gate-facts}
 
 -- past the end stands an out gate
@@ -20,6 +22,23 @@ unfolding gate entry decode
 gate-past c j h =
     let kind : length c ≤ gateSize * j + 0 = omega arith in
     rw (List·getD-eq-default c 0 kind)
+
+kind-high : (k : ℕ) → isKind k ≡ true → k ≤ lastKind
+unfolding isKind
+kind-high k e = leb-true k lastKind (both-right (leb firstKind k) (leb k lastKind) e)
+
+-- of a kind's number, one is the number of a kind without a value
+pub kind-valued : (k : ℕ) → isKind k ≡ true → not (eqb k kindOut) ≡ not (isClass Output (kindShape (decode k) .class))
+unfolding isKind decode kindShape isClass
+kind-valued zero e = false-no e
+kind-valued (suc zero) e = refl
+kind-valued (suc (suc zero)) e = refl
+kind-valued (suc (suc (suc zero))) e = refl
+kind-valued (suc (suc (suc (suc zero)))) e = refl
+kind-valued (suc (suc (suc (suc (suc zero))))) e = refl
+kind-valued (suc (suc (suc (suc (suc (suc zero)))))) e = refl
+kind-valued (suc (suc (suc (suc (suc (suc (suc zero))))))) e = refl
+kind-valued (suc (suc (suc (suc (suc (suc (suc (suc k)))))))) e = absurd (omega (arith, kind-high (suc (suc (suc (suc (suc (suc (suc (suc k)))))))) e))
 
 module _ {n q : ℕ} {c : List ℕ} (v : Valid n q c) where
   -- what gate j names first and second, by what the numbers are for

@@ -3,7 +3,7 @@
 -- Assumes nothing.
 use Prim.Native.Nat.{ℕ, zero, suc, _%_, _<_}
 use mathlib.Core.Path.{_≡_, refl}
-use mathlib.Core.Bool.{Bool, true, false, cond, _&&_}
+use mathlib.Core.Bool.{true, _&&_}
 use mathlib.Core.List.{List}
 use native.Mathlib.Omega.{arith}
 use lib.ListN.{length}
@@ -67,7 +67,7 @@ module _ (n q : ℕ) (c : List ℕ) (j : ℕ) where
     unfolding askGate
     names-rests = then-right (ask 4 j (isKind (entry c j 0))) _ e
 
-    is-kind : isKind (entry c j 0) ≡ true
+    pub is-kind : isKind (entry c j 0) ≡ true
     unfolding askGate
     is-kind = ask-true 4 j _ (then-left (ask 4 j (isKind (entry c j 0))) (each 3 (askName n q c j) then each 3 (askRest n q c j)) e)
 

@@ -4,8 +4,10 @@ use crate::Kind;
 use crate::Role;
 use crate::Shape;
 ghost use mathlib.Core.Path.{_≡_};
+ghost use mathlib.Core.Bool.{true, not};
 ghost use Rattle.circuit.specs.Gate.{decode};
 ghost use Rattle.circuit.specs.Kind.{Local, Owned, Opens, Output, Wire, kindShape, classNumber, isClass, role};
+ghost use Rattle.circuit.specs.Accept.{isKind};
 ghost use Rattle.circuit.specs.Code.{kindOf, classOf, roleOf, shapeOf};
 
 const KIND_IN: usize = 1;
@@ -19,6 +21,8 @@ const KIND_PLUS: usize = 4;
 const KIND_TIMES: usize = 5;
 
 const KIND_MUL: usize = 6;
+
+const KIND_OUT: usize = 7;
 
 const LOCAL: usize = 0;
 
@@ -104,6 +108,14 @@ pub fn shape_of(kind: Kind) -> Shape
             constant: Role::Unused,
         },
     }
+}
+
+// Has a gate of this kind a value? The number is a kind.
+pub fn has_value(number: usize) -> bool
+    requires { ⌜ isKind number ≡ true ⌝ }
+    ensures { λ r. ⌜ r ≡ not (isClass Output (kindShape (decode number) .class)) ⌝ }
+{
+    number != KIND_OUT
 }
 
 fn class_number(class: Class) -> usize

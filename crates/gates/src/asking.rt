@@ -5,10 +5,11 @@ use circuit::Verdict;
 use circuit::shapes;
 use field::Word;
 ghost use mathlib.Core.Path.{_≡_};
-ghost use Prim.Native.Nat.{_*_, _≤_};
+ghost use mathlib.Core.Bool.{true};
+ghost use Prim.Native.Nat.{ℕ, _*_, _<_, _≤_};
 ghost use lib.ListN.{length};
 ghost use Rattle.circuit.specs.Verdict.{each};
-ghost use Rattle.circuit.specs.Gate.{gateSize};
+ghost use Rattle.circuit.specs.Gate.{gateSize, entry};
 ghost use Rattle.circuit.specs.Accept.{mostGates, isKind, mayName, nameOk, restOk, askGate, askCircuit};
 ghost use Rattle.circuit.specs.Code.{verdictOf, roleOf};
 
@@ -35,20 +36,21 @@ fn is_kind(number: usize) -> bool
     number <= LAST_KIND
 }
 
-// May gate j name gate x?
+// May gate j name gate x? The gates before it have passed question 4.
 fn may_name(c: &[Word], j: usize, x: usize) -> bool
-    requires { ⌜ gateSize * j ≤ length (now c) ⌝ }
+    requires { ⌜ (gateSize * j ≤ length (now c)) × ((i : ℕ) → i < j → isKind (entry (now c) i 0) ≡ true) ⌝ }
     ensures { λ r. ⌜ r ≡ mayName (now (c .entry)) j x ⌝ }
 {
     if x < j {
-        return !shapes::is_out(reading::class_at(c, x));
+        let at = reading::GATE_SIZE * x;
+        return shapes::has_value(field::index(c[at]));
     }
     false
 }
 
 // Question 5 of one number.
 fn name_ok(parties: usize, c: &[Word], j: usize, x: usize, role: Role) -> bool
-    requires { ⌜ gateSize * j ≤ length (now c) ⌝ }
+    requires { ⌜ (gateSize * j ≤ length (now c)) × ((i : ℕ) → i < j → isKind (entry (now c) i 0) ≡ true) ⌝ }
     ensures { λ r. ⌜ r ≡ nameOk parties (now (c .entry)) j x (roleOf role) ⌝ }
 {
     match role {

@@ -7,8 +7,9 @@ use borrow.Author.Needs.{needs}
 use Rattle.circuit.specs.Verdict.{Accepted, each}
 use Rattle.circuit.specs.Accept.{askName, askRest, askGate}
 use Rattle.circuit.specs.Code.{verdictOf}
-use Rattle.circuit.proofs.Verdicts.{each-none, each-more, each-refused, each-done}
+use Rattle.circuit.proofs.Verdicts.{each-below, each-none, each-more, each-refused, each-done}
 use Rattle.circuit.proofs.Asking.{Numbers, numbers-start, numbers-more, name-yes, name-no, rest-yes, rest-no, gate-kind, gate-name, gate-rest, gate-ok}
+use Rattle.circuit.proofs.Valid.{is-kind}
 use Rattle.gates.proofs.asking.scan.Statement.{statement}
 use Rattle.gates.proofs.asking.scan.Tie as tie
 
@@ -56,7 +57,7 @@ index-requires-2 : tie.Need-index-requires-2 Inv-loop2 μ-loop2 Inv-loop3 μ-loo
 index-requires-2 c κs = search needs
 
 name-ok-requires : tie.Need-name-ok-requires Inv-loop2 μ-loop2 Inv-loop3 μ-loop3 Inv-loop μ-loop
-name-ok-requires c κs = search needs
+name-ok-requires c κs = (search needs, λ i l. is-kind _ _ _ i (each-below _ _ (c .before .before .before .before .before .before .before .before .before .before .before .loop .inv .1) i l))
 
 returns-2 : tie.Need-returns-2 Inv-loop2 μ-loop2 Inv-loop3 μ-loop3 Inv-loop μ-loop
 unfolding verdictOf
@@ -105,7 +106,7 @@ pub scan-spec : {M : Type 1} → statement M
 scan-spec =
     tie.close
     (tie.spec Inv-loop2 μ-loop2 Inv-loop3 μ-loop3 Inv-loop μ-loop loop-holds (λ c. search needs) (λ c. search needs) (λ c. search needs)
-        index-requires is-kind-requires returns shape-at-requires loop2-holds (λ c. search needs) role-of-requires (λ c. search needs)
-        (λ c. search needs) (λ c. search needs) (λ c. search needs) index-requires-2 name-ok-requires returns-2 (λ c. search needs) loop2-less
-        loop2-again loop3-holds (λ c. search needs) role-of-requires-2 (λ c. search needs) (λ c. search needs) (λ c. search needs) (λ c. search needs)
-        index-requires-3 rest-ok-requires returns-3 (λ c. search needs) loop3-less loop3-again (λ c. search needs) loop-less loop-again returns-4)
+    index-requires is-kind-requires returns shape-at-requires loop2-holds (λ c. search needs) role-of-requires (λ c. search needs)
+    (λ c. search needs) (λ c. search needs) (λ c. search needs) index-requires-2 name-ok-requires returns-2 (λ c. search needs) loop2-less
+    loop2-again loop3-holds (λ c. search needs) role-of-requires-2 (λ c. search needs) (λ c. search needs) (λ c. search needs) (λ c. search needs)
+    index-requires-3 rest-ok-requires returns-3 (λ c. search needs) loop3-less loop3-again (λ c. search needs) loop-less loop-again returns-4)
