@@ -8,7 +8,7 @@ use native.Mathlib.Nat.{not-suc-le-zero}
 use native.Mathlib.Omega.{arith}
 use lib.ListN.{length, List·getD-eq-default}
 use lib.Dec.{eqb, leb}
-use borrow.Author.Tests.{eqb-true, leb-true}
+use borrow.Author.Tests.{eqb-true, ne-eqb, leb-true}
 use Rattle.circuit.specs.Gate.{gateSize, Kind, kindOut, firstKind, lastKind, decode, Out, Gate, gateOf, entry, gate, gates}
 use Rattle.circuit.specs.Kind.{Class, Local, Owned, Opens, Output, Role, kindShape, isClass, shape, factor}
 use Rattle.circuit.specs.Accept.{isKind}
@@ -22,6 +22,17 @@ unfolding gate entry decode
 gate-past c j h =
     let kind : length c ≤ gateSize * j + 0 = omega arith in
     rw (List·getD-eq-default c 0 kind)
+
+-- below the last kind are the others, and above it is none
+pub no-last : (k : ℕ) → k < lastKind → eqb k lastKind ≡ false
+no-last k h = ne-eqb k lastKind (λ e. absurd (omega (arith, h, e)))
+
+pub decode-past : (k : ℕ) → lastKind < k → decode k ≡ Out
+unfolding decode
+decode-past k h = rw (other 1 (omega arith), other 2 (omega arith), other 3 (omega arith), other 4 (omega arith), other 5 (omega arith), other 6 (omega arith), other 8 (omega arith))
+  where
+    other : (m : ℕ) → m ≤ lastKind → eqb k m ≡ false
+    other m l = ne-eqb k m (λ e. absurd (omega (arith, h, l, e)))
 
 kind-high : (k : ℕ) → isKind k ≡ true → k ≤ lastKind
 unfolding isKind
@@ -38,7 +49,8 @@ kind-valued (suc (suc (suc (suc zero)))) e = refl
 kind-valued (suc (suc (suc (suc (suc zero))))) e = refl
 kind-valued (suc (suc (suc (suc (suc (suc zero)))))) e = refl
 kind-valued (suc (suc (suc (suc (suc (suc (suc zero))))))) e = refl
-kind-valued (suc (suc (suc (suc (suc (suc (suc (suc k)))))))) e = absurd (omega (arith, kind-high (suc (suc (suc (suc (suc (suc (suc (suc k)))))))) e))
+kind-valued (suc (suc (suc (suc (suc (suc (suc (suc zero)))))))) e = refl
+kind-valued (suc (suc (suc (suc (suc (suc (suc (suc (suc k))))))))) e = absurd (omega (arith, kind-high (suc (suc (suc (suc (suc (suc (suc (suc (suc k))))))))) e))
 
 module _ {n q : ℕ} {c : List ℕ} (v : Valid n q c) where
   -- what gate j names first and second, by what the numbers are for

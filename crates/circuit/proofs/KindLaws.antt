@@ -5,7 +5,7 @@ use mathlib.Core.Path.{_≡_, refl, ap, sym, subst, _∙_}
 use mathlib.Core.Bool.{true, false}
 use native.Mathlib.Omega.{arith}
 use borrow.Author.Tests.{eqb-true, eq-eqb}
-use Rattle.circuit.specs.Gate.{Kind, In, Add, Sub, Plus, Times, Mul, Out, Gate}
+use Rattle.circuit.specs.Gate.{Kind, In, Add, Sub, Plus, Times, Mul, Out, Sq, Gate}
 use Rattle.circuit.specs.Kind.{Class, Local, Owned, Opens, Output, Party, Wire, Shape, kindShape, shape, classNumber, isClass, isLinear, isIn, isOut, ownedBy}
 use Rattle.circuit.specs.Code.{classOf, shapeOf}
 use Rattle.circuit.specs.declared.Shape as code
@@ -52,6 +52,7 @@ facts Plus = record { prep = refl; openings = refl; words = refl; first = refl }
 facts Times = record { prep = refl; openings = refl; words = refl; first = refl }
 facts Mul = record { some = omega arith; few = omega arith; words = refl; prep = refl; first = refl; second = λ e. refl }
 facts Out = record { prep = refl; openings = refl; words = refl; first = refl }
+facts Sq = record { some = omega arith; few = omega arith; words = refl; prep = refl; first = refl; second = λ e. absurd (omega (arith, e)) }
 
 -- the class of a number
 classAt : ℕ → Class

@@ -16,7 +16,7 @@ fewestGates = 2
 abbrev pub mostGates : ℕ
 mostGates = 256
 
--- "is the kind 1 to 7? 4."
+-- "is the kind 1 to 7? 4."; document 02: "question 4 admits kind 8"
 unfoldable pub isKind : ℕ → Bool
 isKind kind = leb firstKind kind && leb kind lastKind
 

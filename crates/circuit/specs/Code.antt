@@ -11,7 +11,7 @@ use Rattle.circuit.specs.Round as R
 use Rattle.circuit.specs.declared.Verdict.{Verdict}
 use Rattle.circuit.specs.declared.Verdict.the-variants.{Accepted, Refused}
 use Rattle.circuit.specs.declared.Kind.{Kind}
-use Rattle.circuit.specs.declared.Kind.the-variants.{In, Add, Sub, Plus, Times, Mul, Out}
+use Rattle.circuit.specs.declared.Kind.the-variants.{In, Add, Sub, Plus, Times, Mul, Out, Sq}
 use Rattle.circuit.specs.declared.Class.{Class}
 use Rattle.circuit.specs.declared.Class.the-variants.{Local, Owned, Opens, Output}
 use Rattle.circuit.specs.declared.Role.{Role}
@@ -37,6 +37,7 @@ kindOf Plus = G.Plus
 kindOf Times = G.Times
 kindOf Mul = G.Mul
 kindOf Out = G.Out
+kindOf Sq = G.Sq
 
 abbrev pub classOf : Class → K.Class
 classOf Local = K.Local

@@ -15,16 +15,16 @@ total f c (suc j) = total f c j + f (gate c j)
 unfoldable pub count : (Gate → Bool) → List ℕ → ℕ → ℕ
 count has c j = total (λ g. cond (has g) 1 0) c j
 
--- "Material: its key share; then, in line order, three numbers for each in line .. and six for each mul line":
+-- "Material: its key share; then, in line order, three numbers for each in line .. and six for each mul line", and four for each sq line:
 -- where the record of gate j starts
 unfoldable pub prepAt : List ℕ → ℕ → ℕ
 prepAt c j = 1 + total (λ g. shape g .prep) c j
 
--- "With I in lines and M mul lines, material has 1 + 3 × I + 6 × M numbers."
+-- "With I in lines and M mul lines, material has 1 + 3 × I + 6 × M numbers", and 4 more for each sq line
 unfoldable pub prepSize : List ℕ → ℕ
 prepSize c = prepAt c (gates c)
 
--- "2M + 1 opened values": the room for opened entries
+-- "2M + 1 opened values", and one more for each sq line: the room for opened entries
 unfoldable pub capacity : List ℕ → ℕ
 capacity c = total (λ g. shape g .openings) c (gates c) + 1
 

@@ -3,7 +3,7 @@
 use Prim.Native.Nat.{ℕ}
 use mathlib.Core.Bool.{Bool, cond, not, _&&_}
 use lib.Dec.{eqb}
-use Rattle.circuit.specs.Gate.{Kind, In, Add, Sub, Plus, Times, Mul, Out, Gate}
+use Rattle.circuit.specs.Gate.{Kind, In, Add, Sub, Plus, Times, Mul, Out, Sq, Gate}
 
 -- Local: "They need no round", each party works them out by itself. Owned: one party's input. Opens: differences with the masks of a record
 -- are opened. Output: a value is opened and checked; "An out line has no value and cannot be named."
@@ -14,14 +14,15 @@ pub data Class : Type 0 where
 pub data Role : Type 0 where
   Unused Party Wire Constant : Role
 
--- what a kind reads of the preprocessing, opens and sends, and what its numbers are for
+-- what a kind reads of the preprocessing, opens and sends, and what its numbers are for. "What a line takes from the material and opens is now
+-- told by its kind, and every length and count follows."
 pub record Shape : Type 0 where
   pub class : Class
-  -- "three numbers for each in line .. and six for each mul line": the length of its record
+  -- "three numbers for each in line .. and six for each mul line"; of sq "Its record is a, MAC of a, c, MAC of c": the length of its record
   pub prep : ℕ
   -- how many values it opens that wait for the next output's first check
   pub openings : ℕ
-  -- "in, one word", "mul, two words", "show, one word": the words of a party in its own round
+  -- "in, one word", "mul, two words", "show, one word", of sq "One round of one word": the words of a party in its own round
   pub words : ℕ
   pub first : Role
   pub second : Role
@@ -39,6 +40,7 @@ kindShape Plus = shaped Local 0 0 0 Wire Unused Constant
 kindShape Times = shaped Local 0 0 0 Wire Unused Constant
 kindShape Mul = shaped Opens 6 2 2 Wire Wire Unused
 kindShape Out = shaped Output 0 0 1 Wire Unused Unused
+kindShape Sq = shaped Opens 4 1 1 Wire Unused Unused
 
 abbrev pub shape : Gate → Shape
 shape g = kindShape (g .kind)

@@ -21,7 +21,7 @@ Fits n q c j Party x = x < n
 Fits n q c j Wire x = Ref c j x
 Fits n q c j Constant x = x < q
 
--- gate j is one of the seven kinds, and each of its numbers is what it is for
+-- gate j is one of the kinds, and each of its numbers is what it is for
 pub record ValidGate (n q : ℕ) (c : List ℕ) (j : ℕ) : Type 0 where
   pub low : firstKind ≤ entry c j 0
   pub high : entry c j 0 ≤ lastKind

@@ -17,6 +17,7 @@ pub enum Kind {
     Times,
     Mul,
     Out,
+    Sq,
 }
 
 // Worked out alone; an input of one party; opens values; an output.

@@ -24,6 +24,8 @@ const KIND_MUL: usize = 6;
 
 const KIND_OUT: usize = 7;
 
+const KIND_SQ: usize = 8;
+
 const LOCAL: usize = 0;
 
 const OWNED: usize = 1;
@@ -32,27 +34,33 @@ const OPENS: usize = 2;
 
 const OUTPUT: usize = 3;
 
-// A number that is no kind counts as out.
+// A number that is no kind counts as out. The first test parts the kinds in two, so that the compiler makes no table of jumps.
 pub fn decode(number: usize) -> Kind
     ensures { λ k. ⌜ kindOf k ≡ decode number ⌝ }
 {
-    if number == KIND_IN {
-        return Kind::In;
+    if number < KIND_SQ {
+        if number == KIND_IN {
+            return Kind::In;
+        }
+        if number == KIND_ADD {
+            return Kind::Add;
+        }
+        if number == KIND_SUB {
+            return Kind::Sub;
+        }
+        if number == KIND_PLUS {
+            return Kind::Plus;
+        }
+        if number == KIND_TIMES {
+            return Kind::Times;
+        }
+        if number == KIND_MUL {
+            return Kind::Mul;
+        }
+        return Kind::Out;
     }
-    if number == KIND_ADD {
-        return Kind::Add;
-    }
-    if number == KIND_SUB {
-        return Kind::Sub;
-    }
-    if number == KIND_PLUS {
-        return Kind::Plus;
-    }
-    if number == KIND_TIMES {
-        return Kind::Times;
-    }
-    if number == KIND_MUL {
-        return Kind::Mul;
+    if number == KIND_SQ {
+        return Kind::Sq;
     }
     Kind::Out
 }
@@ -102,6 +110,15 @@ pub fn shape_of(kind: Kind) -> Shape
             class: Class::Output,
             prep: 0,
             openings: 0,
+            words: 1,
+            first: Role::Wire,
+            second: Role::Unused,
+            constant: Role::Unused,
+        },
+        Kind::Sq => Shape {
+            class: Class::Opens,
+            prep: 4,
+            openings: 1,
             words: 1,
             first: Role::Wire,
             second: Role::Unused,

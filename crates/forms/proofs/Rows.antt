@@ -13,7 +13,23 @@ use Rattle.circuit.specs.Kind.{kindShape}
 use Rattle.circuit.specs.Valid.{Ref, Fits as Meant}
 use Rattle.forms.specs.Words.{Head, Line, Sort, Leaf, One, Two, Scaled, sort, kind, names, shapeOf, valued, outer, inner, stands, line, placed}
 use Rattle.forms.specs.Form.{
-  Form, head, larger, depth, marks, named, numberFits, Fits, leaf-fits, one-fits, two-fits, scaled-fits, Follow, gatesIn, gatesInAll, wireOf, flat,
+  Form,
+  head,
+  larger,
+  depth,
+  marks,
+  named,
+  numberFits,
+  Fits,
+  leaf-fits,
+  one-fits,
+  two-fits,
+  scaled-fits,
+  Follow,
+  gatesIn,
+  gatesInAll,
+  wireOf,
+  flat,
   circuitFrom,
 }
 use Rattle.forms.specs.Entry.{picked, headOf, counted, numberOf, name, formOf}
@@ -68,7 +84,9 @@ told n q top c j (suc (suc (suc (suc (suc (suc zero)))))) x y z np qp lo hi a b 
     record { kind-is = refl; low = omega arith; operands = (a, b); line-is = numbers-are refl refl (sym d) }
 told n q top c j (suc (suc (suc (suc (suc (suc (suc zero))))))) x y z np qp lo hi a b d =
     record { kind-is = refl; low = omega arith; operands = a; line-is = numbers-are refl (sym b) (sym d) }
-told n q top c j (suc (suc (suc (suc (suc (suc (suc (suc k)))))))) x y z np qp lo hi a b d = absurd (omega arith)
+told n q top c j (suc (suc (suc (suc (suc (suc (suc (suc zero)))))))) x y z np qp lo hi a b d =
+    record { kind-is = refl; low = omega arith; operands = a; line-is = numbers-are refl (sym b) (sym d) }
+told n q top c j (suc (suc (suc (suc (suc (suc (suc (suc (suc k))))))))) x y z np qp lo hi a b d = absurd (omega arith)
 
 -- a form with names as its operands, by what follows its word ----------------------------------------------------------------
 

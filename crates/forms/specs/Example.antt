@@ -45,7 +45,7 @@ unfoldable pub reads : ℕ → List ℕ → List ℕ → Answer → List ℕ →
 reads n text lent answer after =
     record {
       does =
-        record { answer = readAnswer n prime largest text (length lent); after = readCircuit n prime largest text lent };
+          record { answer = readAnswer n prime largest text (length lent); after = readCircuit n prime largest text lent };
       told = record { answer = answer; after = after };
     }
 
@@ -112,7 +112,7 @@ table =
     ∷ refused 2 (input ++ shown ++ times 9 input ++ bytes "(out (line 1))\n") 22 95
     -- inner first, left before right
     ∷ becomes 2 (bytes "(out (mul (add (in 0) (in 1)) (sub (in 0) (in 1))))\n")
-      (1 ∷ 0 ∷ 0 ∷ 0 ∷ 1 ∷ 1 ∷ 0 ∷ 0 ∷ 2 ∷ 0 ∷ 1 ∷ 0 ∷ 1 ∷ 0 ∷ 0 ∷ 0 ∷ 1 ∷ 1 ∷ 0 ∷ 0 ∷ 3 ∷ 3 ∷ 4 ∷ 0 ∷ 6 ∷ 2 ∷ 5 ∷ 0 ∷ 7 ∷ 6 ∷ 0 ∷ 0 ∷ [])
+    (1 ∷ 0 ∷ 0 ∷ 0 ∷ 1 ∷ 1 ∷ 0 ∷ 0 ∷ 2 ∷ 0 ∷ 1 ∷ 0 ∷ 1 ∷ 0 ∷ 0 ∷ 0 ∷ 1 ∷ 1 ∷ 0 ∷ 0 ∷ 3 ∷ 3 ∷ 4 ∷ 0 ∷ 6 ∷ 2 ∷ 5 ∷ 0 ∷ 7 ∷ 6 ∷ 0 ∷ 0 ∷ [])
     -- the bracket that opens depth 17, before the end of the text
     ∷ refused 2 (times 16 (bytes "(plus ") ++ bytes "(") 23 96
     -- a (line J) counts
@@ -133,6 +133,10 @@ table =
     ∷ reads 2 short (replicate 9 blank) (Done 2) (shortCircuit ++ (blank ∷ []))
     -- the circuit before the room
     ∷ reads 2 (bytes "(in 0)\n(in 1)\n") (replicate 7 blank) (Refusal 7 0) (replicate 7 blank)
+    -- a square, inside and outermost; "(s" may become "(sub" or "(sq", and "(sq" wants its space
+    ∷ becomes 2 (bytes "(sq (sq (in 0)))\n(out (line 0))\n") (1 ∷ 0 ∷ 0 ∷ 0 ∷ 8 ∷ 0 ∷ 0 ∷ 0 ∷ 8 ∷ 1 ∷ 0 ∷ 0 ∷ 7 ∷ 2 ∷ 0 ∷ 0 ∷ [])
+    ∷ refused 2 (bytes "(so (in 0))\n") 22 2
+    ∷ refused 2 (bytes "(sq(in 0))\n") 22 3
     -- the sheet of a circuit, and room for a byte less
     ∷ writes shortCircuit (replicate 22 blank) (Done 22) short
     ∷ writes shortCircuit (replicate 21 blank) (Refusal 18 0) (replicate 21 blank)

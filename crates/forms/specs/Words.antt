@@ -4,10 +4,10 @@ use Prim.Native.Nat.{ℕ}
 use mathlib.Core.Bool.{Bool, cond, not, _||_}
 use mathlib.Core.List.{List, [], _∷_}
 use lib.Dec.{eqb}
-use Rattle.circuit.specs.Gate.{kindIn, kindAdd, kindSub, kindPlus, kindTimes, kindMul, kindOut, decode}
+use Rattle.circuit.specs.Gate.{kindIn, kindAdd, kindSub, kindPlus, kindTimes, kindMul, kindOut, kindSq, decode}
 use Rattle.circuit.specs.Kind.{Shape, kindShape, Output, isClass, Role, Unused, Party, Wire, Constant}
 pub use Rattle.forms.specs.declared.Head.{Head}
-pub use Rattle.forms.specs.declared.Head.the-variants.{In, Add, Sub, Plus, Times, Mul, Out, Line}
+pub use Rattle.forms.specs.declared.Head.the-variants.{In, Add, Sub, Plus, Times, Mul, Out, Line, Sq}
 pub use Rattle.forms.specs.declared.Sort.{Sort}
 pub use Rattle.forms.specs.declared.Sort.the-variants.{Leaf, One, Two, Scaled}
 
@@ -24,8 +24,8 @@ noKind = 0
 abbrev row : List ℕ → Sort → ℕ → Word
 row letters sort kind = record { letters = letters; sort = sort; kind = kind }
 
--- "A form is (in S), (add F F), (sub F F), (plus F K), (times F K), (mul F F), or inside another form (line J) .. An (out F)". A byte is its
--- number in ASCII
+-- "A form is (in S), (add F F), (sub F F), (plus F K), (times F K), (mul F F), or inside another form (line J) .. An (out F)"; "The sheet gains
+-- (sq F)". A byte is its number in ASCII
 abbrev pub word : Head → Word
 word In = row (105 ∷ 110 ∷ []) Leaf kindIn
 word Add = row (97 ∷ 100 ∷ 100 ∷ []) Two kindAdd
@@ -35,9 +35,10 @@ word Times = row (116 ∷ 105 ∷ 109 ∷ 101 ∷ 115 ∷ []) Scaled kindTimes
 word Mul = row (109 ∷ 117 ∷ 108 ∷ []) Two kindMul
 word Out = row (111 ∷ 117 ∷ 116 ∷ []) One kindOut
 word Line = row (108 ∷ 105 ∷ 110 ∷ 101 ∷ []) Leaf noKind
+word Sq = row (115 ∷ 113 ∷ []) One kindSq
 
 abbrev pub heads : List Head
-heads = In ∷ Add ∷ Sub ∷ Plus ∷ Times ∷ Mul ∷ Out ∷ Line ∷ []
+heads = In ∷ Add ∷ Sub ∷ Plus ∷ Times ∷ Mul ∷ Out ∷ Line ∷ Sq ∷ []
 
 abbrev pub letters : Head → List ℕ
 letters h = word h .letters

@@ -11,6 +11,7 @@ pub enum Head {
     Mul,
     Out,
     Line,
+    Sq,
 }
 
 // What follows a word: a number; a form; two forms; a form and a number.

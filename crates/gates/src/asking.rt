@@ -25,7 +25,7 @@ pub const MOST_GATES: usize = 256;
 
 const FIRST_KIND: usize = 1;
 
-const LAST_KIND: usize = 7;
+const LAST_KIND: usize = 8;
 
 fn is_kind(number: usize) -> bool
     ensures { λ r. ⌜ r ≡ isKind number ⌝ }

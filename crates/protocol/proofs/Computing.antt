@@ -16,9 +16,9 @@ use Rattle.protocol.specs.JointAsk.{askJoint}
 use Rattle.protocol.specs.JointEntry.{ended, jointly, verdict, jointAnswer, jointScratch, jointTranscript, jointOutputs}
 use Rattle.protocol.specs.Plain.{kindValue, valueOf, plainInput, values, value, scoreOf, scores}
 use Rattle.protocol.specs.Good.{recordAt, wholeKey, shareSum, macSum}
-use Rattle.protocol.specs.Formula.{openingCount, bareOuts, roundFormula}
+use Rattle.protocol.specs.Formula.{mulCount, squareCount, bareOuts, roundFormula}
 use Rattle.protocol.specs.Docket.{doubles, after₁, after₂, after₃, after₄, after₅, misheard}
 
 unfoldable pub computing : Unit {0}
-unfolding sum below partAt plus minus scale known shift product layout offset scratchSize read write wire putWire putOpened holding finished aborted begin reach enter resume start proceed follow keep whenSending whenReceiving stageOccurs mayHold occurs key recordIn recordOf inputOf overwrite inputWord masked checkShare opening ownWords sent holds heardSum afterInput putDifferences afterOpening afterOpenOutput linear afterLinear settle passes next onward ownReceived revealed received askParties askMarks askLent slotQuestion askSlots askWorked askSendRound askReceiveRound askSend askReceive answer leave openAnswer sendAnswer sendOut nextPosition outcome receiveAnswer receiveScratch joined band inputsAt party begun takes said step released still ahead run whole askJoint ended jointly verdict jointAnswer jointScratch jointTranscript jointOutputs kindValue valueOf plainInput values value scoreOf scores recordAt wholeKey shareSum macSum openingCount bareOuts roundFormula doubles after₁ after₂ after₃ after₄ after₅ misheard
+unfolding sum below partAt plus minus scale known shift product layout offset scratchSize read write wire putWire putOpened holding finished aborted begin reach enter resume start proceed follow keep whenSending whenReceiving stageOccurs mayHold occurs key recordIn recordOf inputOf overwrite inputWord masked checkShare opening ownWords sent holds heardSum afterInput putDifferences afterOpening afterOpenOutput linear afterLinear settle passes next onward ownReceived revealed received askParties askMarks askLent slotQuestion askSlots askWorked askSendRound askReceiveRound askSend askReceive answer leave openAnswer sendAnswer sendOut nextPosition outcome receiveAnswer receiveScratch joined band inputsAt party begun takes said step released still ahead run whole askJoint ended jointly verdict jointAnswer jointScratch jointTranscript jointOutputs kindValue valueOf plainInput values value scoreOf scores recordAt wholeKey shareSum macSum mulCount squareCount bareOuts roundFormula doubles after₁ after₂ after₃ after₄ after₅ misheard
 computing = tt

@@ -21,6 +21,7 @@ pub mod HeardWords
 pub mod Steps
 pub mod Readiness
 pub mod Sent
+pub mod Squares
 pub mod Received
 pub mod Keeping
 pub mod Front

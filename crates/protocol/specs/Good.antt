@@ -41,7 +41,7 @@ module _ (O : Ops) (n : ℕ) (c preps : List ℕ) where
     pub mask : Authentic j maskAt
     pub whole : getD (recordAt owner j) wholeMaskAt 0 ≡ shareSum j maskAt
 
-  -- "c is a times b", in a record of k openings
+  -- "c is a times b", in a record of k openings. Where one value is opened b is a: "when good, c is a times a"
   pub record GoodTriple (j k : ℕ) : Type 0 where
     pub mac-a : Authentic j aAt
     pub mac-b : Authentic j (bAt k)

@@ -15,6 +15,7 @@ pub mod JointAsk
 pub mod JointEntry
 pub mod Plain
 pub mod Good
+pub mod Square
 pub mod Formula
 pub mod Docket
 pub mod Holding

@@ -37,5 +37,6 @@ module _ (O : Ops) where
   shift i key x k = plus x (known i key k)
 
   -- "New share: c + E × b + D × a, and E × D more at seat 0 only. New MAC share: the same with MAC shares, and key share × E × D at every seat."
+  -- Of a square b is a and D is E (`Square.antt`)
   unfoldable pub product : ℕ → ℕ → Part → Part → Part → ℕ → ℕ → Part
   product i key a b c e d = shift i key (plus (plus c (scale e b)) (scale d a)) (mul e d)

@@ -34,8 +34,8 @@ recordOf P j = recordIn (P .circuit) (P .prep) j
 unfoldable pub inputOf : Party → ℕ → ℕ
 inputOf P j = getD (P .inputs) (inputAt (P .circuit) (P .me) j) 0
 
--- "three numbers for each in line (mask share, MAC share, whole mask) and six for each mul line (a, MAC of a, b, MAC of b, c, MAC of c)":
--- where each stands in its record
+-- "three numbers for each in line (mask share, MAC share, whole mask) and six for each mul line (a, MAC of a, b, MAC of b, c, MAC of c)"; of an
+-- sq line "Its record is a, MAC of a, c, MAC of c": where each stands in its record
 abbrev pub maskAt : ℕ
 maskAt = 0
 

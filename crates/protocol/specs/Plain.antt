@@ -5,7 +5,7 @@ use mathlib.Core.Bool.{cond}
 use mathlib.Core.List.{List, [], _∷_, _++_}
 use lib.ListN.{getD}
 use Rattle.algebra.specs.Ops.{Ops}
-use Rattle.circuit.specs.Gate.{Kind, In, Add, Sub, Plus, Times, Mul, Out, Gate, gate, gates}
+use Rattle.circuit.specs.Gate.{Kind, In, Add, Sub, Plus, Times, Mul, Out, Sq, Gate, gate, gates}
 use Rattle.circuit.specs.Kind.{isOut}
 use Rattle.protocol.specs.Party.{inputOf}
 use Rattle.protocol.specs.Joint.{Joint, party}
@@ -14,8 +14,8 @@ module _ (O : Ops) where
   open Ops O using (add, sub, mul)
 
   -- "On plain inputs, the value of an in line is its owner's input for it; of add, sub and mul the sum, difference and product of the two
-  -- named values; of plus and times the named value with the constant added or multiplied." An out gate has no value: 0 keeps its place.
-  -- vs are the values of the earlier gates
+  -- named values; of plus and times the named value with the constant added or multiplied." Of sq the product of the named
+  -- value and itself. An out gate has no value: 0 keeps its place. vs are the values of the earlier gates
   unfoldable pub kindValue : Kind → ℕ → ℕ → ℕ → ℕ → ℕ
   kindValue In input x z k = input
   kindValue Add input x z k = add x z
@@ -24,6 +24,7 @@ module _ (O : Ops) where
   kindValue Times input x z k = mul x k
   kindValue Mul input x z k = mul x z
   kindValue Out input x z k = 0
+  kindValue Sq input x z k = mul x x
 
   unfoldable pub valueOf : ℕ → List ℕ → Gate → ℕ
   valueOf input vs g = kindValue (g .kind) input (getD vs (g .first) 0) (getD vs (g .second) 0) (g .constant)

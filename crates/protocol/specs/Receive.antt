@@ -7,7 +7,7 @@ use lib.ListN.{getD}
 use lib.Dec.{eqb}
 use Rattle.algebra.specs.Ops.{Ops}
 use Rattle.algebra.specs.Sum.{sum}
-use Rattle.circuit.specs.Gate.{Kind, In, Add, Sub, Plus, Times, Mul, Out, Gate, gate, gates}
+use Rattle.circuit.specs.Gate.{Kind, In, Add, Sub, Plus, Times, Mul, Out, Sq, Gate, gate, gates}
 use Rattle.circuit.specs.Kind.{Class, Local, Owned, Opens, Output, shape, isLinear, factor}
 use Rattle.circuit.specs.Count.{unchecked}
 use Rattle.circuit.specs.Round.{Check, First, Second, Round, Own, Open, Commit, Reveal, isReveal, revealWords, words}
@@ -58,6 +58,7 @@ module _ (O : Ops) where
   linear i key Times x z k = scale O k x
   linear i key Mul x z k = x
   linear i key Out x z k = x
+  linear i key Sq x z k = x
 
   -- what is written for gate j, which is g
   unfoldable pub afterLinear : ℕ → ℕ → Layout → List ℕ → ℕ → Gate → List ℕ

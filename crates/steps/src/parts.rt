@@ -78,7 +78,7 @@ pub fn shifted(me: usize, key: Word, x: Part, k: Word) -> Part
     add(x, of_known(me, key, k))
 }
 
-// The product from a triple and the two opened differences.
+// The product from a triple and the two opened differences; of a square b is a, and both differences are one.
 pub fn multiplied(me: usize, key: Word, a: Part, b: Part, c: Part, e: Word, d: Word) -> Part
     requires { ⌜ (key < size) × Low a × Low b × Low c × (e < size) × (d < size) ⌝ }
     ensures { λ r. ⌜ IsPart (product ops me key (partOf a) (partOf b) (partOf c) e d) r ⌝ }

@@ -13,7 +13,7 @@ use protocol::Point;
 use protocol::Site;
 use protocol::Stage;
 ghost use mathlib.Core.Path.{_≡_};
-ghost use mathlib.Core.Bool.{true, false, cond};
+ghost use mathlib.Core.Bool.{true, cond};
 ghost use Prim.Native.Nat.{suc, _+_, _-_, _*_, _<_, _≤_};
 ghost use lib.ListN.{length, getD};
 ghost use Rattle.algebra.specs.Element.{Is};
@@ -201,6 +201,7 @@ pub fn after_linear(
         }
         Kind::Mul => {}
         Kind::Out => {}
+        Kind::Sq => {}
     }
 }
 

@@ -21,11 +21,11 @@ both true b h = (tt, h)
 both false b h = absurd h
 
 -- a test of all numbers of a list at once
-allBelow : ℕ → List ℕ → Bool
+unfoldable pub allBelow : ℕ → List ℕ → Bool
 allBelow q [] = true
 allBelow q (x ∷ xs) = ltb x q && allBelow q xs
 
-below : (q : ℕ) (xs : List ℕ) → T (allBelow q xs) → (k : ℕ) → k < length xs → getD xs k 0 < q
+pub below : (q : ℕ) (xs : List ℕ) → T (allBelow q xs) → (k : ℕ) → k < length xs → getD xs k 0 < q
 unfolding allBelow
 below q [] t k l = absurd (omega arith)
 below q (x ∷ xs) t zero l = ltb→lt x q (both (ltb x q) (allBelow q xs) t .0)

@@ -28,12 +28,13 @@ use Rattle.theorems.proofs.Secrecy.{secrecy-here}
 differ-at : (k : ℕ) (l m : List ℕ) → eqb (getD l k 0) (getD m k 0) ≡ false → l ≢ m
 differ-at k l m h e = eqb-false _ _ h (ap (λ (l : List ℕ). getD l k 0) e)
 
--- The two sets of inputs agree at A's party.
-agree : (i : ℕ) → i < 2 → A i ≡ true → party (plainly 2 circuit inputs₂) i .inputs ≡ party (plainly 2 circuit inputs₁) i .inputs
-unfolding computing modular plainly
-agree zero l a = false-no a
-agree (suc zero) l a = refl
-agree (suc (suc i)) l a = absurd (omega arith)
+-- Two sets of inputs that agree at party 1 agree at A's party.
+pub agree : (c x x′ : List ℕ)
+    → party (plainly 2 c x′) 1 .inputs ≡ party (plainly 2 c x) 1 .inputs
+    → (i : ℕ) → i < 2 → A i ≡ true → party (plainly 2 c x′) i .inputs ≡ party (plainly 2 c x) i .inputs
+agree c x x′ e zero l a = false-no a
+agree c x x′ e (suc zero) l a = e
+agree c x x′ e (suc (suc i)) l a = absurd (omega arith)
 
 compares : Compared modular 2 circuit A inputs₁ inputs₂
 unfolding computing modular plainly
@@ -43,7 +44,7 @@ compares =
       outside = (0, omega arith, refl);
       first = refl;
       second = refl;
-      agree = agree;
+      agree = agree circuit inputs₁ inputs₂ refl;
       equal-scores = refl;
     }
 

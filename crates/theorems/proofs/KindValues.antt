@@ -1,6 +1,6 @@
--- What each kind computes, and how many values it opens. The kinds are gone through here alone; the other proofs go by the class.
+-- What each kind computes. The kinds are gone through here alone; the other proofs go by the class.
 -- Assumes nothing.
-use Prim.Native.Nat.{ℕ, _*_, _<_}
+use Prim.Native.Nat.{ℕ, _<_}
 use mathlib.Core.Path.{_≡_, refl, subst}
 use mathlib.Core.Logic.{_⊎_, inl, inr}
 use mathlib.Core.Bool.{cond}
@@ -10,8 +10,8 @@ use lib.Dec.{eqb}
 use Rattle.algebra.specs.Ops.{Ops}
 use Rattle.algebra.specs.Field.{Field}
 use Rattle.algebra.proofs.Ring.{norm-sub}
-use Rattle.circuit.specs.Gate.{Kind, In, Add, Sub, Plus, Times, Mul, Out, Gate, gate, gates}
-use Rattle.circuit.specs.Kind.{Class, Local, Owned, Opens, Output, Wire, Unused, kindShape, shape, isClass, factor}
+use Rattle.circuit.specs.Gate.{Kind, In, Add, Sub, Plus, Times, Mul, Out, Sq, Gate, gate, gates}
+use Rattle.circuit.specs.Kind.{Class, Local, Owned, Opens, Output, Wire, Unused, kindShape, shape, factor}
 use Rattle.circuit.specs.Valid.{Ref, Valid}
 use Rattle.circuit.proofs.Tests.{by-cases}
 use Rattle.circuit.proofs.KindLaws.{owned-no-out}
@@ -20,17 +20,6 @@ use Rattle.protocol.specs.Part.{Part, plus, minus, scale, shift}
 use Rattle.protocol.specs.Receive.{linear}
 use Rattle.protocol.specs.Plain.{kindValue}
 use Rattle.protocol.proofs.Wires.{Carries, carries-plus, carries-minus, carries-scale, carries-shift}
-
--- Document 01's M: of its kinds mul alone opens values, and it opens two.
-pub two-of : (k : Kind) → kindShape k .openings ≡ 2 * cond (isClass Opens (kindShape k .class)) 1 0
-unfolding kindShape isClass
-two-of In = refl
-two-of Add = refl
-two-of Sub = refl
-two-of Plus = refl
-two-of Times = refl
-two-of Mul = refl
-two-of Out = refl
 
 module _ {O : Ops} (F : Field O) where
   open Ops O using (norm, mul)
@@ -83,6 +72,7 @@ module _ {O : Ops} (F : Field O) where
       }
   computes Mul = λ input x z k. refl
   computes Out = λ input x z k. refl
+  computes Sq = λ input x z k. refl
 
   module _ (g : Gate) where
     gate-computes : {k : Class} → shape g .class ≡ k → Computes k (g .kind)

@@ -22,6 +22,7 @@ pub mod Secrecy
 pub mod Corollaries
 pub mod Docket
 pub mod Example
+pub mod Squares
 pub mod Calls
 pub mod Standing
 pub mod Joined

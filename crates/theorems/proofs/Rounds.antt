@@ -1,5 +1,5 @@
 -- How many rounds a run takes: document 01's formula is the number of rounds of the circuit, it is at most 766, and 766 is reached. Likewise
--- the numbers of words and of coefficients, and the lengths of preprocessing and scratch, by the circuit's in, mul and out gates.
+-- the numbers of words and of coefficients, and the lengths of preprocessing and scratch, by the circuit's in, mul, sq and out gates.
 -- Assumes nothing.
 use Prim.Native.Nat.{ℕ, zero, suc, _+_, _-_, _*_, _≤_}
 use mathlib.Core.Path.{_≡_, refl, _∙_}
@@ -10,7 +10,7 @@ use lib.Dec.{eqb}
 use borrow.Author.Tests.{eqb-true}
 use Rattle.field.specs.Words.{size}
 use Rattle.circuit.specs.Verdict.{Accepted}
-use Rattle.circuit.specs.Gate.{Gate, gate, gates}
+use Rattle.circuit.specs.Gate.{kindMul, kindSq, Gate, gate, gates}
 use Rattle.circuit.specs.Kind.{Class, Local, Owned, Opens, Output, shape, isClass, isIn, opens, isOut}
 use Rattle.circuit.specs.Count.{total, count, prepAt, prepSize, capacity, inCount, outCount, unchecked, uncheckedAfter}
 use Rattle.circuit.specs.Round.{Round, checkRounds, classRounds, rounds, shapeWords, words, coefficientsIn, overRounds, overRun, roundCount, wordCount, coefficientCount}
@@ -18,13 +18,12 @@ use Rattle.circuit.specs.Accept.{fewestGates, mostGates, askCircuit}
 use Rattle.circuit.specs.Valid.{Valid}
 use Rattle.circuit.proofs.Tests.{by-cases}
 use Rattle.circuit.proofs.Counts.{unchecked-valued, unchecked-out}
-use Rattle.circuit.proofs.KindLaws.{class-is, local-no-out, owned-no-out, opens-no-out, local-facts, owned-facts, opens-facts, output-facts}
+use Rattle.circuit.proofs.KindLaws.{class-is, shape-low, local-no-out, owned-no-out, opens-no-out, local-facts, owned-facts, opens-facts, output-facts}
 use Rattle.circuit.proofs.RoundLaws.{words-local, words-owned, words-opens, words-first, words-later, coefficients-local, coefficients-owned, coefficients-opens, coefficients-all}
 use Rattle.circuit.proofs.Gates.{gate-zero}
 use Rattle.protocol.specs.Scratch.{layout, scratchSize}
-use Rattle.protocol.specs.Formula.{openingCount, bareOuts, roundFormula, mostRoundsOfAll}
+use Rattle.protocol.specs.Formula.{opensJust, mulCount, squareCount, bareOuts, roundFormula, mostRoundsOfAll}
 use Rattle.protocol.proofs.Computing.{computing}
-use Rattle.theorems.proofs.KindValues.{two-of}
 
 -- one for each round
 abbrev pub ones : ℕ → Round → ℕ
@@ -47,10 +46,36 @@ unfolding overRun bareOuts count total rounds
 rounds-before c zero = refl
 rounds-before c (suc j) = omega (arith, rounds-before c j, rounds-of (unchecked c j) (shape (gate c j) .class))
 
--- Document 01's formula is the number of rounds.
+-- A gate opens two values, or one, or none.
+two-or-one : (k : ℕ) → k ≤ 2 → k ≡ 2 * cond (eqb k 2) 1 0 + cond (eqb k 1) 1 0
+two-or-one zero h = refl
+two-or-one (suc zero) h = refl
+two-or-one (suc (suc zero)) h = refl
+two-or-one (suc (suc (suc k))) h = absurd (omega (arith, h))
+
+some-two-or-one : (k : ℕ) → 1 ≤ k → k ≤ 2 → 1 ≡ cond (eqb k 2) 1 0 + cond (eqb k 1) 1 0
+some-two-or-one zero l h = absurd (omega (arith, l))
+some-two-or-one (suc zero) l h = refl
+some-two-or-one (suc (suc zero)) l h = refl
+some-two-or-one (suc (suc (suc k))) l h = absurd (omega (arith, h))
+
+-- Those that open values open two or one.
+opens-of : (g : Gate) (k : Class) → shape g .class ≡ k → cond (isClass Opens k) 1 0 ≡ cond (opensJust 2 g) 1 0 + cond (opensJust 1 g) 1 0
+unfolding isClass
+opens-of g Local e = rw (local-facts g e .openings)
+opens-of g Owned e = rw (owned-facts g e .openings)
+opens-of g Opens e = let f = opens-facts g e in some-two-or-one (shape g .openings) (f .some) (f .few)
+opens-of g Output e = rw (output-facts g e .openings)
+
+opens-before : (c : List ℕ) (j : ℕ) → count opens c j ≡ count (opensJust 2) c j + count (opensJust 1) c j
+unfolding count total
+opens-before c zero = refl
+opens-before c (suc j) = omega (arith, opens-before c j, opens-of (gate c j) (shape (gate c j) .class) refl)
+
+-- The formula is the number of rounds.
 pub formula-is : (c : List ℕ) → roundFormula c ≡ roundCount c
-unfolding roundFormula roundCount inCount openingCount outCount
-formula-is c = omega (arith, rounds-before c (gates c))
+unfolding roundFormula roundCount inCount mulCount squareCount outCount
+formula-is c = omega (arith, rounds-before c (gates c), opens-before c (gates c))
 
 -- what is yet to come for what is unchecked: its check takes two rounds
 abbrev owed : ℕ → ℕ
@@ -168,48 +193,49 @@ unfolding count total
 prep-before c zero = refl
 prep-before c (suc j) = omega (arith, prep-before c j, prep-of (gate c j) (shape (gate c j) .class) refl)
 
--- Document 01's M: every gate that opens values opens two.
-two-each : (c : List ℕ) (j : ℕ) → opened c j ≡ 2 * count opens c j
+-- The values that are opened: two of each mul gate, one of each sq gate.
+opened-before : (c : List ℕ) (j : ℕ) → opened c j ≡ 2 * count (opensJust 2) c j + count (opensJust 1) c j
 unfolding count total
-two-each c zero = refl
-two-each c (suc j) = omega (arith, two-each c j, two-of (gate c j .kind))
+opened-before c zero = refl
+opened-before c (suc j) = omega (arith, opened-before c j, two-or-one (shape (gate c j) .openings) (shape-low (gate c j) .openings))
 
--- The words that a party sends in a run: one for each in gate, two for each mul gate, three for each out gate, and two for each out gate with
--- something unchecked.
-pub words-are : (c : List ℕ) → wordCount c ≡ inCount c + 2 * openingCount c + 3 * outCount c + 2 * checkedOuts c (gates c)
-unfolding wordCount inCount openingCount outCount
-words-are c = omega (arith, words-before c (gates c), two-each c (gates c))
+-- The words that a party sends in a run: one for each in gate, two for each mul gate, one for each sq gate, three for each out gate, and two
+-- for each out gate with something unchecked.
+pub words-are : (c : List ℕ) → wordCount c ≡ inCount c + 2 * mulCount c + squareCount c + 3 * outCount c + 2 * checkedOuts c (gates c)
+unfolding wordCount inCount mulCount squareCount outCount
+words-are c = omega (arith, words-before c (gates c), opened-before c (gates c))
 
--- "all draws in order of use, 2M + outs of them"
-pub coefficients-are : {n q : ℕ} {c : List ℕ} → Valid n q c → coefficientCount c ≡ 2 * openingCount c + outCount c
-unfolding openingCount
-coefficients-are {n} {q} {c} ok = omega (arith, coefficients-opened ok, two-each c (gates c))
+-- "all draws in order of use, 2M + outs of them", and one more for each sq gate
+pub coefficients-are : {n q : ℕ} {c : List ℕ} → Valid n q c → coefficientCount c ≡ 2 * mulCount c + squareCount c + outCount c
+unfolding mulCount squareCount
+coefficients-are {n} {q} {c} ok = omega (arith, coefficients-opened ok, opened-before c (gates c))
 
--- "With I in lines and M mul lines, material has 1 + 3 × I + 6 × M numbers."
-pub prep-is : (c : List ℕ) → prepSize c ≡ 1 + 3 * inCount c + 6 * openingCount c
-unfolding prepSize prepAt inCount openingCount
-prep-is c = omega (arith, prep-before c (gates c), two-each c (gates c))
+-- "With I in lines and M mul lines, material has 1 + 3 × I + 6 × M numbers", and 4 more for each sq gate
+pub prep-is : (c : List ℕ) → prepSize c ≡ 1 + 3 * inCount c + 6 * mulCount c + 4 * squareCount c
+unfolding prepSize prepAt inCount mulCount squareCount
+prep-is c = omega (arith, prep-before c (gates c), opened-before c (gates c), opens-before c (gates c))
 
--- "Scratch is one list, L being the number of lines: L shares, L MAC shares, 2M + 1 opened values, 2M + 1 MAC shares of those."
-pub scratch-is : (c : List ℕ) → scratchSize (layout c) ≡ 2 * gates c + 2 * (2 * openingCount c + 1)
-unfolding scratchSize layout capacity openingCount
-scratch-is c = omega (arith, two-each c (gates c))
+-- "Scratch is one list, L being the number of lines: L shares, L MAC shares, 2M + 1 opened values, 2M + 1 MAC shares of those", and one more of
+-- each for each sq gate
+pub scratch-is : (c : List ℕ) → scratchSize (layout c) ≡ 2 * gates c + 2 * (2 * mulCount c + squareCount c + 1)
+unfolding scratchSize layout capacity mulCount squareCount
+scratch-is c = omega (arith, opened-before c (gates c))
 
--- k times a mul gate and an out gate
-mulOuts : ℕ → List ℕ
-mulOuts zero = []
-mulOuts (suc k) = 6 ∷ 0 ∷ 0 ∷ 0 ∷ 7 ∷ 0 ∷ 0 ∷ 0 ∷ mulOuts k
+-- k times a gate of a kind, of gate 0 and perhaps gate 0 again, and an out gate
+kindOuts : ℕ → ℕ → List ℕ
+kindOuts kind zero = []
+kindOuts kind (suc k) = kind ∷ 0 ∷ 0 ∷ 0 ∷ 7 ∷ 0 ∷ 0 ∷ 0 ∷ kindOuts kind k
 
--- 766 is reached: an in gate, 127 times a mul gate and an out gate, and an out gate, 256 gates in all
-pub longest : List ℕ
-longest = 1 ∷ 0 ∷ 0 ∷ 0 ∷ (mulOuts 127 ++ (7 ∷ 0 ∷ 0 ∷ 0 ∷ []))
+-- 766 is reached: an in gate, 127 times a gate that opens values and an out gate, and an out gate, 256 gates in all
+pub longest : ℕ → List ℕ
+longest kind = 1 ∷ 0 ∷ 0 ∷ 0 ∷ (kindOuts kind 127 ++ (7 ∷ 0 ∷ 0 ∷ 0 ∷ []))
 
--- It is accepted.
-pub longest-accepted : askCircuit 2 size longest ≡ Accepted
-unfolding computing mulOuts longest
-longest-accepted = refl
+-- It is accepted, and it takes 766 rounds.
+pub record Longest (kind : ℕ) : Type 0 where
+  pub accepted : askCircuit 2 size (longest kind) ≡ Accepted
+  pub rounds : roundFormula (longest kind) ≡ mostRoundsOfAll
 
--- It takes 766 rounds.
-pub longest-rounds : roundFormula longest ≡ mostRoundsOfAll
-unfolding computing mulOuts longest
-longest-rounds = refl
+-- With mul gates and with sq gates.
+pub longest-rounds : Longest kindMul × Longest kindSq
+unfolding computing kindOuts longest
+longest-rounds = (record { accepted = refl; rounds = refl }, record { accepted = refl; rounds = refl })

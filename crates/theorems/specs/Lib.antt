@@ -5,5 +5,6 @@ pub mod Abort
 pub mod Matching
 pub mod Secrecy
 pub mod Example
+pub mod Squares
 pub mod Apart
 pub mod ApartDemands

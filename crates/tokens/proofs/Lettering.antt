@@ -18,8 +18,29 @@ use Rattle.forms.specs.declared.Sort.the-variants.{Leaf, One, Two, Scaled}
 use Rattle.forms.specs.Words.{heads, letters, sort, names, stands}
 use Rattle.forms.specs.Form.{Form, space}
 use Rattle.forms.specs.Machine.{
-  Frame, State, at, start, spelling, starts, may, wordLives, wordIs, begun, begunAs, step, when, read, ended, openHere, openIn, closedHere,
-  closedFrames, closedNumbered, closedIn, tooDeep, tooMany,
+  Frame,
+  State,
+  at,
+  start,
+  spelling,
+  starts,
+  may,
+  wordLives,
+  wordIs,
+  begun,
+  begunAs,
+  step,
+  when,
+  read,
+  ended,
+  openHere,
+  openIn,
+  closedHere,
+  closedFrames,
+  closedNumbered,
+  closedIn,
+  tooDeep,
+  tooMany,
 }
 use Rattle.forms.proofs.Table.{spaceless, letters-spaceless}
 use Rattle.forms.proofs.Spelt.{word-found}
@@ -195,7 +216,7 @@ pub word-inside : (text : List ℕ) (from : ℕ) (h : Head) {l : ℕ} → from �
 word-inside text from h i e p =
     let s = stand-rest (letters h ++ (space ∷ [])) (drop from text) p in
     let long : length text - from ≡ length (letters h ++ (space ∷ [])) + length (s .0) =
-        sym (length-drop from text) ∙ (ap length (s .1) ∙ length-append (letters h ++ (space ∷ [])) (s .0)) in
+    sym (length-drop from text) ∙ (ap length (s .1) ∙ length-append (letters h ++ (space ∷ [])) (s .0)) in
     omega (arith, long, e, length-append (letters h) (space ∷ []))
 
 -- a word that is found may stand

@@ -35,7 +35,7 @@ begins-fuel (suc k) zero v j h l = rw (lt-ltb j ten (omega arith)) (or-false (eq
 begins-fuel (suc k) (suc m) v j h l = go (ltb j ten) refl (λ p q. begins-fuel k m v (j / ten) p q)
   where
     go : (c : Bool) → ltb j ten ≡ c → (j / ten ≤ k → j / ten ≤ m → begins k v (j / ten) ≡ begins m v (j / ten)) →
-      (eqb v j || not c && begins k v (j / ten)) ≡ (eqb v j || not c && begins m v (j / ten))
+        (eqb v j || not c && begins k v (j / ten)) ≡ (eqb v j || not c && begins m v (j / ten))
     go true c f = refl
     go false c f = let t : ten ≤ j = ltb-false j ten c in rw (f (omega arith) (omega arith))
 
@@ -55,12 +55,12 @@ module _ (v k : ℕ) where
 
 module _ (table : List ℕ) (v j : ℕ) where
   pub lives-next : {r : Bool} → j < length table → r ≡ (eqb (getD table j 0 % 2) 1 && begins j v j) → r ≡ false →
-    nameLives (known (drop j table)) j v ≡ nameLives (known (drop (j + 1) table)) (j + 1) v
+      nameLives (known (drop j table)) j v ≡ nameLives (known (drop (j + 1) table)) (j + 1) v
   unfolding nameLives known
   lives-next h e t = rw (add-one j, drop-cons table j 0 h, sym e ∙ t)
 
   pub lives-here : {r : Bool} → j < length table → r ≡ (eqb (getD table j 0 % 2) 1 && begins j v j) → r ≡ true →
-    nameLives (known (drop j table)) j v ≡ true
+      nameLives (known (drop j table)) j v ≡ true
   unfolding nameLives known
   lives-here h e t = rw (drop-cons table j 0 h, sym e ∙ t)
 

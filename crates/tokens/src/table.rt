@@ -57,14 +57,15 @@ pub fn row(h: Head) -> Row
             second: Role::Unused,
             constant: Role::Unused,
         },
+        Head::Sq => valued(2, Sort::One, 8, Role::Wire, Role::Unused, Role::Unused),
     }
 }
 
 // How many words there are.
-pub const HEADS: usize = 8;
+pub const HEADS: usize = 9;
 
 pub fn head_at(k: usize) -> Head
-    requires { ⌜ k < 8 ⌝ }
+    requires { ⌜ k < 9 ⌝ }
     ensures { λ r. ⌜ drop k heads ≡ r ∷ drop (k + 1) heads ⌝ }
 {
     if k == 0 {
@@ -88,5 +89,8 @@ pub fn head_at(k: usize) -> Head
     if k == 6 {
         return Head::Out;
     }
-    Head::Line
+    if k == 7 {
+        return Head::Line;
+    }
+    Head::Sq
 }

@@ -1,4 +1,4 @@
-// Words. The one that its first letter suggests is tried first; only where it does not stand there, the letters are gone through one by one.
+// Words. The one that its first two letters suggest is tried first; only where it does not stand there, the letters are gone through one by one.
 use crate::Found;
 use crate::Spelt;
 use crate::numbers;
@@ -48,6 +48,7 @@ fn starts_head(text: &[u8], from: usize, to: usize, h: Head) -> bool
         Head::Mul => starts_word(text, from, to, b"mul"),
         Head::Out => starts_word(text, from, to, b"out"),
         Head::Line => starts_word(text, from, to, b"line"),
+        Head::Sq => starts_word(text, from, to, b"sq"),
     }
 }
 
@@ -83,6 +84,7 @@ fn word_stands(text: &[u8], from: usize, h: Head) -> bool
         Head::Mul => bytes_stand(text, from, b"mul "),
         Head::Out => bytes_stand(text, from, b"out "),
         Head::Line => bytes_stand(text, from, b"line "),
+        Head::Sq => bytes_stand(text, from, b"sq "),
     }
 }
 
@@ -186,8 +188,8 @@ fn read_slowly(text: &[u8], from: usize, any: bool, outermost: bool) -> Spelt
     Spelt::Dies { index: i }
 }
 
-// The word that begins with this letter, if one does. Nothing hangs on it but time.
-fn suggested(b: u8) -> Head {
+// The word that begins with these two letters, if one does. Nothing hangs on it but time.
+fn suggested(b: u8, next: u8) -> Head {
     if b == b'l' {
         return Head::Line;
     }
@@ -201,6 +203,9 @@ fn suggested(b: u8) -> Head {
         return Head::Mul;
     }
     if b == b's' {
+        if next == b'q' {
+            return Head::Sq;
+        }
         return Head::Sub;
     }
     if b == b'p' {
@@ -217,10 +222,10 @@ pub fn read_word(text: &&[u8], table: &&[Word], from: usize, outermost: bool) ->
     requires { ⌜ (from ≤ length (now (now text))) × (length (now (now text)) < 2 ^ 64) ⌝ }
     ensures { λ r. ⌜ WordRead (now (now (text .entry))) (anyNamed (known (now (now (table .entry))))) outermost from r ⌝ }
 {
-    if text.len() <= from {
+    if text.len() - from < 2 {
         return read_slowly(*text, from, numbers::any_named(*table), outermost);
     }
-    let h = suggested(text[from]);
+    let h = suggested(text[from], text[from + 1]);
     if !word_stands(*text, from, h) {
         return read_slowly(*text, from, numbers::any_named(*table), outermost);
     }

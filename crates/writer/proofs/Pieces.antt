@@ -17,16 +17,16 @@ use Rattle.forms.specs.declared.Sort.{Sort}
 use Rattle.forms.specs.declared.Sort.the-variants.{Leaf, One, Two, Scaled}
 use Rattle.forms.specs.Words.{sort, shapeOf}
 use Rattle.forms.specs.Form.{Form, leaf, one, two, scaled, feed, print}
-use Rattle.forms.specs.Entry.{headOf, picked, numberOf, counted, name, formOf, rowFor, rowOf}
+use Rattle.forms.specs.Entry.{headOf, picked, numberOf, name, formOf, rowFor, rowOf}
 use Rattle.forms.proofs.Lengths.{letters-few, length-word, length-leaf, length-one, length-two, length-scaled}
 use Rattle.writer.specs.declared.Parts.{Parts}
 use Rattle.writer.specs.Code.{formIn, rowText, rowRoom}
 
 -- a number that is no kind
-pub head-line : (k : ℕ) → 1 ≢ k → 2 ≢ k → 3 ≢ k → 4 ≢ k → 5 ≢ k → 6 ≢ k → 7 ≢ k → Line ≡ headOf k
+pub head-line : (k : ℕ) → 1 ≢ k → 2 ≢ k → 3 ≢ k → 4 ≢ k → 5 ≢ k → 6 ≢ k → 7 ≢ k → 8 ≢ k → Line ≡ headOf k
 unfolding headOf picked
-head-line k a b d e f g h =
-    rw (ne-eqb 1 k a, ne-eqb 2 k b, ne-eqb 3 k d, ne-eqb 4 k e, ne-eqb 5 k f, ne-eqb 6 k g, ne-eqb 7 k h) (same (eqb 0 k))
+head-line k a b d e f g h i =
+    rw (ne-eqb 1 k a, ne-eqb 2 k b, ne-eqb 3 k d, ne-eqb 4 k e, ne-eqb 5 k f, ne-eqb 6 k g, ne-eqb 7 k h, ne-eqb 8 k i) (same (eqb 0 k))
   where
     same : (t : Bool) → Line ≡ cond t Line Line
     same true = refl

@@ -28,6 +28,8 @@ const KIND_MUL: Word = 6;
 
 const KIND_OUT: Word = 7;
 
+const KIND_SQ: Word = 8;
+
 // The word whose form makes a gate of this kind.
 fn head_of(kind: Word) -> Head
     ensures { λ r. ⌜ r ≡ headOf kind ⌝ }
@@ -40,6 +42,7 @@ fn head_of(kind: Word) -> Head
         KIND_TIMES => Head::Times,
         KIND_MUL => Head::Mul,
         KIND_OUT => Head::Out,
+        KIND_SQ => Head::Sq,
         _ => Head::Line,
     }
 }

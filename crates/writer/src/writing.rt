@@ -50,6 +50,7 @@ fn put_begin(text: &mut [u8], at: usize, h: Head) -> usize
         Head::Mul => put_bytes(text, at, b"(mul "),
         Head::Out => put_bytes(text, at, b"(out "),
         Head::Line => put_bytes(text, at, b"(line "),
+        Head::Sq => put_bytes(text, at, b"(sq "),
     }
 }
 

@@ -1,4 +1,4 @@
--- `tokens::table::head_at` meets its contract: the numbers 0 to 7 go through the list of words.
+-- `tokens::table::head_at` meets its contract: the numbers 0 to 8 go through the list of words.
 -- Assumes nothing.
 use mathlib.Core.Path.{_≡_}
 use native.Mathlib.Omega.{arith}
@@ -29,14 +29,18 @@ returns-7 : tie.Need-returns-7
 returns-7 c = rw (c .if7 .taken)
 
 returns-8 : tie.Need-returns-8
-returns-8 c =
-    let at-2 = c .before .before .before .before .before in
-    let e : at-2 .before .before .args .k ≡ 7 =
-        le-antisymm (le-pred-of-lt (at-2 .before .before .pre))
-        (past 6 _ (past 5 _ (past 4 _ (past 3 _ (past 2 _ (past 1 _ (past 0 _ (omega arith) (at-2 .before .if1 .left)) (at-2 .if2 .left))
-            (c .before .before .before .before .if3 .left)) (c .before .before .before .if4 .left)) (c .before .before .if5 .left))
-            (c .before .if6 .left)) (c .if7 .left)) in
+returns-8 c = rw (c .if8 .taken)
+
+returns-9 : tie.Need-returns-9
+returns-9 c =
+    let at-3 = c .before .before .before .before .before in
+    let at-2 = at-3 .before in
+    let e : at-2 .before .before .args .k ≡ 8 =
+    le-antisymm (le-pred-of-lt (at-2 .before .before .pre))
+    (past 7 _ (past 6 _ (past 5 _ (past 4 _ (past 3 _ (past 2 _ (past 1 _ (past 0 _ (omega arith) (at-2 .before .if1 .left)) (at-2 .if2 .left))
+    (at-3 .if3 .left)) (c .before .before .before .before .if4 .left)) (c .before .before .before .if5 .left))
+    (c .before .before .if6 .left)) (c .before .if7 .left)) (c .if8 .left)) in
     rw e
 
 pub head-at-spec : {M : Type 1} → statement M
-head-at-spec = tie.close (tie.spec returns returns-2 returns-3 returns-4 returns-5 returns-6 returns-7 returns-8)
+head-at-spec = tie.close (tie.spec returns returns-2 returns-3 returns-4 returns-5 returns-6 returns-7 returns-8 returns-9)

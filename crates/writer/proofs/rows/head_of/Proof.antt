@@ -35,8 +35,15 @@ unfolding headOf picked
 returns-7 c = rw (c .match .keys7)
 
 returns-8 : tie.Need-returns-8
-returns-8 c = let r = c .match .rest in head-line _ (λ e. r .0 .0 .0 .0 .0 .0 .1 (sym e)) (λ e. r .0 .0 .0 .0 .0 .1 (sym e)) (λ e. r .0 .0 .0 .0 .1
-    (sym e)) (λ e. r .0 .0 .0 .1 (sym e)) (λ e. r .0 .0 .1 (sym e)) (λ e. r .0 .1 (sym e)) (λ e. r .1 (sym e))
+unfolding headOf picked
+returns-8 c = rw (c .match .keys8)
+
+returns-9 : tie.Need-returns-9
+returns-9 c =
+    let r = c .match .rest in
+    let s = r .0 .0 .0 .0 in
+    head-line _ (λ e. s .0 .0 .0 .1 (sym e)) (λ e. s .0 .0 .1 (sym e)) (λ e. s .0 .1 (sym e)) (λ e. s .1 (sym e)) (λ e. r .0 .0 .0 .1 (sym e))
+    (λ e. r .0 .0 .1 (sym e)) (λ e. r .0 .1 (sym e)) (λ e. r .1 (sym e))
 
 pub head-of-spec : {M : Type 1} → statement M
-head-of-spec = tie.close (tie.spec returns returns-2 returns-3 returns-4 returns-5 returns-6 returns-7 returns-8)
+head-of-spec = tie.close (tie.spec returns returns-2 returns-3 returns-4 returns-5 returns-6 returns-7 returns-8 returns-9)
