@@ -16,14 +16,13 @@ pub const PLUS: u32 = 4;
 pub const TIMES: u32 = 5;
 pub const MUL: u32 = 6;
 pub const OUT: u32 = 7;
+pub const SQ: u32 = 8;
 
-/// The names of kinds 1 to 7.
-pub const KIND_NAMES: [&str; 7] = ["in", "add", "sub", "plus", "times", "mul", "out"];
+/// The least number above 0 that is no kind.
+pub const NO_KIND: u32 = 9;
 
-/// Numbers of preprocessing for an in gate: mask share, MAC share, whole mask.
-pub const INPUT_RECORD: usize = 3;
-/// Numbers of preprocessing for a mul gate: a, MAC of a, b, MAC of b, c, MAC of c.
-pub const MULTIPLY_RECORD: usize = 6;
+/// The names of kinds 1 to 8.
+pub const KIND_NAMES: [&str; 8] = ["in", "add", "sub", "plus", "times", "mul", "out", "sq"];
 
 #[derive(Clone, Copy, Debug, PartialEq, Eq)]
 pub enum Gate {
@@ -34,29 +33,54 @@ pub enum Gate {
     Times { wire: usize, constant: u32 },
     Multiply { left: usize, right: usize },
     Output { wire: usize },
+    Square { wire: usize },
+}
+
+/// What a gate takes from the preprocessing, and what it opens.
+#[derive(Clone, Copy, Debug, PartialEq, Eq)]
+pub struct Needs {
+    /// Numbers of its record.
+    pub record: usize,
+    /// Entries that it opens and leaves unchecked.
+    pub entries: usize,
+    /// Its own round, in which it opens them.
+    pub round: Option<Round>,
 }
 
 impl Gate {
+    /// "What a line takes from the material and opens is now told by its kind."
+    pub fn needs(self) -> Needs {
+        let (record, entries, round) = match self {
+            // Mask share, MAC share, whole mask.
+            Gate::Input { .. } => (3, 0, Some(Round::Input)),
+            // a, MAC of a, b, MAC of b, c, MAC of c.
+            Gate::Multiply { .. } => (6, 2, Some(Round::Multiply)),
+            // a, MAC of a, c, MAC of c.
+            Gate::Square { .. } => (4, 1, Some(Round::Square)),
+            _ => (0, 0, None),
+        };
+        Needs {
+            record,
+            entries,
+            round,
+        }
+    }
+
     /// Numbers of preprocessing that the gate reads.
     pub fn record_len(self) -> usize {
-        match self {
-            Gate::Input { .. } => INPUT_RECORD,
-            Gate::Multiply { .. } => MULTIPLY_RECORD,
-            _ => 0,
-        }
+        self.needs().record
     }
 
     /// The opened and unchecked entries after the gate, given those before it.
     pub fn pending_after(self, pending: usize) -> usize {
         match self {
-            Gate::Multiply { .. } => pending + 2,
             Gate::Output { .. } => 0,
-            _ => pending,
+            _ => pending + self.needs().entries,
         }
     }
 }
 
-/// Reads the four numbers of a gate. None if the kind is not 1 to 7.
+/// Reads the four numbers of a gate. None if the kind is not 1 to 8.
 fn decode(line: &[u32]) -> Option<Gate> {
     let &[kind, first, second, constant] = line else {
         return None;
@@ -76,6 +100,7 @@ fn decode(line: &[u32]) -> Option<Gate> {
         }),
         MUL => Some(Gate::Multiply { left, right }),
         OUT => Some(Gate::Output { wire: left }),
+        SQ => Some(Gate::Square { wire: left }),
         _ => None,
     }
 }
@@ -107,20 +132,27 @@ pub struct Shape {
     /// In gates of each party.
     pub owned: [usize; MAX_PARTIES],
     pub products: usize,
+    pub squares: usize,
     pub outputs: usize,
     /// Out gates that have something opened and unchecked before them.
     pub checked_outputs: usize,
+    /// Numbers of all records.
+    records: usize,
+    /// Entries that all gates open in their own rounds.
+    entries: usize,
+    /// Words that one party sends in those rounds.
+    own_words: usize,
 }
 
 impl Shape {
     pub fn prep_len(&self) -> usize {
-        1 + INPUT_RECORD * self.inputs + MULTIPLY_RECORD * self.products
+        1 + self.records
     }
 
     pub fn layout(&self) -> Layout {
         Layout {
             gates: self.gates,
-            opened: 2 * self.products + 1,
+            opened: self.entries + 1,
         }
     }
 
@@ -130,12 +162,12 @@ impl Shape {
 
     /// Coefficients of a full joint run: one for each opened entry, and one for each output.
     pub fn coefficients(&self) -> usize {
-        2 * self.products + self.outputs
+        self.entries + self.outputs
     }
 
     /// Words that one party sends in a full run.
     pub fn words(&self) -> usize {
-        self.inputs + 2 * self.products + 3 * self.outputs + 2 * self.checked_outputs
+        self.own_words + 3 * self.outputs + 2 * self.checked_outputs
     }
 
     fn count(&mut self, gate: Gate, pending: usize) {
@@ -145,17 +177,22 @@ impl Shape {
                 self.owned[owner as usize] += 1;
             }
             Gate::Multiply { .. } => self.products += 1,
+            Gate::Square { .. } => self.squares += 1,
             Gate::Output { .. } => {
                 self.outputs += 1;
                 self.checked_outputs += usize::from(pending > 0);
             }
             _ => {}
         }
+        let needs = gate.needs();
+        self.records += needs.record;
+        self.entries += needs.entries;
+        self.own_words += needs.round.map_or(0, Round::words);
     }
 }
 
 /// Where the numbers of one party's scratch are: "L shares, L MAC shares, 2M + 1 opened values,
-/// 2M + 1 MAC shares of those".
+/// 2M + 1 MAC shares of those", and one more of each of the last two for every sq gate.
 #[derive(Clone, Copy, Debug, PartialEq, Eq)]
 pub struct Layout {
     gates: usize,
@@ -179,6 +216,11 @@ impl Layout {
         2 * self.gates + self.opened + entry
     }
 
+    /// How many opened entries there is room for.
+    pub fn entries(self) -> usize {
+        self.opened
+    }
+
     pub fn len(self) -> usize {
         2 * self.gates + 2 * self.opened
     }
@@ -199,14 +241,17 @@ fn ask_gate(parties: u32, circuit: &[u32], index: usize) -> Result<Gate, u32> {
         Gate::Add { left, right } | Gate::Sub { left, right } | Gate::Multiply { left, right } => {
             is_wire(left) && is_wire(right)
         }
-        Gate::Plus { wire, .. } | Gate::Times { wire, .. } | Gate::Output { wire } => is_wire(wire),
+        Gate::Plus { wire, .. }
+        | Gate::Times { wire, .. }
+        | Gate::Output { wire }
+        | Gate::Square { wire } => is_wire(wire),
     };
     if !names {
         return Err(5);
     }
     let (second, last) = (line[2], line[3]);
     let fields = match gate {
-        Gate::Input { .. } | Gate::Output { .. } => second == 0 && last == 0,
+        Gate::Input { .. } | Gate::Output { .. } | Gate::Square { .. } => second == 0 && last == 0,
         Gate::Add { .. } | Gate::Sub { .. } | Gate::Multiply { .. } => last == 0,
         Gate::Plus { constant, .. } | Gate::Times { constant, .. } => second == 0 && constant < P,
     };
@@ -229,8 +274,12 @@ pub(crate) fn ask_circuit(parties: u32, circuit: &[u32]) -> Result<Shape, Refusa
         inputs: 0,
         owned: [0; MAX_PARTIES],
         products: 0,
+        squares: 0,
         outputs: 0,
         checked_outputs: 0,
+        records: 0,
+        entries: 0,
+        own_words: 0,
     };
     let mut pending = 0;
     for index in 0..gates {
@@ -279,19 +328,14 @@ pub fn rounds(circuit: &[u32]) -> Vec<(usize, Round)> {
     let mut rounds = Vec::new();
     let mut pending = 0;
     for (index, gate) in gates(circuit).enumerate() {
-        match gate {
-            Gate::Input { .. } => rounds.push((index, Round::Input)),
-            Gate::Multiply { .. } => rounds.push((index, Round::Multiply)),
-            Gate::Output { .. } => {
-                if pending > 0 {
-                    rounds.extend(
-                        [Round::CommitOpened, Round::RevealOpened].map(|round| (index, round)),
-                    );
-                }
-                let always = [Round::OpenOutput, Round::CommitOutput, Round::RevealOutput];
-                rounds.extend(always.map(|round| (index, round)));
+        rounds.extend(gate.needs().round.map(|round| (index, round)));
+        if let Gate::Output { .. } = gate {
+            if pending > 0 {
+                rounds
+                    .extend([Round::CommitOpened, Round::RevealOpened].map(|round| (index, round)));
             }
-            _ => {}
+            let always = [Round::OpenOutput, Round::CommitOutput, Round::RevealOutput];
+            rounds.extend(always.map(|round| (index, round)));
         }
         pending = gate.pending_after(pending);
     }

@@ -85,6 +85,18 @@ impl<'a> Run<'a> {
         }
     }
 
+    fn square(&mut self, wires: (usize, usize), record: usize, pending: usize) {
+        let (_, wire) = wires;
+        let words = self.round(1);
+        for (word, (local, prep, band)) in words.iter_mut().zip(self.each()) {
+            *word = local.square_word(band, &prep[record..], wire);
+        }
+        let e = field::sum(&*words);
+        for (local, prep, band) in self.each() {
+            local.receive_square(band, wires, &prep[record..], pending, e);
+        }
+    }
+
     fn open_output(&mut self, wire: usize) -> u32 {
         let words = self.round(1);
         for (word, (local, _, band)) in words.iter_mut().zip(self.each()) {
@@ -175,6 +187,7 @@ pub fn joint_run(
                 next_input[owner] += 1;
             }
             Gate::Multiply { left, right } => run.multiply((index, left, right), record, pending),
+            Gate::Square { wire } => run.square((index, wire), record, pending),
             Gate::Output { wire } => {
                 let Some(output) = run.output(wire, pending) else {
                     return Ok(run.result(Ending::Aborted { gate: index as u32 }, released));

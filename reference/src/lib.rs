@@ -1,5 +1,5 @@
-//! The online phase of SPDZ as document 01 has it, written a second time and independently: a source
-//! of test vectors, and a baseline for speed. Circuits are read and written as text too, as sheets.
+//! The online phase of SPDZ as document 01 has it, with squares, written a second time and independently: a
+//! source of test vectors, and a baseline for speed. Circuits are read and written as text too, as sheets.
 //!
 //! Names are the field's standard terms: a party is document 01's seat, a gate its line (the gate's
 //! value is a wire), preprocessing its material, coefficients its draws, sending and receiving its
@@ -21,6 +21,7 @@ pub mod refusal;
 pub mod replay;
 pub mod requests;
 pub mod sheet;
+pub mod square;
 pub mod text;
 pub mod theorems;
 

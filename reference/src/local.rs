@@ -81,6 +81,32 @@ impl Local {
         scratch[layout.mac(gate)] = reduce(mac);
     }
 
+    /// "One round of one word opens E = first - a".
+    pub fn square_word(self, scratch: &[u32], record: &[u32], wire: usize) -> u32 {
+        sub(scratch[self.layout.share(wire)], record[0])
+    }
+
+    /// Appends E after `pending` opened entries, and makes the new share and MAC share.
+    pub fn receive_square(
+        self,
+        scratch: &mut [u32],
+        (gate, wire): (usize, usize),
+        record: &[u32],
+        pending: usize,
+        e: u32,
+    ) {
+        let layout = self.layout;
+        let (a, a_mac, c, c_mac) = (record[0], record[1], record[2], record[3]);
+        scratch[layout.opened(pending)] = e;
+        scratch[layout.opened_mac(pending)] = sub(scratch[layout.mac(wire)], a_mac);
+
+        let ee = mul(e, e);
+        let share = u64::from(c) + 2 * product(e, a) + u64::from(self.public(ee));
+        let mac = u64::from(c_mac) + 2 * product(e, a_mac) + product(self.key, ee);
+        scratch[layout.share(gate)] = reduce(share);
+        scratch[layout.mac(gate)] = reduce(mac);
+    }
+
     /// "Show, one word, the seat's share of first."
     pub fn output_word(self, scratch: &[u32], wire: usize) -> u32 {
         scratch[self.layout.share(wire)]
@@ -128,7 +154,10 @@ impl Local {
             Gate::Times { wire, constant } => {
                 (mul(share(wire), constant), mul(mac(wire), constant))
             }
-            Gate::Input { .. } | Gate::Multiply { .. } | Gate::Output { .. } => return false,
+            Gate::Input { .. }
+            | Gate::Multiply { .. }
+            | Gate::Square { .. }
+            | Gate::Output { .. } => return false,
         };
         scratch[layout.share(index)] = new_share;
         scratch[layout.mac(index)] = new_mac;

@@ -9,7 +9,8 @@ const USAGE: &str = "usage:
     reference docket
     reference coverage SEED COUNT
     reference theorems SEED COUNT
-    reference vectors small|large|sheet|sheets-large SEED requests|answers
+    reference vectors small|large|square|squares-large SEED requests|answers
+    reference vectors sheet|square-sheet|sheets-large SEED requests|answers
     reference vectors SEED coverage
     reference example SEED request|sheet|answer
     reference replay < REQUESTS";
@@ -41,8 +42,8 @@ fn output(arguments: &[&str]) -> Option<String> {
         ["theorems", seed, count] => theorems::theorems(&generate(seed, count)?),
         ["vectors", seed, "coverage"] => {
             let seed = seed.parse().ok()?;
-            let [small, large] = Set::ALL.map(|set| set.make(seed));
-            requests::table(&small, &large)
+            let sets = Set::KEPT.map(|set| set.make(seed));
+            requests::table(sets.each_ref().map(|set| &set[..]))
         }
         ["vectors", name, seed, part] => {
             let seed = seed.parse().ok()?;

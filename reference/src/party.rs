@@ -181,6 +181,7 @@ pub fn send(
         Gate::Multiply { left, right } => {
             out[..2].copy_from_slice(&local.multiply_words(scratch, record, left, right));
         }
+        Gate::Square { wire } => out[0] = local.square_word(scratch, record, wire),
         Gate::Output { wire } if round == Round::OpenOutput => {
             out[0] = local.output_word(scratch, wire)
         }
@@ -242,6 +243,11 @@ pub fn receive(
             );
             Received::Moved(next_gate(lent.circuit, &step, scratch))
         }
+        (Round::Square, Gate::Square { wire }) => {
+            let e = field::sum(heard);
+            local.receive_square(scratch, (index, wire), record, before.pending, e);
+            Received::Moved(next_gate(lent.circuit, &step, scratch))
+        }
         (Round::OpenOutput, Gate::Output { wire }) => {
             local.receive_output(scratch, wire, field::sum(heard));
             Received::Moved(same_gate(Sort::CommitOutput, 0))
@@ -277,7 +283,7 @@ fn next_gate(circuit: &[u32], step: &Step<'_>, scratch: &mut [u32]) -> Position 
             continue;
         }
         let sort = match gate {
-            Gate::Input { .. } | Gate::Multiply { .. } => Sort::Own,
+            _ if gate.needs().round.is_some() => Sort::Own,
             _ if pending > 0 => Sort::CommitOpened,
             _ => Sort::OpenOutput,
         };

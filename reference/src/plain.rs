@@ -25,6 +25,7 @@ pub fn values(parties: u32, circuit: &[u32], inputs: &[u32]) -> Result<Vec<Optio
             Gate::Plus { wire, constant } => Some(add(value(wire), constant)),
             Gate::Times { wire, constant } => Some(mul(value(wire), constant)),
             Gate::Multiply { left, right } => Some(mul(value(left), value(right))),
+            Gate::Square { wire } => Some(mul(value(wire), value(wire))),
             Gate::Output { .. } => None,
         });
     }
@@ -42,13 +43,16 @@ pub fn outputs(parties: u32, circuit: &[u32], inputs: &[u32]) -> Result<Vec<u32>
         .collect())
 }
 
-/// "A run takes I + M + 5 x outs - 2 x (outs with nothing unchecked) rounds", for an accepted circuit.
+/// "A run takes I + M + 5 x outs - 2 x (outs with nothing unchecked) rounds", and one more for each sq gate,
+/// for an accepted circuit.
 pub fn rounds(circuit: &[u32]) -> usize {
-    let (mut inputs, mut products, mut outputs, mut unneeded, mut pending) = (0, 0, 0, 0, 0);
+    let (mut inputs, mut products, mut squares) = (0, 0, 0);
+    let (mut outputs, mut unneeded, mut pending) = (0, 0, 0);
     for gate in circuit::gates(circuit) {
         match gate {
             Gate::Input { .. } => inputs += 1,
             Gate::Multiply { .. } => products += 1,
+            Gate::Square { .. } => squares += 1,
             Gate::Output { .. } => {
                 outputs += 1;
                 unneeded += usize::from(pending == 0);
@@ -57,5 +61,5 @@ pub fn rounds(circuit: &[u32]) -> usize {
         }
         pending = gate.pending_after(pending);
     }
-    inputs + products + 5 * outputs - 2 * unneeded
+    inputs + products + squares + 5 * outputs - 2 * unneeded
 }

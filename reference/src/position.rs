@@ -9,6 +9,7 @@ use crate::field::P;
 pub enum Round {
     Input,
     Multiply,
+    Square,
     CommitOpened,
     RevealOpened,
     OpenOutput,
@@ -17,9 +18,10 @@ pub enum Round {
 }
 
 impl Round {
-    pub const ALL: [Round; 7] = [
+    pub const ALL: [Round; 8] = [
         Round::Input,
         Round::Multiply,
+        Round::Square,
         Round::CommitOpened,
         Round::RevealOpened,
         Round::OpenOutput,
@@ -32,6 +34,7 @@ impl Round {
         match self {
             Round::Input => "in",
             Round::Multiply => "mul",
+            Round::Square => "sq",
             Round::CommitOpened | Round::CommitOutput => "seal",
             Round::RevealOpened | Round::RevealOutput => "reveal",
             Round::OpenOutput => "show",
@@ -49,7 +52,11 @@ impl Round {
     /// Opened and unchecked entries during the round, with `pending` of them when its gate is reached.
     pub fn unchecked(self, pending: usize) -> usize {
         match self {
-            Round::Input | Round::Multiply | Round::CommitOpened | Round::RevealOpened => pending,
+            Round::Input
+            | Round::Multiply
+            | Round::Square
+            | Round::CommitOpened
+            | Round::RevealOpened => pending,
             Round::OpenOutput => 0,
             Round::CommitOutput | Round::RevealOutput => 1,
         }
@@ -58,7 +65,7 @@ impl Round {
     /// How a position names the round.
     pub fn sort(self) -> Sort {
         match self {
-            Round::Input | Round::Multiply => Sort::Own,
+            Round::Input | Round::Multiply | Round::Square => Sort::Own,
             Round::CommitOpened => Sort::CommitOpened,
             Round::RevealOpened => Sort::RevealOpened,
             Round::OpenOutput => Sort::OpenOutput,
@@ -76,8 +83,8 @@ impl Round {
     }
 }
 
-/// What a position says of a round. The round of an in gate and that of a mul gate are of one sort:
-/// each is its gate's own, and the gate tells them apart.
+/// What a position says of a round. The rounds of in, mul and sq gates are of one sort: each is its
+/// gate's own, and the gate tells them apart.
 #[derive(Clone, Copy, Debug, PartialEq, Eq, PartialOrd, Ord)]
 pub enum Sort {
     Own,
@@ -102,8 +109,7 @@ impl Sort {
     /// the unchecked entries before it, and is not asked here.
     pub fn at(self, gate: Gate) -> Option<Round> {
         match (gate, self) {
-            (Gate::Input { .. }, Sort::Own) => Some(Round::Input),
-            (Gate::Multiply { .. }, Sort::Own) => Some(Round::Multiply),
+            (_, Sort::Own) => gate.needs().round,
             (Gate::Output { .. }, Sort::CommitOpened) => Some(Round::CommitOpened),
             (Gate::Output { .. }, Sort::RevealOpened) => Some(Round::RevealOpened),
             (Gate::Output { .. }, Sort::OpenOutput) => Some(Round::OpenOutput),

@@ -58,6 +58,11 @@ pub fn make(random: &mut Random, parties: u32, circuit: &[u32], key: u32) -> Vec
                 preps.push_shared(random, b);
                 preps.push_shared(random, mul(a, b));
             }
+            Gate::Square { .. } => {
+                let a = random.element();
+                preps.push_shared(random, a);
+                preps.push_shared(random, mul(a, a));
+            }
             _ => {}
         }
     }
@@ -75,6 +80,10 @@ pub enum Fault {
     TripleMac,
     /// c is not a times b.
     Product,
+    /// MAC shares of a pair's a or c that do not sum to the key times it.
+    PairMac,
+    /// A pair's c is not a times a.
+    Square,
 }
 
 /// What is wrong with joined preprocessing that passes questions 8 and 9: "Material over all seats is
@@ -101,6 +110,13 @@ pub fn faults(parties: u32, circuit: &[u32], preps: &[u32]) -> Vec<Fault> {
                 vec![
                     (Fault::TripleMac, macs),
                     (Fault::Product, total(record + 4) == product),
+                ]
+            }
+            Gate::Square { .. } => {
+                let square = mul(total(record), total(record));
+                vec![
+                    (Fault::PairMac, shared(record) && shared(record + 2)),
+                    (Fault::Square, total(record + 2) == square),
                 ]
             }
             _ => Vec::new(),

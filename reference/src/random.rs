@@ -1,7 +1,8 @@
 //! A deterministic generator, and random circuits that pass questions 3 to 7.
 
-use crate::circuit::{ADD, IN, MUL, OUT, PLUS, SUB, TIMES};
+use crate::circuit::{ADD, IN, MUL, OUT, PLUS, SQ, SUB, TIMES};
 use crate::field::P;
+use crate::party::Round;
 
 /// The splitmix64 generator.
 #[derive(Clone, Debug)]
@@ -89,12 +90,45 @@ impl Random {
 
 const LINEAR: [u32; 4] = [ADD, SUB, PLUS, TIMES];
 
-fn any_kind(random: &mut Random) -> u32 {
-    match random.below(9) {
-        0 | 1 => IN,
-        2 | 3 => MUL,
-        4 => OUT,
-        _ => random.pick(&LINEAR),
+/// The kinds that the gates of random circuits have.
+#[derive(Clone, Copy, Debug, PartialEq, Eq)]
+pub enum Kinds {
+    /// Those of document 01, 1 to 7.
+    Base,
+    /// 1 to 8.
+    Squares,
+}
+
+impl Kinds {
+    pub fn has(self, kind: u32) -> bool {
+        self == Kinds::Squares || kind != SQ
+    }
+
+    pub fn rounds(self) -> impl Iterator<Item = Round> {
+        let has = move |round: &Round| self == Kinds::Squares || *round != Round::Square;
+        Round::ALL.into_iter().filter(has)
+    }
+
+    /// Gates of the smallest circuit that `rich_circuit` gives.
+    pub fn rich_lines(self) -> usize {
+        match self {
+            Kinds::Base => 10,
+            Kinds::Squares => 12,
+        }
+    }
+
+    fn any(self, random: &mut Random) -> u32 {
+        let most = match self {
+            Kinds::Base => 9,
+            Kinds::Squares => 11,
+        };
+        match random.below(most) {
+            0 | 1 => IN,
+            2 | 3 => MUL,
+            4 => OUT,
+            9.. => SQ,
+            _ => random.pick(&LINEAR),
+        }
     }
 }
 
@@ -119,7 +153,7 @@ pub fn from_kinds(random: &mut Random, parties: u32, kinds: &[u32]) -> Vec<u32> 
             };
             match kind {
                 PLUS | TIMES => [kind, first, 0, random.edge_element()],
-                OUT => [kind, first, 0, 0],
+                OUT | SQ => [kind, first, 0, 0],
                 _ => [kind, first, second, 0],
             }
         };
@@ -131,27 +165,28 @@ pub fn from_kinds(random: &mut Random, parties: u32, kinds: &[u32]) -> Vec<u32> 
     circuit
 }
 
-/// An accepted circuit of `lines` gates, at least 2, of any kinds.
-pub fn circuit(random: &mut Random, parties: u32, lines: usize) -> Vec<u32> {
+/// An accepted circuit of `lines` gates, at least 2, of any of the kinds.
+pub fn circuit(random: &mut Random, of: Kinds, parties: u32, lines: usize) -> Vec<u32> {
     let mut kinds = vec![IN];
-    kinds.extend((2..lines).map(|_| any_kind(random)));
+    kinds.extend((2..lines).map(|_| of.any(random)));
     kinds.push(OUT);
     from_kinds(random, parties, &kinds)
 }
 
-/// Gates of the smallest circuit that `rich_circuit` gives.
-pub const RICH_LINES: usize = 10;
-
-/// An accepted circuit of `lines` gates, at least `RICH_LINES`, that has every kind, an out gate with
-/// something unchecked before it, later one with nothing unchecked, and after that a mul and an add
-/// gate.
-pub fn rich_circuit(random: &mut Random, parties: u32, lines: usize) -> Vec<u32> {
+/// An accepted circuit of `lines` gates, at least `rich_lines`, that has every one of the kinds, an out
+/// gate with something unchecked before it, later one with nothing unchecked, and after that a mul and
+/// an add gate, and an sq gate if it is among the kinds.
+pub fn rich_circuit(random: &mut Random, of: Kinds, parties: u32, lines: usize) -> Vec<u32> {
     let mut parts = [vec![PLUS, MUL, SUB], vec![TIMES], vec![MUL, ADD]];
-    for _ in RICH_LINES..lines {
+    if of == Kinds::Squares {
+        parts[0].push(SQ);
+        parts[2].push(SQ);
+    }
+    for _ in of.rich_lines()..lines {
         let part = random.below(parts.len());
-        // A mul gate in the middle part would leave something unchecked before its out gate.
-        let kind = match any_kind(random) {
-            MUL if part == 1 => random.pick(&LINEAR),
+        // A mul or sq gate in the middle part would leave something unchecked before its out gate.
+        let kind = match of.any(random) {
+            MUL | SQ if part == 1 => random.pick(&LINEAR),
             kind => kind,
         };
         parts[part].push(kind);

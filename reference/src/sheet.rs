@@ -1,7 +1,7 @@
 //! Circuits as text: a sheet has a form on each line, and forms stand within forms.
 //!
-//! A form is `(in S)`, `(add F F)`, `(sub F F)`, `(plus F K)`, `(times F K)`, `(mul F F)`, inside another one
-//! `(line J)`, and outermost only `(out F)`. A row here is a line of the sheet.
+//! A form is `(in S)`, `(add F F)`, `(sub F F)`, `(plus F K)`, `(times F K)`, `(mul F F)`, `(sq F)`, inside another
+//! one `(line J)`, and outermost only `(out F)`. A row here is a line of the sheet.
 
 pub mod examples;
 #[cfg(test)]
@@ -9,7 +9,7 @@ mod model;
 #[cfg(test)]
 mod tests;
 
-use crate::circuit::{self, ADD, IN, MAX_GATES, MUL, OUT, PLUS, SUB, TIMES};
+use crate::circuit::{self, ADD, IN, MAX_GATES, MUL, OUT, PLUS, SQ, SUB, TIMES};
 use crate::refusal::{ask, ask_parties, Refusal};
 
 /// The greatest depth of a form; the outermost has depth 1.
@@ -102,7 +102,7 @@ impl Reader<'_> {
         Ok(())
     }
 
-    /// A word with the space after it. No other word that may stand here has the same first letter.
+    /// A word with the space after it. No other word that may stand here goes along with the text farther.
     fn word<const N: usize>(&mut self, word: &[u8; N]) -> Read<()> {
         let rest = &self.text[self.at..];
         if rest.starts_with(word) {
@@ -116,9 +116,7 @@ impl Reader<'_> {
     /// The rest of an outermost form, whose bracket has been read.
     fn outermost(&mut self) -> Read<u32> {
         if self.peek() == Some(b'o') {
-            self.word(b"out ")?;
-            let wire = self.operand(1)?;
-            return self.close([OUT, wire, 0, 0]);
+            return self.word(b"out ").and_then(|()| self.one(OUT, 1));
         }
         self.gate(1)
     }
@@ -145,6 +143,10 @@ impl Reader<'_> {
                 self.close([IN, owner, 0, 0])
             }
             Some(b'a') => self.word(b"add ").and_then(|()| self.two(ADD, depth)),
+            // What begins with the `s` alone may become either.
+            Some(b's') if self.text.get(self.at + 1) == Some(&b'q') => {
+                self.word(b"sq ").and_then(|()| self.one(SQ, depth))
+            }
             Some(b's') => self.word(b"sub ").and_then(|()| self.two(SUB, depth)),
             Some(b'm') => self.word(b"mul ").and_then(|()| self.two(MUL, depth)),
             Some(b'p') => self.word(b"plus ").and_then(|()| self.scaled(PLUS, depth)),
@@ -153,6 +155,12 @@ impl Reader<'_> {
                 .and_then(|()| self.scaled(TIMES, depth)),
             _ => Err(BROKEN),
         }
+    }
+
+    /// The rest of a form that holds one.
+    fn one(&mut self, kind: u32, depth: usize) -> Read<u32> {
+        let wire = self.operand(depth)?;
+        self.close([kind, wire, 0, 0])
     }
 
     /// The rest of a form that holds two.
@@ -282,6 +290,7 @@ impl Writer {
             PLUS => self.put(b"(plus (line "),
             TIMES => self.put(b"(times (line "),
             MUL => self.put(b"(mul (line "),
+            SQ => self.put(b"(sq (line "),
             _ => self.put(b"(out (line "),
         }
         self.number(first);
@@ -292,7 +301,7 @@ impl Writer {
                 self.number(constant);
                 self.put(b")\n");
             }
-            OUT => self.put(b"))\n"),
+            OUT | SQ => self.put(b"))\n"),
             _ => {
                 self.put(b") (line ");
                 self.number(second);

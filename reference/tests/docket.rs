@@ -4,7 +4,7 @@ mod common;
 
 use common::Case;
 use reference::docket::{self, CIRCUIT, COEFFICIENTS, INPUTS, PARTIES, PREPS};
-use reference::random::Random;
+use reference::random::{self, Kinds, Random};
 use reference::{circuit, open, plain, prep, receive, send};
 use reference::{Ending, Party, Position, Received, Refusal, Sort, Stage, P};
 
@@ -220,10 +220,13 @@ fn at_most_766_rounds() {
     let mut random = Random::new(5);
     let mut outs = vec![1, 0, 0, 0];
     outs.extend([7, 0, 0, 0].repeat(255));
-    let mut pairs = vec![1, 0, 0, 0];
-    pairs.extend([6, 0, 0, 0, 7, 0, 0, 0].repeat(127));
-    pairs.extend([7, 0, 0, 0]);
-    for circuit in [outs, pairs] {
+    let opening = |kind| {
+        let mut circuit = vec![1, 0, 0, 0];
+        circuit.extend([kind, 0, 0, 0, 7, 0, 0, 0].repeat(127));
+        circuit.extend([7, 0, 0, 0]);
+        circuit
+    };
+    for circuit in [outs, opening(6), opening(8)] {
         assert_eq!(plain::rounds(&circuit), 766);
         let key = random.element();
         let case = Case::of(&mut random, 3, circuit, key);
@@ -235,7 +238,7 @@ fn at_most_766_rounds() {
         assert_eq!(case.single(|_, _, _| ()), left);
     }
     for _ in 0..200 {
-        let circuit = reference::random::circuit(&mut random, 2, 256);
+        let circuit = random::circuit(&mut random, Kinds::Squares, 2, 256);
         assert!(plain::rounds(&circuit) <= 766);
     }
 }

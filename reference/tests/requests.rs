@@ -5,6 +5,7 @@ mod common;
 use std::collections::BTreeSet;
 
 use common::answers::{assert_refusal_is_right, assert_written_as_due};
+use reference::random::Kinds;
 use reference::requests::{coverage, generate, Answer, Request, Size};
 use reference::{Ending, Round};
 
@@ -48,7 +49,7 @@ fn assert_covered(count: usize) {
 
 #[test]
 fn covers_everything() {
-    assert_covered(150);
+    assert_covered(160);
     assert_covered(300);
 }
 
@@ -67,6 +68,7 @@ fn joint_requests_cover_every_number_of_parties_and_an_abort_after_an_output() {
         1,
         170,
         Size {
+            kinds: Kinds::Squares,
             max_lines: 14,
             max_parties: 8,
         },
@@ -102,6 +104,7 @@ fn refusals_and_writes() {
         (
             3,
             Size {
+                kinds: Kinds::Squares,
                 max_lines: 30,
                 max_parties: 8,
             },

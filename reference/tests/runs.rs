@@ -90,7 +90,7 @@ fn bad_preprocessing_ends_alike_in_both() {
     assert!(aborts > SEEDS / 4, "{aborts}");
 }
 
-/// An altered multiply or output word is opened wrongly, and the next check aborts; altered reveals
+/// An altered word of a product, a square or an output is opened wrongly, and the next check aborts; altered reveals
 /// abort at once. An altered owner's word in an in round only changes the input; another's is ignored.
 #[test]
 fn altered_words() {
@@ -143,19 +143,20 @@ fn altered_words() {
 }
 
 /// One altered number in the preprocessing of values that are opened aborts: the key share, and every
-/// share and MAC share of masks and triple. The whole masks, at 3 and 6, only change the inputs.
+/// share and MAC share of masks, triple and pair. The whole masks, at 3 and 6, only change the inputs.
 #[test]
 fn altered_shares_abort() {
     let mut random = Random::new(77);
-    let circuit = vec![1, 0, 0, 0, 1, 1, 0, 0, 6, 0, 1, 0, 7, 2, 0, 0];
-    for party in 0..3 {
-        for index in [0, 1, 2, 4, 5, 7, 8, 9, 10, 11, 12] {
+    let product = [1, 0, 0, 0, 1, 1, 0, 0, 6, 0, 1, 0, 7, 2, 0, 0];
+    let square = [1, 0, 0, 0, 8, 0, 0, 0, 7, 1, 0, 0];
+    for (circuit, len, whole_masks) in [(&product[..], 13, &[3, 6][..]), (&square, 8, &[3])] {
+        let gate = circuit.len() as u32 / 4 - 1;
+        for index in (0..3 * len).filter(|index| !whole_masks.contains(&(index % len))) {
             let key = random.nonzero();
-            let mut case = Case::of(&mut random, 3, circuit.clone(), key);
-            let number = &mut case.preps[party * 13 + index];
-            *number = add(*number, random.nonzero());
+            let mut case = Case::of(&mut random, 3, circuit.to_vec(), key);
+            case.preps[index] = add(case.preps[index], random.nonzero());
             let left = case.joint();
-            assert_eq!(left.result.unwrap().ending, Ending::Aborted { gate: 3 });
+            assert_eq!(left.result.unwrap().ending, Ending::Aborted { gate });
             assert_eq!(case.single(|_, _, _| ()), left);
         }
     }

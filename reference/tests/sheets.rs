@@ -3,7 +3,7 @@
 use std::collections::{BTreeMap, BTreeSet};
 
 use reference::requests::{SheetRequest, SheetSet};
-use reference::sheet::examples::{self, Told, EXAMPLES};
+use reference::sheet::examples::{self, Example, Told, EXAMPLES, SQUARE_EXAMPLES};
 use reference::text;
 
 /// The seed of the vectors that are kept, and of the larger set in the gate.
@@ -71,6 +71,14 @@ fn the_kept_set_has_every_answer_of_every_entry() {
 }
 
 #[test]
+fn the_set_of_squares_has_the_answers_that_squares_can_have() {
+    let squares = SheetSet::Square.make(SEED);
+    assert_answers(&squares, "read", &["lines"], &[3, 5, 6, 7, 18, 22, 23, 24]);
+    assert_answers(&squares, "write", &["bytes"], &[1, 4, 5, 6, 7, 18]);
+    assert_answers(&squares, "score", &["done", "stopped"], &[5, 7, 8, 22, 23]);
+}
+
+#[test]
 fn the_large_set_has_the_answers_of_reader_and_writer() {
     let large = SheetSet::Large.make(SEED);
     assert_eq!(large.len(), 3000);
@@ -93,9 +101,14 @@ fn the_large_set_has_the_answers_of_reader_and_writer() {
 }
 
 #[test]
-fn the_kept_set_has_the_examples() {
-    let kept = SheetSet::Kept.make(SEED);
-    for (parties, parts, told) in EXAMPLES {
+fn the_kept_sets_have_the_examples() {
+    assert_has(SheetSet::Kept, &EXAMPLES);
+    assert_has(SheetSet::Square, &SQUARE_EXAMPLES);
+}
+
+fn assert_has(set: SheetSet, examples: &[Example]) {
+    let kept = set.make(SEED);
+    for &(parties, parts, told) in examples {
         let wanted = examples::text(parts);
         let found = kept.iter().find(|request| matches!(request, SheetRequest::Read { parties: n, text, .. } if *n == parties && *text == wanted));
         let first = first(found.expect("every example is asked"));

@@ -6,7 +6,8 @@ use std::collections::{BTreeMap, BTreeSet};
 use std::sync::OnceLock;
 
 use common::answers::{assert_refusal_is_right, assert_written_as_due};
-use reference::circuit::KIND_NAMES;
+use reference::circuit::{self, KIND_NAMES, OUT, SQ};
+use reference::random::Kinds;
 use reference::requests::{
     measured, neighbours, single_runs, table, Answer, Answered, Entry, Field, Request, Set,
     SingleRun,
@@ -21,6 +22,11 @@ const SEED: u64 = 1;
 fn small() -> &'static [Answered] {
     static SMALL: OnceLock<Vec<Answered>> = OnceLock::new();
     SMALL.get_or_init(|| Set::Small.make(SEED))
+}
+
+fn square() -> &'static [Answered] {
+    static SQUARE: OnceLock<Vec<Answered>> = OnceLock::new();
+    SQUARE.get_or_init(|| Set::Square.make(SEED))
 }
 
 fn large() -> &'static [Answered] {
@@ -85,8 +91,10 @@ fn wanted() -> BTreeSet<(Entry, String)> {
     for parties in 2..=8 {
         want(&Entry::ALL, format!("accepted, {parties} parties"));
     }
-    for kind in KIND_NAMES {
-        want(&Entry::ALL, format!("accepted, with a gate of kind {kind}"));
+    for (kind, name) in (1..).zip(KIND_NAMES) {
+        if Kinds::Base.has(kind) {
+            want(&Entry::ALL, format!("accepted, with a gate of kind {name}"));
+        }
     }
     for gates in [2, 256] {
         want(&Entry::ALL, format!("accepted, {gates} gates"));
@@ -267,7 +275,7 @@ fn wanted_neighbours() -> BTreeSet<(&'static str, u32, String)> {
             "circuit 1024->1028 long",
         ],
     );
-    want(all, 4, &["kind 1->0", "kind 7->8", "kind 7->4294967295"]);
+    want(all, 4, &["kind 1->0", "kind 7->9", "kind 7->4294967295"]);
     want(
         all,
         5,
@@ -435,7 +443,7 @@ fn small_covers_what_is_wanted() {
 /// No entry refuses with a number that it does not ask.
 #[test]
 fn refusals_are_those_that_the_entry_asks() {
-    for one in small().iter().chain(large()) {
+    for one in small().iter().chain(large()).chain(square()) {
         if let Some(refusal) = one.answer.refusal() {
             assert!(asking(refusal.number).contains(&one.request.entry()));
             assert_refusal_is_right(one, refusal);
@@ -465,9 +473,9 @@ fn small_has_whole_runs_of_every_kind() {
         });
     };
     all(None, None);
-    for round in Round::ALL {
+    for round in Kinds::Base.rounds() {
         let aborted = match round {
-            Round::Multiply | Round::RevealOpened => Some(Round::RevealOpened),
+            Round::Multiply | Round::Square | Round::RevealOpened => Some(Round::RevealOpened),
             Round::OpenOutput | Round::RevealOutput => Some(Round::RevealOutput),
             Round::Input | Round::CommitOpened | Round::CommitOutput => None,
         };
@@ -587,7 +595,7 @@ fn large_has_the_longest_runs_and_lists_and_high_indices() {
 
 #[test]
 fn the_text_keeps_within_the_limits_of_the_format() {
-    for one in small().iter().chain(large()) {
+    for one in small().iter().chain(large()).chain(square()) {
         for line in text::request(&one.request).lines() {
             assert!(line.len() <= 262_144);
             assert!(line.split(' ').count() <= 1 + 16_384);
@@ -598,11 +606,224 @@ fn the_text_keeps_within_the_limits_of_the_format() {
 #[test]
 fn the_table_is_the_printed_one() {
     let readme = include_str!("../../vectors/README.md");
-    assert!(readme.contains(&table(small(), large())));
+    assert!(readme.contains(&table([small(), large(), square()])));
 }
 
 #[test]
 fn the_same_seed_gives_the_same_requests() {
-    assert_eq!(small(), Set::Small.make(SEED));
-    assert_ne!(small(), Set::Small.make(SEED + 1));
+    for set in Set::ALL {
+        let made = set.make(SEED);
+        assert_eq!(made, set.make(SEED));
+        assert_ne!(made, set.make(SEED + 1));
+    }
+}
+
+/// The counts that vectors/README.md tells.
+#[test]
+fn the_counts_are_the_printed_ones() {
+    let readme = include_str!("../../vectors/README.md");
+    for set in Set::ALL {
+        let requests = format!("| {} requests", set.make(SEED).len());
+        assert!(readme.contains(&requests), "{}: {requests}", set.name());
+    }
+}
+
+/// Whether the request's circuit is one with a square.
+fn has_square(one: &Answered) -> bool {
+    let (circuit, parties) = match &one.request {
+        Request::Joint {
+            circuit, parties, ..
+        } => (circuit, *parties),
+        Request::Open { lent } | Request::Send { lent, .. } | Request::Receive { lent, .. } => {
+            (&lent.circuit, lent.parties)
+        }
+    };
+    circuit::shape(parties, circuit).is_ok_and(|shape| shape.squares > 0)
+}
+
+#[test]
+fn only_the_sets_of_squares_have_squares() {
+    assert!(!small().iter().chain(large()).any(has_square));
+    let (with, without): (Vec<&Answered>, Vec<&Answered>) =
+        square().iter().partition(|one| has_square(one));
+    // The others are refused before the circuit is accepted.
+    assert!(with.len() > 4 * without.len());
+    assert!(without.iter().all(|one| {
+        let refusal = one.answer.refusal();
+        refusal.is_some_and(|refusal| refusal.number <= 7)
+    }));
+}
+
+#[test]
+fn square_has_every_boundary_at_a_square() {
+    let counts = measured(square());
+    let mut wanted = BTreeSet::new();
+    let mut want = |entries: &[Entry], feature: String| {
+        wanted.extend(entries.iter().map(|&entry| (entry, feature.clone())));
+    };
+    for number in 1..=21 {
+        want(
+            &asking(number),
+            format!("refused {number:02}, beside a neighbour that is not"),
+        );
+    }
+    want(
+        &Entry::ALL,
+        String::from("accepted, with a gate of kind sq"),
+    );
+    for parties in 2..=8 {
+        want(&[Joint], format!("accepted, {parties} parties"));
+    }
+    for (entry, here, other) in [
+        (Send, "send-own", "receive-own"),
+        (Receive, "receive-own", "send-own"),
+    ] {
+        want(&[entry], format!("at `{here}` of an sq gate: next"));
+        want(&[entry], format!("at `{other}` of an sq gate: refused 14"));
+        for held in ["a check share held", "a held number above p-1"] {
+            want(
+                &[entry],
+                format!("at `{here}` of an sq gate, {held}: refused 13"),
+            );
+        }
+    }
+    for ending in [
+        "good preprocessing, key 0: finished",
+        "good preprocessing, another key: finished",
+        "bad MAC in a pair, another key: aborted at the first check",
+        "bad MAC in a pair, another key: aborted at the second check",
+        "bad square in a pair, key 0: finished",
+        "bad square in a pair, another key: finished",
+        "aborted after an output",
+    ] {
+        want(&[Joint], String::from(ending));
+    }
+    let has = |(entry, feature): &(Entry, String)| {
+        let count = counts.get(feature).map(|counts| counts[*entry as usize]);
+        count.is_some_and(|count| count > 0)
+    };
+    assert_eq!(missing(wanted, has), []);
+
+    let mut wanted = BTreeSet::new();
+    for entry in Entry::ALL {
+        for (number, change) in [
+            (4, "kind 8->9"),
+            (5, "sq first names itself"),
+            (5, "sq first names the next gate"),
+            (5, "sq first names 4294967295"),
+            (5, "sq first names an out gate"),
+            (6, "sq second 0->1"),
+            (6, "sq second 0->4294967295"),
+            (6, "sq constant 0->1"),
+            (6, "sq constant 0->4294967295"),
+        ] {
+            wanted.insert((entry.name(), number, String::from(change)));
+        }
+    }
+    for entry in [Send, Receive] {
+        for to in [Sort::CommitOpened, Sort::RevealOutput] {
+            let stages = [Sort::Own, to].map(|sort| text::stage(half(entry, sort)));
+            wanted.insert((entry.name(), 13, format!("stage {}", stages.join("->"))));
+        }
+    }
+    let found = neighbours(square());
+    assert_eq!(missing(wanted, |one| found.contains_key(one)), []);
+}
+
+/// The index of question 15 is that of a square's share, its MAC share, and both numbers of its entry.
+#[test]
+fn square_has_refusals_in_every_place_of_a_square() {
+    let mut places = BTreeSet::new();
+    for one in square() {
+        let (Request::Send { lent, position, .. } | Request::Receive { lent, position, .. }) =
+            &one.request
+        else {
+            continue;
+        };
+        let Some(refusal) = one.answer.refusal().filter(|refusal| refusal.number == 15) else {
+            continue;
+        };
+        let shape = circuit::shape(lent.parties, &lent.circuit).unwrap();
+        let layout = shape.layout();
+        let mut entries = 0;
+        for (gate, line) in lent.circuit.chunks_exact(4).enumerate() {
+            if line[0] == OUT && gate < position.gate as usize {
+                entries = 0;
+            }
+            if line[0] == SQ {
+                let of_the_square = [
+                    ("share", layout.share(gate)),
+                    ("MAC share", layout.mac(gate)),
+                    ("entry", layout.opened(entries)),
+                    ("MAC share of the entry", layout.opened_mac(entries)),
+                ];
+                let named = of_the_square.iter();
+                let found = named.filter(|(_, place)| *place == refusal.index);
+                places.extend(found.map(|(name, _)| (one.request.entry(), *name)));
+            }
+            entries += circuit::gate(&lent.circuit, gate).unwrap().needs().entries;
+        }
+    }
+    assert_eq!(places.len(), 2 * 4, "{places:?}");
+}
+
+/// Runs of all parties in which a word of a square is tampered with, and first checks of one entry and of
+/// other odd numbers.
+#[test]
+fn square_has_whole_runs_and_odd_checks() {
+    let found = single_runs(square());
+    let run = |all_parties, aborted, tampered| SingleRun {
+        all_parties,
+        aborted,
+        tampered,
+    };
+    for wanted in [
+        run(true, None, None),
+        run(false, None, None),
+        run(false, Some(Round::RevealOpened), None),
+        run(true, Some(Round::RevealOpened), Some(Round::Square)),
+        run(true, Some(Round::RevealOpened), Some(Round::RevealOpened)),
+        run(true, None, Some(Round::CommitOpened)),
+        run(true, Some(Round::RevealOutput), Some(Round::OpenOutput)),
+    ] {
+        assert!(found.contains_key(&wanted), "{wanted:?}");
+    }
+    let mut checked = BTreeSet::new();
+    for one in square() {
+        if let Request::Send {
+            lent,
+            position,
+            coefficients,
+            ..
+        } = &one.request
+        {
+            let round = position.round(&lent.circuit);
+            if one.answer.refusal().is_none() && round == Some(Round::CommitOpened) {
+                checked.insert(coefficients.len());
+            }
+        }
+    }
+    assert!(checked.contains(&1) && checked.contains(&3), "{checked:?}");
+    assert!(checked.iter().any(|count| count % 2 == 0), "{checked:?}");
+}
+
+#[test]
+fn the_large_set_of_squares_has_the_longest_run_and_every_refusal() {
+    let large = Set::SquaresLarge.make(SEED);
+    let counts = measured(&large);
+    for number in 1..=21 {
+        let refused = &counts[&format!("refused {number:02}")];
+        for entry in asking(number) {
+            assert!(refused[entry as usize] > 1, "{number} {entry:?}");
+        }
+    }
+    for feature in [
+        "accepted, with a gate of kind sq",
+        "accepted, 256 gates and 8 parties",
+        "finished after 766 rounds",
+        "bad MAC in a pair, another key: aborted at the first check",
+        "bad square in a pair, another key: finished",
+    ] {
+        assert!(counts[feature][Joint as usize] > 0, "{feature}");
+    }
 }

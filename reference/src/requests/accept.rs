@@ -3,10 +3,10 @@
 use super::rotation::Expected;
 use super::scene::Scene;
 use super::{Entry, Request, Size};
-use crate::circuit::{self, IN, MUL, OUT, PLUS, TIMES};
+use crate::circuit::{self, IN, MUL, OUT, PLUS, SQ, TIMES};
 use crate::field::{self, P};
 use crate::party::{Round, Stage};
-use crate::random::{self, Random};
+use crate::random::{self, Kinds, Random};
 
 use Expected::{Aborted, Accepted};
 
@@ -31,6 +31,7 @@ pub(super) enum Subject {
     OwnerWord,
     IgnoredWord,
     MultiplyWord,
+    SquareWord,
     OutputWord,
     FirstReveal,
     SecondReveal,
@@ -44,7 +45,7 @@ pub(super) enum Subject {
 
 use Subject::*;
 
-pub(super) const SUBJECTS: [Subject; 23] = [
+const SUBJECTS: [Subject; 24] = [
     HighestOpen,
     HighestCommitSent,
     HighestRevealSent,
@@ -61,6 +62,7 @@ pub(super) const SUBJECTS: [Subject; 23] = [
     OwnerWord,
     IgnoredWord,
     MultiplyWord,
+    SquareWord,
     OutputWord,
     FirstReveal,
     SecondReveal,
@@ -70,15 +72,22 @@ pub(super) const SUBJECTS: [Subject; 23] = [
     JointRuns,
 ];
 
+pub(super) fn subjects(kinds: Kinds) -> impl Iterator<Item = Subject> {
+    let has = move |subject: &Subject| kinds.has(SQ) || !matches!(subject, SquareWord);
+    SUBJECTS.into_iter().filter(has)
+}
+
 /// A run of one party by single entries, from opening to the finished position. The first turn's
 /// circuit is the shortest that has every stage.
 pub(super) fn whole_run(random: &mut Random, turn: usize, size: Size) -> Vec<(Request, Expected)> {
     let parties = random.between(2, size.max_parties as usize) as u32;
     let circuit = if turn == 0 {
-        random::from_kinds(random, parties, &[IN, MUL, OUT, OUT])
+        let kinds = [IN, MUL, SQ, OUT, OUT].into_iter();
+        let kinds: Vec<u32> = kinds.filter(|&kind| size.kinds.has(kind)).collect();
+        random::from_kinds(random, parties, &kinds)
     } else {
         let lines = random.between(2, size.max_lines.min(14));
-        random::circuit(random, parties, lines)
+        random::circuit(random, size.kinds, parties, lines)
     };
     let key = random.element();
     let scene = Scene::new(random, parties, circuit, key);
@@ -105,7 +114,7 @@ pub(super) fn accepted(
         | HighestCommitReceived
         | HighestJoint => vec![highest(random, size, subject)],
         EightParties => {
-            let circuit = random::rich_circuit(random, 8, random::RICH_LINES);
+            let circuit = random::rich_circuit(random, size.kinds, 8, size.kinds.rich_lines());
             let key = random.element();
             let scene = Scene::new(random, 8, circuit, key);
             let entry = [Entry::Receive, Entry::Joint, Entry::Open, Entry::Send][turn % 4];
@@ -113,7 +122,7 @@ pub(super) fn accepted(
             one(scene.any(random, entry, party))
         }
         MostGates => {
-            let circuit = random::circuit(random, 2, circuit::MAX_GATES);
+            let circuit = random::circuit(random, size.kinds, 2, circuit::MAX_GATES);
             let key = random.element();
             let scene = Scene::new(random, 2, circuit, key);
             let entry = [Entry::Open, Entry::Joint][turn % 2];
@@ -124,7 +133,7 @@ pub(super) fn accepted(
             let entry = [Entry::Send, Entry::Receive][(turn + subject as usize) % 2];
             one(not_asked(random, size, entry, subject))
         }
-        OwnerWord | IgnoredWord | MultiplyWord | OutputWord => {
+        OwnerWord | IgnoredWord | MultiplyWord | SquareWord | OutputWord => {
             one(altered_word(random, size, subject))
         }
         FirstReveal | SecondReveal => vec![(altered_word(random, size, subject), Aborted)],
@@ -145,7 +154,7 @@ fn joint_run(random: &mut Random, size: Size, parties: u32, turn: usize) -> (Req
         size.max_lines.min(24)
     };
     let lines = random.between(2, bound);
-    let circuit = random::circuit(random, parties, lines);
+    let circuit = random::circuit(random, size.kinds, parties, lines);
     let key = if (parties as usize + turn).is_multiple_of(2) {
         0
     } else {
@@ -177,7 +186,12 @@ fn highest(random: &mut Random, size: Size, subject: Subject) -> (Request, Expec
         HighestRevealSent => at(Entry::Send, &[Round::RevealOpened, Round::RevealOutput]),
         HighestReceived => at(
             Entry::Receive,
-            &[Round::Input, Round::Multiply, Round::OpenOutput],
+            &[
+                Round::Input,
+                Round::Multiply,
+                Round::Square,
+                Round::OpenOutput,
+            ],
         ),
         HighestCommitReceived => at(Entry::Receive, &commits),
         _ => scene.joint(random),
@@ -257,7 +271,7 @@ fn not_asked(random: &mut Random, size: Size, entry: Entry, subject: Subject) ->
     match subject {
         Excess => lent.scratch.extend([P, u32::MAX]),
         CheckedEntries => {
-            for entry in round.unchecked(scene.pending(gate))..2 * scene.shape.products + 1 {
+            for entry in round.unchecked(scene.pending(gate))..layout.entries() {
                 lent.scratch[layout.opened(entry)] = P;
                 lent.scratch[layout.opened_mac(entry)] = u32::MAX;
             }
@@ -273,6 +287,7 @@ fn altered_word(random: &mut Random, size: Size, subject: Subject) -> Request {
     let wanted = match subject {
         OwnerWord | IgnoredWord => Round::Input,
         MultiplyWord => Round::Multiply,
+        SquareWord => Round::Square,
         OutputWord => Round::OpenOutput,
         FirstReveal => Round::RevealOpened,
         _ => Round::RevealOutput,
@@ -311,11 +326,11 @@ fn bad_prep(random: &mut Random, size: Size, subject: Subject) -> Request {
     } else {
         Scene::rich(random, size)
     };
-    let products = scene.gates_of(&[MUL]);
+    let products = scene.gates_of(&[MUL, SQ]);
     let gate = match subject {
         JointFirstCheck => products[0],
         JointSecondCheck => scene.circuit[4 * (scene.shape.gates - 1) + 1] as usize,
-        // A rich circuit has two out gates before its last product; both are passed.
+        // A rich circuit has two out gates before its last product or square; both are passed.
         _ => products[products.len() - 1],
     };
     let party = scene.any_party(random) as usize;

@@ -4,9 +4,9 @@
 use super::refuse::add_later_faults;
 use super::scene::Scene;
 use super::{Entry, Request};
-use crate::circuit::{ADD, IN, MAX_GATES, MUL, OUT, PLUS, SUB, TIMES};
+use crate::circuit::{ADD, IN, MAX_GATES, MUL, NO_KIND, OUT, PLUS, SQ, SUB, TIMES};
 use crate::field::P;
-use crate::random::{self, Random};
+use crate::random::{self, Kinds, Random};
 
 /// The least and the greatest number that is no element.
 pub(super) const NO_ELEMENTS: [u32; 2] = [P, u32::MAX];
@@ -74,6 +74,8 @@ impl Boundary {
 pub(super) struct Boundaries<'a> {
     pub random: &'a mut Random,
     pub entry: Entry,
+    /// The kinds of the scenes' gates.
+    pub kinds: Kinds,
     scene_of: &'a dyn Fn(&mut Random, u32) -> Scene,
     made: Vec<Boundary>,
 }
@@ -82,23 +84,38 @@ pub(super) struct Boundaries<'a> {
 pub(super) fn boundaries(
     random: &mut Random,
     entry: Entry,
+    kinds: Kinds,
     scene_of: &dyn Fn(&mut Random, u32) -> Scene,
 ) -> Vec<Boundary> {
-    let mut all = Boundaries {
-        random,
-        entry,
-        scene_of,
-        made: Vec::new(),
-    };
+    let mut all = Boundaries::new(random, entry, kinds, scene_of);
     all.parties();
     all.length_of_circuit();
     all.gates();
     all.lists();
     all.steps();
-    all.made
+    all.made()
 }
 
-impl Boundaries<'_> {
+impl<'a> Boundaries<'a> {
+    pub fn new(
+        random: &'a mut Random,
+        entry: Entry,
+        kinds: Kinds,
+        scene_of: &'a dyn Fn(&mut Random, u32) -> Scene,
+    ) -> Boundaries<'a> {
+        Boundaries {
+            random,
+            entry,
+            kinds,
+            scene_of,
+            made: Vec::new(),
+        }
+    }
+
+    pub fn made(self) -> Vec<Boundary> {
+        self.made
+    }
+
     pub fn add<T: Copy>(
         &mut self,
         number: u32,
@@ -253,20 +270,27 @@ impl Boundaries<'_> {
 
     /// Questions 4 to 7.
     fn gates(&mut self) {
-        for (kind, outside) in [(IN, &[0][..]), (OUT, &[8, u32::MAX])] {
+        let kinds = [
+            (IN, &[0][..]),
+            (OUT, &[NO_KIND, u32::MAX]),
+            (SQ, &[NO_KIND]),
+        ];
+        let asked = self.kinds;
+        for (kind, outside) in kinds.into_iter().filter(|&(kind, _)| asked.has(kind)) {
             let (gate, _, base) = self.gate_of(kind);
             self.gate_number(4, &base, (gate, 0), kind, outside);
         }
 
-        let with_names: [(u32, &[usize]); 6] = [
+        let with_names: [(u32, &[usize]); 7] = [
             (ADD, &[1, 2]),
             (SUB, &[1, 2]),
             (PLUS, &[1]),
             (TIMES, &[1]),
             (MUL, &[1, 2]),
             (OUT, &[1]),
+            (SQ, &[1]),
         ];
-        for (kind, fields) in with_names {
+        for (kind, fields) in with_names.into_iter().filter(|&(kind, _)| asked.has(kind)) {
             for &field in fields {
                 let (gate, scene, base) = self.gate_of(kind);
                 let (outs, wires): (Vec<usize>, Vec<usize>) =
@@ -289,7 +313,7 @@ impl Boundaries<'_> {
             let (gate, _, base) = self.gate_of(kind);
             self.gate_number(6, &base, (gate, 3), P - 1, &NO_ELEMENTS);
         }
-        let unused: [(u32, &[usize]); 7] = [
+        let unused: [(u32, &[usize]); 8] = [
             (IN, &[2, 3]),
             (ADD, &[3]),
             (SUB, &[3]),
@@ -297,8 +321,9 @@ impl Boundaries<'_> {
             (TIMES, &[2]),
             (MUL, &[3]),
             (OUT, &[2, 3]),
+            (SQ, &[2, 3]),
         ];
-        for (kind, fields) in unused {
+        for (kind, fields) in unused.into_iter().filter(|&(kind, _)| asked.has(kind)) {
             for &field in fields {
                 let (gate, _, base) = self.gate_of(kind);
                 self.gate_number(6, &base, (gate, field), 0, &[1, u32::MAX]);
@@ -320,8 +345,8 @@ impl Boundaries<'_> {
                 let gate = scene.shape.gates - 1;
                 // For each number the field, and what is wrong in it, of an in and of an out gate.
                 let first = [(0, 0), (1, scene.parties), (2, 1)];
-                let last =
-                    [(0, 8), (1, gate as u32), (2, 1)].map(|(field, no)| (4 * gate + field, no));
+                let last = [(0, NO_KIND), (1, gate as u32), (2, 1)]
+                    .map(|(field, no)| (4 * gate + field, no));
                 let (at, no) = first[early - 4];
                 let (late_at, late_no) = last[late - 4];
                 let put = |request: &mut Request, (at, number): (usize, u32)| {

@@ -4,7 +4,7 @@ use super::boundary::{len_of, Boundaries, NO_ELEMENTS};
 use super::refuse::set_position;
 use super::scene::Scene;
 use super::{Entry, Request};
-use crate::circuit::{ADD, IN, MUL, OUT, PLUS, SUB, TIMES};
+use crate::circuit::{ADD, IN, MUL, OUT, PLUS, SQ, SUB, TIMES};
 use crate::field::P;
 use crate::party::{Position, Round, Sort, Stage};
 
@@ -28,8 +28,8 @@ impl At {
     /// Two gates that have no round of the sort: one that needs no round, and one that has others.
     fn other_gates(&self) -> [u32; 2] {
         let others: &[u32] = match self.round {
-            Round::Input | Round::Multiply => &[OUT],
-            _ => &[IN, MUL],
+            Round::Input | Round::Multiply | Round::Square => &[OUT],
+            _ => &[IN, MUL, SQ],
         };
         [&[ADD, SUB, PLUS, TIMES], others].map(|kinds| self.nearest(kinds))
     }
@@ -75,7 +75,7 @@ pub(super) fn heard(request: &mut Request) -> &mut Vec<u32> {
 }
 
 /// The list for the words of a round or of a run.
-fn words(request: &mut Request) -> &mut Vec<u32> {
+pub(super) fn words(request: &mut Request) -> &mut Vec<u32> {
     match request {
         Request::Send { out, .. } => out,
         Request::Joint { transcript, .. } => transcript,
@@ -104,7 +104,7 @@ impl Boundaries<'_> {
                 self.least_length(18, &base, scene.shape.outputs, outputs);
             }
             Entry::Send | Entry::Receive => {
-                for round in Round::ALL {
+                for round in self.kinds.rounds() {
                     let at = self.at(round);
                     self.positions(&at);
                     self.scratch_of(&at);
@@ -190,6 +190,7 @@ impl Boundaries<'_> {
         let elsewhere: &[Sort] = match at.round {
             Round::Input => &[Sort::CommitOpened, Sort::OpenOutput],
             Round::Multiply => &[Sort::RevealOpened, Sort::CommitOutput],
+            Round::Square => &[Sort::CommitOpened, Sort::RevealOutput],
             _ => &[Sort::Own],
         };
         let elsewhere = elsewhere.iter().map(|&sort| with_stage(self.half(sort)));
@@ -224,7 +225,7 @@ impl Boundaries<'_> {
         self.position(14, &at.base, last, &outside);
         let beside = [
             (finished, [last.gate - 1, last.gate + 1]),
-            (aborted, [at.nearest(&[IN, MUL]), last.gate + 1]),
+            (aborted, [at.nearest(&[IN, MUL, SQ]), last.gate + 1]),
         ];
         for (stage, gates) in beside {
             let end = Position { stage, ..last };
@@ -288,14 +289,18 @@ impl Boundaries<'_> {
 mod tests {
     use super::super::boundary::boundaries;
     use super::*;
-    use crate::random::Random;
+    use crate::random::{Kinds, Random};
 
     #[test]
     fn only_the_outside_is_refused_by_the_number() {
         let mut random = Random::new(1);
-        let small = |random: &mut Random, parties| Scene::rich_of(random, parties, 12);
-        for entry in Entry::ALL {
-            for boundary in boundaries(&mut random, entry, &small) {
+        let each =
+            [Kinds::Base, Kinds::Squares].map(|kinds| Entry::ALL.map(|entry| (kinds, entry)));
+        for (kinds, entry) in each.into_iter().flatten() {
+            let lines = kinds.rich_lines() + 2;
+            let small =
+                |random: &mut Random, parties| Scene::rich_of(random, kinds, parties, lines);
+            for boundary in boundaries(&mut random, entry, kinds, &small) {
                 let refused = |request: &Request| request.answer().refusal().map(|no| no.number);
                 let crowded = boundary.clone().crowded(&mut random);
                 for boundary in [boundary, crowded] {

@@ -4,7 +4,7 @@ use std::cmp::Ordering;
 use std::collections::{BTreeMap, BTreeSet};
 
 use super::boundary_steps::{coefficients, heard};
-use super::{neighbours, single_runs, Answer, Answered, Entry, Field, Request, SingleRun};
+use super::{neighbours, single_runs, Answer, Answered, Entry, Field, Request, Set, SingleRun};
 use crate::circuit::{self, Shape};
 use crate::field::{self, P};
 use crate::joint::{Ending, JointResult};
@@ -38,34 +38,43 @@ pub fn measured(answered: &[Answered]) -> BTreeMap<String, [usize; 4]> {
     counts
 }
 
-/// The table of the sets small and large: each cell has the counts in both.
-pub fn table(small: &[Answered], large: &[Answered]) -> String {
-    let sets = [small, large];
-    let mut text = String::from(
-        "| requests (small + large) | `open` | `send` | `receive` | `joint` |\n|---|---|---|---|---|\n",
+/// The table of the kept sets, in the order of `Set::KEPT`: each cell has the counts in all of them.
+pub fn table(sets: [&[Answered]; 3]) -> String {
+    let names = Set::KEPT.map(Set::name);
+    let mut text = format!(
+        "| requests ({}) | `open` | `send` | `receive` | `joint` |\n|---|---|---|---|---|\n",
+        names.join(" + ")
     );
-    let [small, large] = sets.map(measured);
-    let names: BTreeSet<&String> = small.keys().chain(large.keys()).collect();
-    for name in names {
-        let count = |set: &BTreeMap<String, [usize; 4]>, column: usize| {
-            set.get(name).map_or(0, |counts| counts[column])
-        };
-        text.push_str(&format!("| {name} |"));
+    let found = sets.map(measured);
+    let features: BTreeSet<&String> = found.iter().flat_map(BTreeMap::keys).collect();
+    for feature in features {
+        text.push_str(&format!("| {feature} |"));
         for column in 0..4 {
-            text.push_str(&match (count(&small, column), count(&large, column)) {
-                (0, 0) => String::from(" |"),
-                (small, large) => format!(" {small} + {large} |"),
+            let counts = found.each_ref().map(|set| {
+                let counts = set.get(feature);
+                counts.map_or(0, |counts| counts[column])
+            });
+            text.push_str(&match counts {
+                [0, 0, 0] => String::from(" |"),
+                _ => format!(" {} |", counts.map(|count| count.to_string()).join(" + ")),
             });
         }
         text.push('\n');
     }
-    text.push_str("\n| whole runs by single entries | small | large |\n|---|---|---|\n");
-    let [small, large] = sets.map(single_runs);
-    let kinds: BTreeSet<&SingleRun> = small.keys().chain(large.keys()).collect();
-    for kind in kinds {
-        let count = |set: &BTreeMap<SingleRun, usize>| set.get(kind).copied().unwrap_or(0);
-        let (small, large) = (count(&small), count(&large));
-        text.push_str(&format!("| {} | {small} | {large} |\n", described(kind)));
+    text.push_str(&format!(
+        "\n| whole runs by single entries | {} |\n|---|---|---|---|\n",
+        names.join(" | ")
+    ));
+    let found = sets.map(single_runs);
+    let runs: BTreeSet<&SingleRun> = found.iter().flat_map(BTreeMap::keys).collect();
+    for run in runs {
+        let count = |set: &BTreeMap<SingleRun, usize>| set.get(run).copied().unwrap_or(0);
+        let counts = found.each_ref().map(|set| count(set).to_string());
+        text.push_str(&format!(
+            "| {} | {} |\n",
+            described(run),
+            counts.join(" | ")
+        ));
     }
     text
 }
@@ -292,6 +301,7 @@ fn position(one: &Answered) -> Vec<String> {
     let gate = match position.round(&lent.circuit) {
         Some(Round::Input) => " of an in gate",
         Some(Round::Multiply) => " of a mul gate",
+        Some(Round::Square) => " of an sq gate",
         _ => "",
     };
     let held = match position.held {
@@ -355,6 +365,8 @@ fn fault_name(fault: Fault) -> &'static str {
         Fault::WholeMask => "bad whole mask",
         Fault::TripleMac => "bad MAC in a triple",
         Fault::Product => "bad product in a triple",
+        Fault::PairMac => "bad MAC in a pair",
+        Fault::Square => "bad square in a pair",
     }
 }
 

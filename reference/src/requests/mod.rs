@@ -21,15 +21,18 @@ mod sets;
 mod sheet_calls;
 mod sheet_reads;
 mod sheet_sets;
+mod sheet_squares;
 mod sheet_writes;
 mod sheets;
 mod single_runs;
+mod squares;
 
 use std::slice::from_ref;
 
 use crate::circuit;
 use crate::joint::{joint_run, Ending, JointResult};
 use crate::party::{open, receive, send, Party, Position, Received};
+use crate::random::Kinds;
 use crate::refusal::Refusal;
 
 pub use coverage::{coverage, measured, table};
@@ -41,20 +44,23 @@ pub use sheet_sets::SheetSet;
 pub use sheets::{score_request, scored, SheetRequest};
 pub use single_runs::{single_runs, SingleRun};
 
-/// Bounds for the circuits and the numbers of parties. A few cases need more than a small bound
-/// allows and take it: the boundaries at 8 parties and at 256 gates, and circuits of 10 gates.
+/// The kinds of gates, and bounds for the circuits and the numbers of parties. A few cases need more than
+/// a small bound allows and take it: the boundaries at 8 parties and at 256 gates, and rich circuits.
 #[derive(Clone, Copy, Debug, PartialEq, Eq)]
 pub struct Size {
+    pub kinds: Kinds,
     pub max_lines: usize,
     pub max_parties: u32,
 }
 
 impl Size {
     pub const SMALL: Size = Size {
+        kinds: Kinds::Squares,
         max_lines: 14,
         max_parties: 4,
     };
     pub const FULL: Size = Size {
+        kinds: Kinds::Squares,
         max_lines: 256,
         max_parties: 8,
     };

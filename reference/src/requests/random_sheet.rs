@@ -1,6 +1,5 @@
 //! Random sheets, most of which are accepted.
 
-use crate::circuit::KIND_NAMES;
 use crate::field::P;
 use crate::random::Random;
 use crate::sheet::MAX_DEPTH;
@@ -48,8 +47,9 @@ impl Maker<'_> {
         if depth >= deepest {
             return self.leaf(depth == 1);
         }
-        // Kinds 2 to 6.
-        let kind = KIND_NAMES[self.random.between(1, 5)];
+        let kind = self
+            .random
+            .pick(&["add", "sub", "plus", "times", "mul", "sq"]);
         self.text.push_str(&format!("({kind} "));
         let shallow = depth + self.random.between(1, 2);
         let (first, second) = if self.random.once_in(2) {
@@ -62,6 +62,10 @@ impl Maker<'_> {
                 self.form(depth + 1, deepest);
                 let constant = self.constant();
                 self.text.push_str(&format!(" {constant})"));
+            }
+            "sq" => {
+                self.form(depth + 1, deepest);
+                self.text.push(')');
             }
             _ => {
                 self.form(depth + 1, first);

@@ -5,7 +5,7 @@ use super::refuse_steps::{
 };
 use super::scene::Scene;
 use super::{Entry, Request, Size};
-use crate::circuit::{ADD, IN, MUL, OUT, PLUS, SUB, TIMES};
+use crate::circuit::{ADD, IN, MUL, NO_KIND, OUT, PLUS, SQ, SUB, TIMES};
 use crate::field::P;
 use crate::party::Position;
 use crate::random::{self, Random};
@@ -227,13 +227,13 @@ fn spoil_lent(
         3 => match variant {
             0 => drop(circuit.pop()),
             1 => circuit.push(0),
-            2 => *circuit = random::circuit(random, scene.parties, 257),
+            2 => *circuit = random::circuit(random, scene.kinds(), scene.parties, 257),
             3 => drop(circuit.drain(..circuit.len() - 4)),
             _ => circuit.clear(),
         },
         4 => {
             let index = random.below(scene.shape.gates);
-            circuit[4 * index] = [0, 8, u32::MAX][variant];
+            circuit[4 * index] = [0, NO_KIND, u32::MAX][variant];
         }
         5 => spoil_name(random, scene, circuit, variant),
         6 => spoil_field(random, scene, circuit, variant),
@@ -280,7 +280,7 @@ fn spoil_name(random: &mut Random, scene: &Scene, circuit: &mut [u32], variant: 
     let kinds: &[u32] = if field == 2 {
         &[ADD, SUB, MUL]
     } else {
-        &[ADD, SUB, PLUS, TIMES, MUL, OUT]
+        &[ADD, SUB, PLUS, TIMES, MUL, OUT, SQ]
     };
     let mut named = scene.gates_of(kinds);
     let first_out = scene.gates_of(&[OUT])[0];
@@ -306,8 +306,8 @@ fn spoil_field(random: &mut Random, scene: &Scene, circuit: &mut [u32], variant:
         4 => (&[IN], 3, 1),
         5 => (&[ADD, SUB], 3, 1),
         6 => (&[MUL], 3, P),
-        7 => (&[OUT], 2, 1),
-        _ => (&[OUT], 3, u32::MAX),
+        7 => (&[OUT, SQ], 2, 1),
+        _ => (&[OUT, SQ], 3, u32::MAX),
     };
     let index = random.pick(&scene.gates_of(kinds));
     circuit[4 * index + field] = number;

@@ -3,7 +3,7 @@
 use super::refuse::{set_len, set_position, spoil_elements};
 use super::scene::Scene;
 use super::{Entry, Request};
-use crate::circuit::{ADD, IN, MUL, OUT, PLUS, SUB, TIMES};
+use crate::circuit::{ADD, IN, MUL, OUT, PLUS, SQ, SUB, TIMES};
 use crate::field::P;
 use crate::party::{Position, Round, Sort, Stage};
 use crate::random::Random;
@@ -44,7 +44,7 @@ pub(super) fn impossible_position(
     let (gate, stage, held) = match variant {
         0 => (last + 1, half(Sort::OpenOutput), 0),
         1 => (u32::MAX as usize, half(Sort::Own), 0),
-        2 => (of(&[MUL]), half(Sort::CommitOpened), 0),
+        2 => (of(&[MUL, SQ]), half(Sort::CommitOpened), 0),
         3 => (of(&[OUT]), half(Sort::Own), 0),
         4 => (of(&[IN]), half(Sort::OpenOutput), 0),
         5 => (
@@ -63,7 +63,7 @@ pub(super) fn impossible_position(
         10 => (random.pick(&checked), half(holding[0]), P),
         11 => (random.pick(&outs), half(holding[1]), u32::MAX),
         12 => (random.below(last), Stage::Finished, 0),
-        13 => (of(&[IN, ADD, SUB, PLUS, TIMES, MUL]), Stage::Aborted, 0),
+        13 => (of(&[IN, ADD, SUB, PLUS, TIMES, MUL, SQ]), Stage::Aborted, 0),
         14 => (last, Stage::Finished, 1),
         15 => (of(&[OUT]), Stage::Aborted, P - 1),
         _ => (of(&[OUT]), half(Sort::OpenOutput), random.nonzero()),
@@ -142,7 +142,7 @@ pub(super) fn spoiled_scratch(
     let mut request = scene.step(random, entry, party, chosen);
     let (gate, round) = scene.rounds[chosen];
     let layout = scene.shape.layout();
-    let mut wires = scene.gates_of(&[IN, ADD, SUB, PLUS, TIMES, MUL]);
+    let mut wires = scene.gates_of(&[IN, ADD, SUB, PLUS, TIMES, MUL, SQ]);
     wires.retain(|&wire| wire < gate);
     let index = match part {
         0 => layout.share(random.pick(&wires)),

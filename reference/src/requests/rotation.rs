@@ -2,7 +2,7 @@
 
 use super::{accept, refuse, Answered, Entry, Request, Size};
 use crate::circuit::{MAX_GATES, MAX_PARTIES};
-use crate::random::{Random, RICH_LINES};
+use crate::random::{Kinds, Random};
 
 /// What a case is made for. The tests hold the answers against it.
 #[derive(Clone, Copy, Debug, PartialEq, Eq)]
@@ -25,7 +25,7 @@ enum Case {
 
 /// The cases of one turn of the rotation. Every turn has every refusal number in every entry that asks
 /// it and every variant of it; which variant meets which entry changes with the turn.
-fn rotation(turn: usize) -> Vec<Case> {
+fn rotation(turn: usize, kinds: Kinds) -> Vec<Case> {
     let mut cases = vec![Case::WholeRun];
     for (number, entries, variants, pairs) in refuse::CASES {
         let len = entries.len();
@@ -43,7 +43,7 @@ fn rotation(turn: usize) -> Vec<Case> {
             }
         }));
     }
-    cases.extend(accept::SUBJECTS.map(Case::Accepted));
+    cases.extend(accept::subjects(kinds).map(Case::Accepted));
     cases
 }
 
@@ -53,7 +53,8 @@ fn turn_requests(
     turn: usize,
     size: Size,
 ) -> impl Iterator<Item = (Request, Expected)> + '_ {
-    rotation(turn).into_iter().flat_map(move |case| match case {
+    let cases = rotation(turn, size.kinds).into_iter();
+    cases.flat_map(move |case| match case {
         Case::WholeRun => accept::whole_run(random, turn, size),
         Case::Accepted(subject) => accept::accepted(random, turn, size, subject),
         Case::Refused {
@@ -82,7 +83,8 @@ pub(super) fn requests(random: &mut Random, turn: usize, size: Size) -> Vec<Requ
 /// requests.
 pub fn generate(seed: u64, count: usize, size: Size) -> Vec<Answered> {
     let size = Size {
-        max_lines: size.max_lines.clamp(RICH_LINES, MAX_GATES),
+        kinds: size.kinds,
+        max_lines: size.max_lines.clamp(size.kinds.rich_lines(), MAX_GATES),
         max_parties: size.max_parties.clamp(2, MAX_PARTIES as u32),
     };
     let mut random = Random::new(seed);
@@ -106,7 +108,13 @@ mod tests {
     fn each_case_is_answered_as_it_is_made_for() {
         for size in [
             Size {
+                kinds: Kinds::Base,
                 max_lines: 10,
+                max_parties: 2,
+            },
+            Size {
+                kinds: Kinds::Squares,
+                max_lines: 12,
                 max_parties: 2,
             },
             Size::SMALL,
@@ -128,8 +136,8 @@ mod tests {
     }
 
     #[test]
-    fn one_turn_of_small_cases_fits_into_150_requests() {
+    fn one_turn_of_small_cases_fits_into_160_requests() {
         let turn = turn_requests(&mut Random::new(1), 0, Size::SMALL).count();
-        assert!(turn <= 150, "{turn}");
+        assert!(turn <= 160, "{turn}");
     }
 }

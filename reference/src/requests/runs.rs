@@ -3,10 +3,11 @@
 
 use super::scene::{Scene, Tamper};
 use super::Request;
-use crate::circuit::{self, IN, MUL};
+use crate::circuit::{self, IN, MUL, SQ};
 use crate::field;
 use crate::party::Round;
-use crate::random::{self, Random};
+use crate::random::{self, Kinds, Random};
+use crate::refusal::Refusal;
 
 /// What is wrong with preprocessing.
 #[derive(Clone, Copy, Debug)]
@@ -20,9 +21,13 @@ pub(super) enum Wrong {
     Triple(usize),
     /// c is not a times b, but its MAC is right. No check sees it.
     Product,
+    /// A number of an sq gate's record: a, MAC of a, c, MAC of c.
+    Pair(usize),
+    /// c is not a times a, but its MAC is right. No check sees it.
+    Square,
 }
 
-pub(super) const WRONGS: [Wrong; 11] = [
+pub(super) const TRIPLE_WRONGS: [Wrong; 11] = [
     Wrong::KeyShare,
     Wrong::Mask(0),
     Wrong::Mask(1),
@@ -34,6 +39,14 @@ pub(super) const WRONGS: [Wrong; 11] = [
     Wrong::Triple(4),
     Wrong::Triple(5),
     Wrong::Product,
+];
+
+pub(super) const PAIR_WRONGS: [Wrong; 5] = [
+    Wrong::Pair(0),
+    Wrong::Pair(1),
+    Wrong::Pair(2),
+    Wrong::Pair(3),
+    Wrong::Square,
 ];
 
 /// Spoils the preprocessing at the last gate of the kind that can be spoilt so.
@@ -54,9 +67,13 @@ pub(super) fn spoil(random: &mut Random, scene: &mut Scene, wrong: Wrong) {
             vec![(owner, record + 2, by)]
         }
         Wrong::Triple(number) => vec![(party, record(MUL).0 + number, by)],
-        Wrong::Product => {
+        Wrong::Pair(number) => vec![(party, record(SQ).0 + number, by)],
+        Wrong::Product | Wrong::Square => {
             let key = field::sum(scene.preps.iter().step_by(len));
-            let c = record(MUL).0 + 4;
+            let c = match wrong {
+                Wrong::Product => record(MUL).0 + 4,
+                _ => record(SQ).0 + 2,
+            };
             vec![(party, c, by), (party, c + 1, field::mul(key, by))]
         }
     };
@@ -66,8 +83,11 @@ pub(super) fn spoil(random: &mut Random, scene: &mut Scene, wrong: Wrong) {
     }
 }
 
+/// A scene for so many parties under a key.
+pub(super) type SceneOf = fn(&mut Random, u32, u32) -> Scene;
+
 /// Two products with an output after each; the second product is of the first.
-fn two_products(random: &mut Random, parties: u32, key: u32) -> Scene {
+pub(super) fn two_products(random: &mut Random, parties: u32, key: u32) -> Scene {
     #[rustfmt::skip]
     let circuit = vec![
         1, 0, 0, 0,
@@ -83,12 +103,12 @@ fn two_products(random: &mut Random, parties: u32, key: u32) -> Scene {
 
 /// Runs with each kind of bad preprocessing, under a key of 0 and another one: joint, and one party by
 /// single entries.
-pub(super) fn bad_preps(random: &mut Random) -> Vec<Request> {
+pub(super) fn bad_preps(random: &mut Random, wrongs: &[Wrong], scene_of: SceneOf) -> Vec<Request> {
     let mut requests = Vec::new();
-    for wrong in WRONGS {
+    for &wrong in wrongs {
         for key in [0, random.nonzero()] {
             let parties = random.between(2, 8) as u32;
-            let mut scene = two_products(random, parties, key);
+            let mut scene = scene_of(random, parties, key);
             spoil(random, &mut scene, wrong);
             requests.push(scene.joint(random));
             let party = scene.any_party(random);
@@ -98,13 +118,17 @@ pub(super) fn bad_preps(random: &mut Random) -> Vec<Request> {
     requests
 }
 
-/// Runs of two or three parties that hear one word otherwise than it was sent, in each kind of round.
-pub(super) fn tampered(random: &mut Random) -> Vec<Request> {
+/// Runs of two or three parties that hear one word otherwise than it was sent, in each of the rounds.
+pub(super) fn tampered(
+    random: &mut Random,
+    rounds: impl Iterator<Item = Round>,
+    scene_of: SceneOf,
+) -> Vec<Request> {
     let mut requests = Vec::new();
-    for round in Round::ALL {
+    for round in rounds {
         let parties = random.between(2, 3) as u32;
         let key = random.nonzero();
-        let scene = two_products(random, parties, key);
+        let scene = scene_of(random, parties, key);
         let chosen = scene.find(random, |_, here| here == round);
         let words = round.words() * parties as usize;
         // In an in round only the owner's word counts; both it and another's are tampered with.
@@ -127,28 +151,28 @@ pub(super) fn tampered(random: &mut Random) -> Vec<Request> {
 
 /// For each number of parties a run of all of them by single entries, and joint runs of circuits of
 /// any length up to `max_lines`.
-pub(super) fn good(random: &mut Random, max_lines: usize) -> Vec<Request> {
+pub(super) fn good(random: &mut Random, kinds: Kinds, max_lines: usize) -> Vec<Request> {
     let mut requests = Vec::new();
     for parties in 2..=8 {
         let lines = random.between(4, 6);
-        let circuit = random::circuit(random, parties, lines);
+        let circuit = random::circuit(random, kinds, parties, lines);
         let key = random.element();
         let scene = Scene::new(random, parties, circuit, key);
         requests.push(scene.joint(random));
         requests.extend(scene.whole_and_after(random, None, None));
         for key in [0, random.nonzero(), random.nonzero()] {
             let lines = random.between(2, max_lines);
-            let circuit = random::circuit(random, parties, lines);
+            let circuit = random::circuit(random, kinds, parties, lines);
             requests.push(Scene::new(random, parties, circuit, key).joint(random));
         }
     }
     requests
 }
 
-/// Document 01's example: joint, by single entries at both parties, and with party 1's word of the
-/// output's opening heard as 14.
-pub(super) fn docket(random: &mut Random) -> Vec<Request> {
-    let scene = Scene::docket();
+/// A worked run of two parties: joint, by single entries at both, and with party 1's word of the output's
+/// opening heard as one more than it is.
+pub(super) fn worked(random: &mut Random, run: Result<Request, Refusal>) -> Vec<Request> {
+    let scene = Scene::of(run.expect("an accepted circuit"));
     let shown = scene.find(random, |_, round| round == Round::OpenOutput);
     let tamper = Tamper {
         round: shown,

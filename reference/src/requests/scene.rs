@@ -2,12 +2,11 @@
 
 use super::{Entry, Lent, Request, Size};
 use crate::circuit::{self, Shape};
-use crate::docket;
 use crate::field;
 use crate::joint::first_inputs;
 use crate::party::{receive, send, Party, Position, Received, Round, Sort, Stage};
 use crate::prep;
-use crate::random::{self, Random};
+use crate::random::{self, Kinds, Random};
 
 #[derive(Clone)]
 pub(super) struct Scene {
@@ -90,17 +89,27 @@ impl Scene {
         }
     }
 
-    /// Document 01's example run.
-    pub fn docket() -> Scene {
-        let shape = circuit::shape(docket::PARTIES, &docket::CIRCUIT).expect("an accepted circuit");
+    /// The scene of a worked run, which is a joint one that is not refused.
+    pub fn of(run: Request) -> Scene {
+        let Request::Joint {
+            parties,
+            circuit,
+            preps,
+            inputs,
+            coefficients,
+            ..
+        } = run
+        else {
+            unreachable!("a worked run is a joint one")
+        };
         Scene {
-            parties: docket::PARTIES,
-            circuit: docket::CIRCUIT.to_vec(),
-            shape,
-            rounds: circuit::rounds(&docket::CIRCUIT),
-            preps: docket::PREPS.to_vec(),
-            inputs: docket::INPUTS.to_vec(),
-            coefficients: docket::COEFFICIENTS.to_vec(),
+            parties,
+            shape: circuit::shape(parties, &circuit).expect("an accepted circuit"),
+            rounds: circuit::rounds(&circuit),
+            circuit,
+            preps,
+            inputs,
+            coefficients,
             zeros: true,
         }
     }
@@ -114,14 +123,22 @@ impl Scene {
         } else {
             size.max_lines.min(18)
         };
-        let lines = random.between(random::RICH_LINES, bound);
-        Scene::rich_of(random, parties, lines)
+        let lines = random.between(size.kinds.rich_lines(), bound);
+        Scene::rich_of(random, size.kinds, parties, lines)
     }
 
-    pub fn rich_of(random: &mut Random, parties: u32, lines: usize) -> Scene {
-        let circuit = random::rich_circuit(random, parties, lines);
+    pub fn rich_of(random: &mut Random, kinds: Kinds, parties: u32, lines: usize) -> Scene {
+        let circuit = random::rich_circuit(random, kinds, parties, lines);
         let key = random.element();
         Scene::new(random, parties, circuit, key)
+    }
+
+    /// The kinds that its gates may have.
+    pub fn kinds(&self) -> Kinds {
+        match self.shape.squares {
+            0 => Kinds::Base,
+            _ => Kinds::Squares,
+        }
     }
 
     pub fn any_party(&self, random: &mut Random) -> u32 {

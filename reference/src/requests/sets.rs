@@ -1,26 +1,32 @@
-//! The named sets of requests that are kept as test vectors.
+//! The named sets of requests: test vectors that are kept, and a larger set that is not.
 
 use super::boundary::{boundaries, Boundary, ListOf, NO_ELEMENTS};
 use super::boundary_steps::coefficients;
-use super::runs::{self, Wrong};
+use super::runs::{self, Wrong, TRIPLE_WRONGS};
 use super::scene::Scene;
-use super::{rotation, Answered, Entry, Request, Size};
+use super::{rotation, squares, Answered, Entry, Request, Size};
 use crate::circuit::{IN, MAX_GATES, MUL, OUT, PLUS};
-use crate::random::{self, Random};
+use crate::docket;
+use crate::random::{self, Kinds, Random};
 
 #[derive(Clone, Copy, Debug, PartialEq, Eq)]
 pub enum Set {
     Small,
     Large,
+    Square,
+    SquaresLarge,
 }
 
 impl Set {
-    pub const ALL: [Set; 2] = [Set::Small, Set::Large];
+    pub const ALL: [Set; 4] = [Set::Small, Set::Large, Set::Square, Set::SquaresLarge];
+    pub const KEPT: [Set; 3] = [Set::Small, Set::Large, Set::Square];
 
     pub fn name(self) -> &'static str {
         match self {
             Set::Small => "small",
             Set::Large => "large",
+            Set::Square => "square",
+            Set::SquaresLarge => "squares-large",
         }
     }
 
@@ -28,6 +34,8 @@ impl Set {
         match self {
             Set::Small => "short circuits; both sides of every question's boundary, whole runs, tampered words, bad preprocessing",
             Set::Large => "circuits of up to 256 gates and 8 parties; the longest runs and lists, refusals at high indices",
+            Set::Square => "squares among other gates; both sides of every question's boundary, squares of every kind of wire, tampered words, bad preprocessing",
+            Set::SquaresLarge => "squares in circuits of up to 256 gates and 8 parties; every boundary, whole runs, the longest run",
         }
     }
 
@@ -37,6 +45,8 @@ impl Set {
         let requests = match self {
             Set::Small => small(&mut random),
             Set::Large => large(&mut random),
+            Set::Square => squares::kept(&mut random),
+            Set::SquaresLarge => squares::large(&mut random),
         };
         requests.into_iter().map(Request::answered).collect()
     }
@@ -46,22 +56,25 @@ impl Set {
 const TURNS: usize = 2;
 
 fn small(random: &mut Random) -> Vec<Request> {
-    let mut requests = runs::docket(random);
+    let kinds = Kinds::Base;
+    let mut requests = runs::worked(random, docket::request());
     let scene_of = |random: &mut Random, parties| {
-        let lines = random.between(random::RICH_LINES, 12);
-        Scene::rich_of(random, parties, lines)
+        let lines = random.between(kinds.rich_lines(), 12);
+        Scene::rich_of(random, kinds, parties, lines)
     };
     for entry in Entry::ALL {
-        for boundary in boundaries(random, entry, &scene_of) {
+        for boundary in boundaries(random, entry, kinds, &scene_of) {
             let crowded = random.once_in(3).then(|| boundary.clone().crowded(random));
             requests.extend(boundary.requests());
             requests.extend(crowded.into_iter().flat_map(Boundary::requests));
         }
     }
-    requests.extend(runs::good(random, 40));
-    requests.extend(runs::bad_preps(random));
-    requests.extend(runs::tampered(random));
+    let scene_of = runs::two_products;
+    requests.extend(runs::good(random, kinds, 40));
+    requests.extend(runs::bad_preps(random, &TRIPLE_WRONGS, scene_of));
+    requests.extend(runs::tampered(random, kinds.rounds(), scene_of));
     let size = Size {
+        kinds,
         max_lines: 40,
         max_parties: 8,
     };
@@ -81,17 +94,18 @@ fn scene(random: &mut Random, parties: u32, kinds: &[u32]) -> Scene {
 }
 
 /// As many gates as there can be, of one kind between the first and the last.
-fn filled(kind: u32) -> Vec<u32> {
+pub(super) fn filled(kind: u32) -> Vec<u32> {
     let mut kinds = vec![kind; MAX_GATES];
     kinds[0] = IN;
     kinds[MAX_GATES - 1] = OUT;
     kinds
 }
 
-/// The kinds of a circuit that takes 766 rounds, with a check before every output but the last.
-fn longest_run() -> Vec<u32> {
+/// The kinds of a circuit that takes 766 rounds, with a gate of the given kind, which opens, before every
+/// output but the last.
+pub(super) fn longest_run(kind: u32) -> Vec<u32> {
     let mut kinds = vec![IN];
-    kinds.extend([MUL, OUT].repeat((MAX_GATES - 2) / 2));
+    kinds.extend([kind, OUT].repeat((MAX_GATES - 2) / 2));
     kinds.push(OUT);
     kinds
 }
@@ -115,11 +129,11 @@ fn large(random: &mut Random) -> Vec<Request> {
     let mut requests = Vec::new();
 
     // The longest lists: inputs, preprocessing with scratch and coefficients, outputs, transcript.
-    for kinds in [filled(IN), filled(MUL), filled(OUT), longest_run()] {
+    for kinds in [filled(IN), filled(MUL), filled(OUT), longest_run(MUL)] {
         requests.push(scene(random, 8, &kinds).joint(random));
     }
     for parties in [2, 3, 5, 8] {
-        let mut scene = Scene::rich_of(random, parties, MAX_GATES);
+        let mut scene = Scene::rich_of(random, Kinds::Base, parties, MAX_GATES);
         scene.zeros = true;
         requests.push(scene.joint(random));
     }
@@ -140,7 +154,7 @@ fn large(random: &mut Random) -> Vec<Request> {
     }
     requests.push(used);
     // Aborts at the first check of the last product, late in a run, and in the largest check.
-    for kinds in [longest_run(), filled(MUL)] {
+    for kinds in [longest_run(MUL), filled(MUL)] {
         let mut scene = scene(random, 2, &kinds);
         runs::spoil(random, &mut scene, Wrong::Triple(1));
         requests.push(scene.joint(random));
@@ -149,7 +163,7 @@ fn large(random: &mut Random) -> Vec<Request> {
     // Single entries: a whole run, and rounds at the start, in the middle and at the end of long ones.
     let whole = scene(random, 8, &few_rounds());
     requests.extend(whole.whole_and_after(random, Some(7), None));
-    let long = scene(random, 8, &longest_run());
+    let long = scene(random, 8, &longest_run(MUL));
     requests.extend(long.halves(random, 0, &[0, 1, 382, 761, 764, 765]));
     let largest_check = scene(random, 8, &filled(MUL));
     requests.extend(largest_check.halves(random, 7, &[1, 128, 255]));
@@ -168,13 +182,13 @@ fn large(random: &mut Random) -> Vec<Request> {
         requests.extend(Boundary::last_element(number, &base, list).requests());
     }
     let scene_of = |random: &mut Random, parties| {
-        let mut scene = Scene::rich_of(random, parties, MAX_GATES);
+        let mut scene = Scene::rich_of(random, Kinds::Base, parties, MAX_GATES);
         scene.preps.fill(0);
         scene.zeros = true;
         scene
     };
     for entry in Entry::ALL {
-        let all = boundaries(random, entry, &scene_of);
+        let all = boundaries(random, entry, Kinds::Base, &scene_of);
         requests.extend(highest(all).into_iter().flat_map(Boundary::requests));
     }
     requests

@@ -9,13 +9,16 @@ use crate::field::P;
 use crate::random::Random;
 use crate::sheet::MAX_DEPTH;
 
+pub(super) fn score(text: &str, joint: &Request) -> SheetRequest {
+    SheetRequest::Score {
+        text: text.as_bytes().to_vec(),
+        joint: joint.clone(),
+    }
+}
+
 /// Runs on the circuit of a sheet, finished, aborted and refused.
 pub(super) fn scores(random: &mut Random) -> Vec<SheetRequest> {
     let docket = docket::request().expect("an accepted circuit");
-    let score = |text: &str, joint: &Request| SheetRequest::Score {
-        text: text.as_bytes().to_vec(),
-        joint: joint.clone(),
-    };
     let sheet = "(out (mul (in 0) (in 1)))\n";
     let mut requests = vec![
         score(sheet, &docket),

@@ -94,6 +94,7 @@ pub(super) fn nested(depth: usize, word: &str, innermost: &str) -> String {
     let (open, close) = match word {
         "plus" | "times" => (format!("({word} "), " 3)"),
         "left" => (String::from("(add "), " (in 1))"),
+        "sq" => (String::from("(sq "), ")"),
         _ => (format!("({word} (in 1) "), ")"),
     };
     open.repeat(depth - 1) + innermost + &close.repeat(depth - 1)
@@ -179,8 +180,12 @@ pub(super) fn prefixes() -> Vec<SheetRequest> {
         b"(out (times (plus (sub (in 1) (in 0)) 40) 2147483646))\n",
         b"(in 1)\n(out (line 0))\n(add (line 0) (in 0))\n(out (line 2))\n",
     ];
-    let each = |sheet: &'static [u8]| (0..=sheet.len()).map(|len| read(2, &sheet[..len]));
-    sheets.into_iter().flat_map(each).collect()
+    sheets.into_iter().flat_map(each_prefix).collect()
+}
+
+/// Every prefix of a sheet, the whole one too.
+pub(super) fn each_prefix(sheet: &[u8]) -> impl Iterator<Item = SheetRequest> + '_ {
+    (0..=sheet.len()).map(|len| read(2, &sheet[..len]))
 }
 
 pub(super) fn changed_bytes() -> Vec<SheetRequest> {
@@ -189,14 +194,18 @@ pub(super) fn changed_bytes() -> Vec<SheetRequest> {
         b"(in 1)\n(out (add (line 0) (in 0)))\n",
         b"(out (plus (in 0) 10))\n",
     ];
+    let each = |sheet| changed(sheet, BYTES);
+    sheets.into_iter().flat_map(each).collect()
+}
+
+/// A sheet with one byte changed, at every place, to each of the bytes.
+pub(super) fn changed(sheet: &[u8], bytes: &[u8]) -> Vec<SheetRequest> {
     let mut requests = Vec::new();
-    for sheet in sheets {
-        for place in 0..sheet.len() {
-            for &byte in BYTES.iter().filter(|&&byte| byte != sheet[place]) {
-                let mut changed = sheet.to_vec();
-                changed[place] = byte;
-                requests.push(read(2, &changed));
-            }
+    for place in 0..sheet.len() {
+        for &byte in bytes.iter().filter(|&&byte| byte != sheet[place]) {
+            let mut changed = sheet.to_vec();
+            changed[place] = byte;
+            requests.push(read(2, &changed));
         }
     }
     requests

@@ -1,29 +1,31 @@
-//! The sets of requests about sheets: one that is kept, and a larger one.
+//! The sets of requests about sheets: those that are kept, and a larger one.
 
 use super::random_sheet::random_sheet;
 use super::scene::Scene;
 use super::sheet_calls::{faults, scores};
 use super::sheet_reads::{changed_bytes, limits, names, prefixes, read_boundaries};
 use super::sheet_writes::{longest, write_boundaries, written};
-use super::SheetRequest;
+use super::{sheet_squares, SheetRequest};
 use crate::circuit::MAX_GATES;
 use crate::field::P;
-use crate::random::{self, Random};
+use crate::random::{self, Kinds, Random};
 use crate::sheet::examples::{self, EXAMPLES};
 use crate::sheet::{read_sheet, write_sheet};
 
 #[derive(Clone, Copy, Debug, PartialEq, Eq)]
 pub enum SheetSet {
     Kept,
+    Square,
     Large,
 }
 
 impl SheetSet {
-    pub const ALL: [SheetSet; 2] = [SheetSet::Kept, SheetSet::Large];
+    pub const ALL: [SheetSet; 3] = [SheetSet::Kept, SheetSet::Square, SheetSet::Large];
 
     pub fn name(self) -> &'static str {
         match self {
             SheetSet::Kept => "sheet",
+            SheetSet::Square => "square-sheet",
             SheetSet::Large => "sheets-large",
         }
     }
@@ -31,6 +33,7 @@ impl SheetSet {
     pub fn about(self) -> &'static str {
         match self {
             SheetSet::Kept => "sheets read, written and scored; both sides of every boundary, every prefix, every byte changed, faults of the text",
+            SheetSet::Square => "sheets with squares read, written and scored; both sides of every boundary, every prefix, every byte changed",
             SheetSet::Large => "random sheets nested to depth 17 with and without damage, random circuits written and read back",
         }
     }
@@ -40,6 +43,7 @@ impl SheetSet {
         let mut random = Random::new(seed);
         match self {
             SheetSet::Kept => kept(&mut random),
+            SheetSet::Square => sheet_squares::kept(&mut random),
             SheetSet::Large => large(&mut random),
         }
     }
@@ -109,7 +113,7 @@ fn kept(random: &mut Random) -> Vec<SheetRequest> {
 
 /// Damages a text in one place.
 fn damaged(random: &mut Random, text: &mut Vec<u8>) {
-    const BYTES: &[u8] = b"() \nadilmopstueb0123456789x\x00\xff";
+    const BYTES: &[u8] = b"() \nadilmopqstueb0123456789x\x00\xff";
     if text.is_empty() {
         return text.push(random.pick(BYTES));
     }
@@ -159,7 +163,7 @@ fn large(random: &mut Random) -> Vec<SheetRequest> {
             1..4 => random.between(40, 130),
             _ => random.between(2, 20),
         };
-        let mut circuit = random::circuit(random, parties, lines);
+        let mut circuit = random::circuit(random, Kinds::Squares, parties, lines);
         let mut text = sheet_of(parties, &circuit);
         let less = random.below(3);
         requests.push(write_into(

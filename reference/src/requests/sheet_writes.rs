@@ -2,9 +2,9 @@
 
 use super::sheet_sets::{read, sheet_of, write, write_into};
 use super::SheetRequest;
-use crate::circuit::MAX_GATES;
+use crate::circuit::{MAX_GATES, NO_KIND};
 use crate::field::P;
-use crate::random::{self, Random};
+use crate::random::{self, Kinds, Random};
 
 /// Both sides of the questions of the writer.
 pub(super) fn write_boundaries() -> Vec<SheetRequest> {
@@ -18,7 +18,7 @@ pub(super) fn write_boundaries() -> Vec<SheetRequest> {
         requests.push(write(2, &two[..len]));
     }
     requests.push(write(2, &[1, 0, 0, 0, 7, 0, 0, 0, 7]));
-    for kind in [0, 1, 2, 3, 4, 5, 6, 7, 8, u32::MAX] {
+    for kind in [0, 1, 2, 3, 4, 5, 6, 7, NO_KIND, u32::MAX] {
         requests.push(write(2, &[1, 0, 0, 0, kind, 0, 0, 0, 7, 0, 0, 0]));
         requests.push(write(2, &[1, 0, 0, 0, 7, 0, 0, 0, kind, 0, 0, 0]));
     }
@@ -70,8 +70,8 @@ pub(super) fn write_boundaries() -> Vec<SheetRequest> {
         [1, 0, 0, 0, 1, 1, 0, 0],
         [1, 0, 0, 0, 4, 0, 0, 1],
         // Several questions say no.
-        [1, 9, 9, 9, 8, 0, 0, 0],
-        [8, 9, 9, 9, 7, 9, 9, 9],
+        [1, 9, 9, 9, NO_KIND, 0, 0, 0],
+        [NO_KIND, 9, 9, 9, 7, 9, 9, 9],
         [1, 0, 9, 0, 9, 0, 0, 0],
         [1, 0, 0, 0, 2, 1, 1, 1],
     ] {
@@ -100,9 +100,11 @@ pub(super) fn written(random: &mut Random) -> Vec<SheetRequest> {
     requests.push(write(2, &circuit));
     for lines in [2, 3, 5, 9, 10, 11, 12, 20, 30, 102] {
         let parties = random.between(2, 8) as u32;
-        let circuit = match lines {
-            random::RICH_LINES.. => random::rich_circuit(random, parties, lines),
-            _ => random::circuit(random, parties, lines),
+        let kinds = Kinds::Base;
+        let circuit = if lines < kinds.rich_lines() {
+            random::circuit(random, kinds, parties, lines)
+        } else {
+            random::rich_circuit(random, kinds, parties, lines)
         };
         let text = sheet_of(parties, &circuit);
         requests.push(write(parties, &circuit));

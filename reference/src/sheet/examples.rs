@@ -94,3 +94,50 @@ pub const EXAMPLES: [Example; 62] = [
     (2, &[(b"(in 0)\n(in 9)\n(times (line 0) 2147483647)\n", 1)], Told::Refused(5, 1)),
     (2, &[(b"(in 0)\n(in 1)\n", 1)], Told::Refused(7, 0)),
 ];
+
+/// Sheets with squares.
+#[rustfmt::skip]
+pub const SQUARE_EXAMPLES: [Example; 36] = [
+    // What is read.
+    (2, &[(b"(out (sq (in 0)))\n", 1)], Told::Circuit(&[[1, 0, 0, 0], [8, 0, 0, 0], [7, 1, 0, 0]])),
+    (2, &[(b"(in 1)\n(sq (line 0))\n(out (line 1))\n", 1)], Told::Circuit(&[[1, 1, 0, 0], [8, 0, 0, 0], [7, 1, 0, 0]])),
+    (2, &[(b"(out (sq (sq (plus (in 0) 1))))\n", 1)], Told::Circuit(&[[1, 0, 0, 0], [4, 0, 0, 1], [8, 1, 0, 0], [8, 2, 0, 0], [7, 3, 0, 0]])),
+    (2, &[(b"(in 0)\n(out (mul (sq (in 1)) (sub (line 0) (sq (line 0)))))\n", 1)], Told::Circuit(&[[1, 0, 0, 0], [1, 1, 0, 0], [8, 1, 0, 0], [8, 0, 0, 0], [3, 0, 3, 0], [6, 2, 4, 0], [7, 5, 0, 0]])),
+    // Words that begin with `s`.
+    (2, &[(b"(s", 1)], Told::Refused(22, 2)), // ends within a row; may become `(sq` or `(sub`
+    (2, &[(b"(sx", 1)], Told::Refused(22, 2)),
+    (2, &[(b"(s ", 1)], Told::Refused(22, 2)),
+    (2, &[(b"(sQ", 1)], Told::Refused(22, 2)),
+    (2, &[(b"(Sq", 1)], Told::Refused(22, 1)),
+    (2, &[(b"(sq", 1)], Told::Refused(22, 3)), // ends within a row
+    (2, &[(b"(squ", 1)], Told::Refused(22, 3)),
+    (2, &[(b"(sqb ", 1)], Told::Refused(22, 3)),
+    (2, &[(b"(su", 1)], Told::Refused(22, 3)),
+    (2, &[(b"(suq", 1)], Told::Refused(22, 3)),
+    (2, &[(b"(sub", 1)], Told::Refused(22, 4)),
+    (2, &[(b"(sq)", 1)], Told::Refused(22, 3)),
+    (2, &[(b"(sq(in 0))\n", 1)], Told::Refused(22, 3)),
+    // What it holds: one form.
+    (2, &[(b"(sq ", 1)], Told::Refused(22, 4)),
+    (2, &[(b"(sq  (in 0))\n", 1)], Told::Refused(22, 4)), // second space
+    (2, &[(b"(sq 0)\n", 1)], Told::Refused(22, 4)),
+    (2, &[(b"(sq (in 0) (in 0))\n", 1)], Told::Refused(22, 10)),
+    (2, &[(b"(sq (in 0) 1)\n", 1)], Told::Refused(22, 10)),
+    (2, &[(b"(sq (line 0))\n", 1)], Told::Refused(22, 5)), // no earlier row: the `l`
+    (2, &[(b"(sq (out (in 0)))\n", 1)], Told::Refused(22, 5)), // never inside: the `o`
+    (2, &[(b"(in 0)\n(out (sq (line 0)))\n(out (line 1))\n", 1)], Told::Refused(22, 38)), // an out row
+    // The circuit.
+    (2, &[(b"(sq (in 0))\n", 1)], Told::Refused(7, 0)), // two gates, no output
+    (2, &[(b"(sq (in 2))\n(out (line 0))\n", 1)], Told::Refused(5, 0)),
+    (2, &[(b"(sq (plus (in 0) 2147483647))\n(out (line 0))\n", 1)], Told::Refused(6, 1)),
+    // Depth.
+    (2, &[(b"(sq ", 15), (b"(in 0)", 1), (b")", 15), (b"\n(out (line 0))\n", 1)], Told::Gates(17)),
+    (2, &[(b"(sq ", 16), (b"(in 0)", 1), (b")", 16), (b"\n(out (line 0))\n", 1)], Told::Refused(23, 64)),
+    (2, &[(b"(sq ", 16), (b"x", 1)], Told::Refused(22, 64)),
+    // Count.
+    (2, &[(b"(in 0)\n", 254), (b"(out (sq (line 0)))\n", 1)], Told::Gates(256)),
+    (2, &[(b"(in 0)\n", 255), (b"(out (sq (line 0)))\n", 1)], Told::Refused(24, 1803)), // the bracket of out
+    (2, &[(b"(in 0)\n", 256), (b"(sq (line 0))\n", 1)], Told::Refused(24, 1804)), // the bracket of sq
+    (2, &[(b"(in 0)\n", 256), (b"(sq (line 0)", 1)], Told::Refused(22, 1804)), // ends within a row
+    (2, &[(b"(in 0)\n", 256), (b"(sq )", 1)], Told::Refused(22, 1796)),
+];

@@ -42,7 +42,7 @@ const SPACE: Symbol = Literal(" ");
 const CLOSE: Symbol = Literal(")");
 
 /// In the order of the kinds' numbers, and the name of a row last.
-const RULES: [Rule; 8] = [
+const RULES: [Rule; 9] = [
     rule("in", &[Literal("(in "), Number, CLOSE], true, true),
     rule(
         "add",
@@ -75,6 +75,7 @@ const RULES: [Rule; 8] = [
         true,
     ),
     rule("out", &[Literal("(out "), Form, CLOSE], false, true),
+    rule("sq", &[Literal("(sq "), Form, CLOSE], true, true),
     rule("line", &[Literal("(line "), Name, CLOSE], true, false),
 ];
 

@@ -1,7 +1,7 @@
-use super::examples::{self, Told, EXAMPLES};
+use super::examples::{self, Told, EXAMPLES, SQUARE_EXAMPLES};
 use super::{model, read_sheet, write_sheet};
 use crate::circuit::MAX_GATES;
-use crate::random::{self, Random};
+use crate::random::{self, Kinds, Random};
 use crate::refusal::Refusal;
 use crate::requests::{random_sheet, SheetRequest, SheetSet};
 
@@ -20,7 +20,7 @@ fn refused<T>(number: u32, index: usize) -> Result<T, Refusal> {
 
 #[test]
 fn examples_are_answered_as_told() {
-    for (parties, parts, told) in EXAMPLES {
+    for (parties, parts, told) in EXAMPLES.into_iter().chain(SQUARE_EXAMPLES) {
         let text = examples::text(parts);
         let found = read(parties, &text);
         match told {
@@ -140,7 +140,7 @@ fn all_texts(start: &[u8], alphabet: &[u8], longer: usize) -> usize {
 #[test]
 fn short_texts_live_as_in_the_model() {
     let every: Vec<u8> = (0..=255).collect();
-    let few = b"()\n 019abdeilmnopstu";
+    let few = b"()\n 019abdeilmnopqstu";
     assert!(all_texts(b"", &every, 6) > 50);
     assert!(all_texts(b"", few, 13) > 5000);
     for start in [
@@ -150,6 +150,8 @@ fn short_texts_live_as_in_the_model() {
         "(out (in 0))\n(in 0)\n(out (",
         "(add (in 0)",
         "(mul (add (in 0) (in 0)) ",
+        "(in 0)\n(sub (s",
+        "(sq (in 0)",
         "(plus (in 0) ",
         "(out (times (in 0) 1",
     ] {
@@ -216,7 +218,7 @@ fn random_sheets_are_read_as_in_the_model() {
             let at = random.below(text.len());
             match random.below(3) {
                 0 => text.truncate(at),
-                1 => text[at] = random.pick(b"() \nadilmopst0129x"),
+                1 => text[at] = random.pick(b"() \nadilmopqst0129x"),
                 _ => drop(text.remove(at)),
             }
         }
@@ -228,7 +230,8 @@ fn random_sheets_are_read_as_in_the_model() {
 
 #[test]
 fn the_kept_requests_are_read_as_in_the_model() {
-    for request in SheetSet::Kept.make(1) {
+    let kept = [SheetSet::Kept, SheetSet::Square].map(|set| set.make(1));
+    for request in kept.into_iter().flatten() {
         if let SheetRequest::Read { parties, text, .. } = request {
             // The model is slow, and a text that breaks at once is as good shorter.
             let text = &text[..text.len().min(4000)];
@@ -252,7 +255,7 @@ fn what_is_written_reads_back() {
         } else {
             random.between(2, 30)
         };
-        let circuit = random::circuit(random, parties, lines);
+        let circuit = random::circuit(random, Kinds::Squares, parties, lines);
         let mut text = vec![b'x'; 30 * lines];
         let len = write_sheet(parties, &circuit, &mut text).unwrap();
         assert!(text[len..].iter().all(|&byte| byte == b'x'));

@@ -60,7 +60,7 @@ fn first_asked_offender(
 ) -> Option<usize> {
     let shape = circuit::shape(parties, circuit).unwrap();
     let (gates, gate) = (shape.gates, position.gate as usize);
-    let opened = 2 * shape.products + 1;
+    let opened = 2 * shape.products + shape.squares + 1;
     let (Stage::Send(sort) | Stage::Receive(sort)) = position.stage else {
         return None;
     };
@@ -68,6 +68,7 @@ fn first_asked_offender(
     for line in circuit.chunks_exact(4).take(gate) {
         match line[0] {
             6 => unchecked += 2,
+            8 => unchecked += 1,
             7 => unchecked = 0,
             _ => {}
         }

@@ -5,7 +5,7 @@
 pub mod answers;
 
 use reference::circuit::{self, Shape};
-use reference::random::{self, Random};
+use reference::random::{self, Kinds, Random};
 use reference::{joint_run, open, prep, receive, send};
 use reference::{Ending, JointResult, Party, Position, Received, Refusal, Round, Stage};
 
@@ -33,7 +33,7 @@ impl Case {
     pub fn random(random: &mut Random, max_lines: usize, key: u32) -> Case {
         let parties = random.between(2, 8) as u32;
         let lines = random.between(2, max_lines);
-        let circuit = random::circuit(random, parties, lines);
+        let circuit = random::circuit(random, Kinds::Squares, parties, lines);
         Case::of(random, parties, circuit, key)
     }
 
