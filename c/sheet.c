@@ -148,6 +148,9 @@ static void reader_refuses(void)
         {"(in 0)\n(out (line 0))", SHAPE, 21},
         {"(in 0)\n(out (line 1))\n", SHAPE, 18},
         {"(add (line 0) (in 0))\n", SHAPE, 6},
+        {"(sq (in 0) (in 0))\n", SHAPE, 10},
+        {"(sx", SHAPE, 2},
+        {"(sq", SHAPE, 3},
         {"(in 4294967296)\n", SHAPE, 13},
         {"(plus (plus (plus (plus (plus (plus (plus (plus (plus (plus (plus (plus (plus (plus (plus (plus (", DEEP, 96},
     };
@@ -180,11 +183,14 @@ static struct lent lent_circuit(const uint32_t circuit[8])
 static void writer_refuses(void)
 {
     static const struct { uint32_t circuit[8], number; size_t index; } cases[] = {
-        {{1, 0, 0, 0, 8, 0, 0, 0}, 4, 1},
+        {{1, 0, 0, 0, 9, 0, 0, 0}, 4, 1},
         {{1, 2, 0, 0, 7, 0, 0, 0}, 5, 0},
         {{1, 0, 0, 0, 7, 1, 0, 0}, 5, 1},
+        {{1, 0, 0, 0, 8, 1, 0, 0}, 5, 1},
         {{1, 0, 0, 1, 7, 0, 0, 0}, 6, 0},
+        {{1, 0, 0, 0, 8, 0, 1, 0}, 6, 1},
         {{1, 0, 0, 0, 1, 1, 0, 0}, 7, 0},
+        {{1, 0, 0, 0, 8, 0, 0, 0}, 7, 0},
     };
     for (size_t i = 0; i < LENGTH(cases); i++)
         refused_first("write_sheet", write_sheet, lent_circuit(cases[i].circuit), cases[i].number, cases[i].index);
@@ -207,6 +213,7 @@ static void writer_refuses(void)
 
 int main(int count, char **arguments)
 {
+    static const char squares[] = "(in 0)\n(out (sub (sq (line 0)) (sq (sq (in 1)))))\n";
     static uint8_t text[SPDZ_MOST_BYTES];
     if (count != 2) {
         fprintf(stderr, "usage: sheet FILE\n");
@@ -220,6 +227,7 @@ int main(int count, char **arguments)
     const size_t len = fread(text, 1, sizeof text, file);
     fclose(file);
     there_and_back(text, len);
+    there_and_back((const uint8_t *)squares, strlen(squares));
     reader_refuses();
     writer_refuses();
     return faults != 0;

@@ -52,7 +52,7 @@ enum { SPDZ_SEND = 0, SPDZ_RECEIVE = 1, SPDZ_FINISHED = 2, SPDZ_ABORTED = 3 };
 /* Rounds. */
 enum {
     SPDZ_NO_ROUND = 0,
-    SPDZ_OWN = 0,           /* an in or a mul gate's own */
+    SPDZ_OWN = 0,           /* an in, a mul or an sq gate's own */
     SPDZ_OPEN = 1,          /* an output's opening */
     SPDZ_COMMIT_FIRST = 2,  /* the check of what is opened and unchecked before an output */
     SPDZ_REVEAL_FIRST = 3,

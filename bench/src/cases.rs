@@ -1,6 +1,6 @@
 //! What is timed: circuits with their lists, and single rounds of them.
 
-use reference::circuit::{self, Shape, ADD, IN, MUL, OUT, PLUS, SUB, TIMES};
+use reference::circuit::{self, Shape, ADD, IN, MUL, OUT, PLUS, SQ, SUB, TIMES};
 use reference::random::{from_kinds, Random};
 use reference::{prep, Party, Position, Received, Round, Stage};
 
@@ -14,25 +14,47 @@ pub struct Run {
     pub coefficients: Vec<u32>,
 }
 
-/// The kinds of a circuit: five of eight gates multiply, three are linear; now and then an in gate and
-/// an out gate; an out gate at the end.
-fn kinds(gates: usize) -> Vec<u32> {
-    const ROW: [u32; 8] = [MUL, ADD, MUL, TIMES, MUL, PLUS, MUL, MUL];
+/// The kinds of a circuit: five of eight gates are of the given kind, three are linear; now and then an in
+/// gate and an out gate; an out gate at the end.
+fn kinds(gates: usize, kind: u32) -> Vec<u32> {
+    let row = [kind, ADD, kind, TIMES, kind, PLUS, kind, kind];
     let kind = |gate: usize| match gate {
         0..4 => IN,
         _ if gate + 1 == gates => OUT,
         _ if gate % 32 == 15 => IN,
         _ if gate % 32 == 31 => OUT,
         _ if gate % 32 == 9 => SUB,
-        _ => ROW[gate % 8],
+        _ => row[gate % 8],
     };
     (0..gates).map(kind).collect()
 }
 
 impl Run {
+    /// A circuit of products.
     pub fn new(parties: u32, gates: usize) -> Run {
-        let random = &mut Random::new(u64::from(parties) * 1000 + gates as u64);
-        let circuit = from_kinds(random, parties, &kinds(gates));
+        let random = &mut generator(parties, gates);
+        let circuit = from_kinds(random, parties, &kinds(gates, MUL));
+        Run::of(random, parties, circuit)
+    }
+
+    /// A circuit of squares, by sq gates.
+    pub fn squares(parties: u32, gates: usize) -> Run {
+        let random = &mut generator(parties, gates);
+        let circuit = from_kinds(random, parties, &kinds(gates, SQ));
+        Run::of(random, parties, circuit)
+    }
+
+    /// The same circuit by mul gates of a wire with itself.
+    pub fn squares_by_products(parties: u32, gates: usize) -> Run {
+        let random = &mut generator(parties, gates);
+        let mut circuit = from_kinds(random, parties, &kinds(gates, SQ));
+        for line in circuit.chunks_exact_mut(4).filter(|line| line[0] == SQ) {
+            line.copy_from_slice(&[MUL, line[1], line[1], 0]);
+        }
+        Run::of(random, parties, circuit)
+    }
+
+    fn of(random: &mut Random, parties: u32, circuit: Vec<u32>) -> Run {
         let shape = circuit::shape(parties, &circuit).expect("the circuit is accepted");
         let key = random.element();
         let preps = prep::make(random, parties, &circuit, key);
@@ -70,6 +92,10 @@ impl Run {
             inputs: &self.inputs[start..][..self.shape.owned[index]],
         }
     }
+}
+
+fn generator(parties: u32, gates: usize) -> Random {
+    Random::new(u64::from(parties) * 1000 + gates as u64)
 }
 
 /// The lists that a joint run writes to.

@@ -16,7 +16,7 @@ use reference::{field, Round, P};
 
 use cases::{Halves, Lists, Run, Sheet, LONGEST_ROW};
 use measure::{compare, Pair};
-use report::{Facts, JointRow, Report, SheetRow, SingleRow};
+use report::{Facts, JointRow, Report, SheetRow, SingleRow, SquareRow};
 
 const PARTIES: [u32; 3] = [2, 5, 8];
 const GATES: [usize; 4] = [64, 128, 192, 256];
@@ -30,6 +30,7 @@ const SINGLE_ROUNDS: [Round; 5] = [
     Round::RevealOpened,
     Round::OpenOutput,
 ];
+const SQUARE_GATES: usize = 256;
 const PRODUCTS: usize = 4096;
 const SHEET_PARTIES: u32 = 5;
 const SHEET_GATES: usize = 256;
@@ -58,6 +59,12 @@ fn rust_joint(run: &Run, lists: &mut Lists) -> answers::Answer {
         &mut lists.transcript,
         &mut lists.outputs,
     ))
+}
+
+/// Whether the proved entries know squares. If not, question 4 refuses the circuit.
+fn knows_squares() -> bool {
+    let run = Run::squares(2, 64);
+    proved_joint(&run, &mut run.lists())[..2] != answers::refused(4, 0)[..2]
 }
 
 /// A joint run, on which both must agree.
@@ -257,7 +264,18 @@ fn measured(repetitions: usize) -> Report {
         lent.iter()
             .flat_map(|(run, rounds)| rounds.iter().map(move |halves| (run, halves)))
     };
+    let squares: Vec<(&str, Run)> = PARTIES
+        .into_iter()
+        .filter(|_| knows_squares())
+        .flat_map(|parties| {
+            [
+                ("sq", Run::squares(parties, SQUARE_GATES)),
+                ("mul", Run::squares_by_products(parties, SQUARE_GATES)),
+            ]
+        })
+        .collect();
     let mut pairs: Vec<Pair<'_>> = runs.iter().map(joint).collect();
+    pairs.extend(squares.iter().map(|(_, run)| joint(run)));
     for (run, halves) in singles() {
         pairs.push(send(run, halves));
         pairs.push(receive(run, halves));
@@ -271,6 +289,10 @@ fn measured(repetitions: usize) -> Report {
     let mut next = || times.next().expect("one time for each pair");
     Report {
         joint: runs.iter().map(|run| JointRow::new(run, next())).collect(),
+        squares: squares
+            .iter()
+            .map(|(by, run)| SquareRow::new(by, run, next()))
+            .collect(),
         single: singles()
             .map(|(run, halves)| SingleRow {
                 round: halves.round,
@@ -298,7 +320,8 @@ fn main() {
     let arguments: Vec<&str> = arguments.iter().map(String::as_str).collect();
     match arguments[..] {
         ["--smoke"] => {
-            measured(1);
+            let report = measured(1);
+            assert!(!report.squares.is_empty(), "question 4 admits kind 8");
             println!("bench: equal answers and lists on every case");
         }
         ["--measure"] => print!("{}", measured(REPETITIONS).table()),

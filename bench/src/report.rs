@@ -4,7 +4,7 @@ use std::fmt::Write;
 use std::fs;
 use std::path::Path;
 
-use reference::Round;
+use reference::{plain, Round};
 
 use crate::cases::Run;
 use crate::measure::Times;
@@ -42,6 +42,33 @@ impl JointRow {
     }
 }
 
+/// A circuit of squares, by gates of one kind.
+pub struct SquareRow {
+    parties: u32,
+    by: &'static str,
+    /// How many gates square.
+    squares: usize,
+    rounds: usize,
+    /// Words and numbers of preprocessing of one party.
+    words: usize,
+    prep: usize,
+    times: Times,
+}
+
+impl SquareRow {
+    pub fn new(by: &'static str, run: &Run, times: Times) -> SquareRow {
+        SquareRow {
+            parties: run.parties,
+            by,
+            squares: run.shape.squares + run.shape.products,
+            rounds: plain::rounds(&run.circuit),
+            words: run.shape.words(),
+            prep: run.shape.prep_len(),
+            times,
+        }
+    }
+}
+
 pub struct SingleRow {
     pub round: Round,
     pub gates: usize,
@@ -60,6 +87,8 @@ pub struct SheetRow {
 
 pub struct Report {
     pub joint: Vec<JointRow>,
+    /// None where the proved entries do not know squares.
+    pub squares: Vec<SquareRow>,
     pub single: Vec<SingleRow>,
     pub sheets: Vec<SheetRow>,
     pub product: Times,
@@ -114,6 +143,28 @@ impl Report {
             );
         }
         let _ = writeln!(out, "\n{}\n", self.linear());
+        if !self.squares.is_empty() {
+            let _ = writeln!(out, "### Joint run of a circuit of squares, by sq gates and by mul gates of a wire with itself\n");
+            let _ = writeln!(out, "| parties | gates | squares | by | rounds | words of a party | preprocessing of a party | proved µs | Rust µs | ratio |");
+            let _ = writeln!(out, "|---|---|---|---|---|---|---|---|---|---|");
+        }
+        for row in &self.squares {
+            let _ = writeln!(
+                out,
+                "| {} | {} | {} | {} | {} | {} | {} | {} |",
+                row.parties,
+                crate::SQUARE_GATES,
+                row.squares,
+                row.by,
+                row.rounds,
+                row.words,
+                row.prep,
+                cells(row.times, MICRO, 2)
+            );
+        }
+        if !self.squares.is_empty() {
+            let _ = writeln!(out);
+        }
         let _ = writeln!(out, "### One send, one receive, with all questions\n");
         let _ = writeln!(out, "| round | gates | send proved µs | Rust µs | ratio | receive proved µs | Rust µs | ratio |");
         let _ = writeln!(out, "|---|---|---|---|---|---|---|---|");
@@ -188,7 +239,7 @@ impl Report {
              ## What is measured\n\n\
              Both sides get the same requests and their own lists of equal length, cleared alike; before a case is timed, both must give equal answers and leave equal\n\
              lists. Batches of at least half a millisecond are timed in turns, all cases one after another and {} times over, and the medians are told. Five of eight gates of each circuit multiply; the\n\
-             others are linear, in and out gates, with an out gate every 32 gates. Single halves are those of the last round of each sort, at party 1 of 5.\n\
+             others are linear, in and out gates, with an out gate every 32 gates. A circuit of squares is of the same shape, with squares for its products. Single halves are those of the last round of each sort, at party 1 of 5.\n\
              Sheets are for 5 parties; each is read, and the circuit that it is read as is written, a gate a line.\n\
              A field product is one of {} that multiply a list in place, once all its numbers are asked.\n\n\
              ## Results\n\n{}\n![Joint run: time over gates times parties](benchmarks.svg)\n",
