@@ -21,13 +21,29 @@ use Rattle.protocol.specs.Send.{overwrite}
 use Rattle.protocol.specs.Entry.{leave}
 use Rattle.forms.specs.Form.{printRows, print, feed}
 use Rattle.forms.specs.Machine.{reading}
-use Rattle.forms.specs.Entry.{Answer, Refusal, Done, answer, askShape, circuitIn, askRead, readAnswer, readCircuit, rowsUpTo, rowOf, rowsOf, sheetOf, askWrite,
-  writeAnswer, writeText}
+use Rattle.forms.specs.Entry.{
+  Answer,
+  Refusal,
+  Done,
+  answer,
+  askShape,
+  circuitIn,
+  askRead,
+  readAnswer,
+  readCircuit,
+  rowsUpTo,
+  rowOf,
+  rowsOf,
+  sheetOf,
+  askWrite,
+  writeAnswer,
+  writeText,
+}
 use Rattle.forms.proofs.Lengths.{print-more}
 use Rattle.capi.specs.Numbers.{places}
 use Rattle.capi.specs.Calls as C
 use Rattle.capi.specs.Calls.{roomQuestion, called, returned}
-use Rattle.capi.specs.Sheets.{sheetNumbers, sheetVerdict}
+use Rattle.capi.specs.Sheets.{sheetRead, sheetWritten, sheetNumbers, sheetVerdict}
 use Rattle.capi.proofs.Calling.{leave-again, no-room, kept, then-assoc, then-where, then-refuses}
 use Rattle.capi.specs.declared.Refusal as D
 
@@ -68,9 +84,9 @@ module _ (n : ℕ) (text : List ℕ) where
   read-verdict room = told (askRead n size largest text room) _
 
   pub read-left : (room : ℕ) (xs : List ℕ)
-      → leave (askRead n size largest text room) (overwrite (sheetNumbers 4 (readAnswer n size largest text room)) xs) xs
-      ≡ overwrite (sheetNumbers 4 (readAnswer n size largest text room)) xs
-  read-left room xs = rw (← read-verdict room) (sheet-left 4 (readAnswer n size largest text room) xs)
+      → leave (askRead n size largest text room) (overwrite (sheetNumbers sheetRead (readAnswer n size largest text room)) xs) xs
+      ≡ overwrite (sheetNumbers sheetRead (readAnswer n size largest text room)) xs
+  read-left room xs = rw (← read-verdict room) (sheet-left sheetRead (readAnswer n size largest text room) xs)
 
   pub circuit-left : (circuit : List ℕ)
       → leave (askRead n size largest text (length circuit)) (readCircuit n size largest text circuit) circuit ≡ readCircuit n size largest text circuit
@@ -82,7 +98,7 @@ module _ (n : ℕ) (text : List ℕ) where
   no-circuit room =
       let c = circuitIn largest text in
       let whole : (r : ℕ) → askRead n size largest text r ≡ ((askParties n then askShape (reading largest text)) then (askCircuit n size c then ask 18 0 (leb (length c) r)))
-        = λ r. sym (then-assoc (askParties n) (askShape (reading largest text)) _) in
+      = λ r. sym (then-assoc (askParties n) (askShape (reading largest text)) _) in
       whole 0 ∙ last-refused (askParties n then askShape (reading largest text)) (askCircuit n size c) (length c) room (some-gates n c)
       ∙ ap (λ (v : Verdict). v then Refused roomQuestion 0) (sym (whole room))
 
@@ -100,9 +116,9 @@ module _ (n : ℕ) (c : List ℕ) where
   write-verdict room = told (askWrite n size c room) _
 
   pub write-left : (room : ℕ) (xs : List ℕ)
-      → leave (askWrite n size c room) (overwrite (sheetNumbers 5 (writeAnswer n size c room)) xs) xs
-      ≡ overwrite (sheetNumbers 5 (writeAnswer n size c room)) xs
-  write-left room xs = rw (← write-verdict room) (sheet-left 5 (writeAnswer n size c room) xs)
+      → leave (askWrite n size c room) (overwrite (sheetNumbers sheetWritten (writeAnswer n size c room)) xs) xs
+      ≡ overwrite (sheetNumbers sheetWritten (writeAnswer n size c room)) xs
+  write-left room xs = rw (← write-verdict room) (sheet-left sheetWritten (writeAnswer n size c room) xs)
 
   pub text-left : (text : List ℕ) → leave (askWrite n size c (length text)) (writeText n size c text) text ≡ writeText n size c text
   unfolding writeText

@@ -8,7 +8,14 @@ use Rattle.circuit.specs.Verdict.{Verdict, Accepted, Refused}
 use Rattle.forms.specs.Entry.{Answer, Refusal, Done, askRead, askWrite}
 use Rattle.capi.specs.Calls.{called}
 
--- 4 and the gates read, or 5 and the bytes written
+-- what an answer begins with: of a sheet that was read, and of one that was written
+abbrev pub sheetRead : ℕ
+sheetRead = 4
+
+abbrev pub sheetWritten : ℕ
+sheetWritten = 5
+
+-- that, and the gates read or the bytes written
 unfoldable pub sheetNumbers : ℕ → Answer → List ℕ
 sheetNumbers kind (Refusal number index) = []
 sheetNumbers kind (Done count) = kind ∷ count ∷ 0 ∷ 0 ∷ 0 ∷ 0 ∷ []

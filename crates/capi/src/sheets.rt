@@ -14,7 +14,7 @@ ghost use Rattle.forms.specs.Entry.{readAnswer, readCircuit, writeAnswer, write
 ghost use Rattle.forms.specs.Code.{answerOf};
 ghost use Rattle.capi.specs.Numbers.{places};
 ghost use Rattle.capi.specs.Calls.{returned};
-ghost use Rattle.capi.specs.Sheets.{sheetNumbers, sheetVerdict, readCall, writeCall};
+ghost use Rattle.capi.specs.Sheets.{sheetRead, sheetWritten, sheetNumbers, sheetVerdict, readCall, writeCall};
 
 // The first number of the reader's answer, and of the writer's.
 const READ: u64 = 4;
@@ -57,7 +57,7 @@ pub extern "C" fn spdz_read_sheet(
     ensures returned { λ r. ⌜ r ≡ returned (readCall parties (now (text .entry)) (now (circuit .entry)) (now (answer .entry))) ⌝ }
     ensures answer { λ r. ⌜ now (answer .exit)
         ≡ leave (readCall parties (now (text .entry)) (now (circuit .entry)) (now (answer .entry)))
-        (overwrite (sheetNumbers 4 (readAnswer parties size largest (now (text .entry)) (length (now (circuit .entry))))) (now (answer .entry)))
+        (overwrite (sheetNumbers sheetRead (readAnswer parties size largest (now (text .entry)) (length (now (circuit .entry))))) (now (answer .entry)))
         (now (answer .entry)) ⌝ }
     ensures circuit { λ r. ⌜ now (circuit .exit)
         ≡ leave (readCall parties (now (text .entry)) (now (circuit .entry)) (now (answer .entry)))
@@ -87,7 +87,7 @@ pub extern "C" fn spdz_write_sheet(
     ensures returned { λ r. ⌜ r ≡ returned (writeCall parties (now (c .entry)) (now (text .entry)) (now (answer .entry))) ⌝ }
     ensures answer { λ r. ⌜ now (answer .exit)
         ≡ leave (writeCall parties (now (c .entry)) (now (text .entry)) (now (answer .entry)))
-        (overwrite (sheetNumbers 5 (writeAnswer parties size (now (c .entry)) (length (now (text .entry))))) (now (answer .entry)))
+        (overwrite (sheetNumbers sheetWritten (writeAnswer parties size (now (c .entry)) (length (now (text .entry))))) (now (answer .entry)))
         (now (answer .entry)) ⌝ }
     ensures text { λ r. ⌜ now (text .exit)
         ≡ leave (writeCall parties (now (c .entry)) (now (text .entry)) (now (answer .entry)))
@@ -95,11 +95,7 @@ pub extern "C" fn spdz_write_sheet(
         (now (text .entry)) ⌝ }
 {
     if answer.len() < crate::PLACES {
-        return crate::returned_of(sheet_verdict(writer::write_sheet(
-            parties,
-            c,
-            &mut text[..0],
-        )));
+        return crate::returned_of(sheet_verdict(writer::write_sheet(parties, c, &mut text[..0])));
     }
     let a = writer::write_sheet(parties, c, text);
     put_sheet(answer, WRITTEN, a);

@@ -52,7 +52,7 @@ module _ (n q top : ℕ) (text : List ℕ) where
     sheet-read list p c l =
         let read = circuitIn top text in
         let asked : askRead n q top text (length list) ≡ Accepted = then-both p (then-both (unfold askShape in rw rows-read)
-          (then-both (rw its-circuit c) (ask-yes 18 0 (le-leb (length read) (length list) (rw its-circuit l))))) in
+        (then-both (rw its-circuit c) (ask-yes 18 0 (le-leb (length read) (length list) (rw its-circuit l))))) in
         (rw (asked, its-circuit), rw (asked, its-circuit))
 
   -- what is read is a sheet within depth and count, and its circuit
@@ -72,7 +72,7 @@ module _ (n q top : ℕ) (text : List ℕ) where
       go (reading top text) refl (then-left (askShape (reading top text)) _ (then-right (askParties n) _ (done .0))) (done .0) (done .1)
     where
       go : (r : Reading) → reading top text ≡ r → askShape (reading top text) ≡ Accepted → askRead n q top text (length list) ≡ Accepted
-        → gates (circuitOf (rowsIn (reading top text))) ≡ k → ReadSheet k list
+          → gates (circuitOf (rowsIn (reading top text))) ≡ k → ReadSheet k list
       go (Rows rows) s a v c =
           let A = accepted-exactly top text rows .0 s in
           let same : circuitOf (rowsIn (reading top text)) ≡ circuitOf rows = ap (λ (r : Reading). circuitOf (rowsIn r)) s in

@@ -14,14 +14,48 @@ use Rattle.forms.specs.Words.{names}
 use Rattle.forms.specs.Form.{Form, one, gatesIn, gatesInAll, opening, closing}
 use Rattle.forms.specs.Refusals.{count, countNames, lineLetter}
 use Rattle.forms.specs.Machine.{
-  Frame, Numbered, plain, after, Focus, start, spelling, number, digit, made, State, at, origin, closed, openHere, openIn, closedFrames,
-  closedNumbered, closedHere, closedIn, step, steps,
+  Frame,
+  Numbered,
+  plain,
+  after,
+  Focus,
+  start,
+  spelling,
+  number,
+  digit,
+  made,
+  State,
+  at,
+  origin,
+  closed,
+  openHere,
+  openIn,
+  closedFrames,
+  closedNumbered,
+  closedHere,
+  closedIn,
+  step,
+  steps,
 }
 use Rattle.forms.proofs.Choices.{some-is}
 use Rattle.forms.proofs.Stepping.{steps-split, steps-one, steps-then}
 use Rattle.forms.proofs.Moves.{
-  plainByte, nameBegun, Move, opens, spells, wants-number, wants-form, first-digit, more-digits, closes-number, closes-one, wants-second,
-  wants-constant, closes-two, feeds, step-move,
+  plainByte,
+  nameBegun,
+  Move,
+  opens,
+  spells,
+  wants-number,
+  wants-form,
+  first-digit,
+  more-digits,
+  closes-number,
+  closes-one,
+  wants-second,
+  wants-constant,
+  closes-two,
+  feeds,
+  step-move,
 }
 
 -- is the byte this one?

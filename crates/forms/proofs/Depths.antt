@@ -10,10 +10,37 @@ use lib.Dec.{leb}
 use borrow.Author.Tests.{leb-true, leb-false}
 use Rattle.forms.specs.Form.{Form, larger, depth, depthOfAll}
 use Rattle.forms.specs.Machine.{
-  Frame, first, second, Numbered, plain, after, Focus, start, spelling, number, digit, made, State, at, closed, openHere, openIn,
+  Frame,
+  first,
+  second,
+  Numbered,
+  plain,
+  after,
+  Focus,
+  start,
+  spelling,
+  number,
+  digit,
+  made,
+  State,
+  at,
+  closed,
+  openHere,
+  openIn,
 }
 use Rattle.forms.proofs.Moves.{
-  Move, opens, spells, wants-number, wants-form, first-digit, more-digits, closes-number, closes-one, wants-second, wants-constant, closes-two,
+  Move,
+  opens,
+  spells,
+  wants-number,
+  wants-form,
+  first-digit,
+  more-digits,
+  closes-number,
+  closes-one,
+  wants-second,
+  wants-constant,
+  closes-two,
   feeds,
 }
 

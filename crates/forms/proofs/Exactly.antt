@@ -23,10 +23,31 @@ use Rattle.forms.proofs.Moves.{step-move}
 use Rattle.forms.proofs.Counting.{move-closes}
 use Rattle.forms.proofs.Depths.{depthHere, FramesWithin, Within, within-open, move-within, move-was-within}
 use Rattle.forms.proofs.Reaching.{
-  origin-calm, Runs, done, onward, runs-steps, runs-calm, runs-read, Outcome, whole, unended, dies, deepens, exceeds, outcome,
+  origin-calm,
+  Runs,
+  done,
+  onward,
+  runs-steps,
+  runs-calm,
+  runs-read,
+  Outcome,
+  whole,
+  unended,
+  dies,
+  deepens,
+  exceeds,
+  outcome,
 }
 use Rattle.forms.proofs.Falling.{
-  reached-breaks-not, reached-deep, runs-none, stop-inside, stop-runs, stop-reaches, stop-dies, stop-deep, stop-many,
+  reached-breaks-not,
+  reached-deep,
+  runs-none,
+  stop-inside,
+  stop-runs,
+  stop-reaches,
+  stop-dies,
+  stop-deep,
+  stop-many,
 }
 
 module _ (top : ℕ) where

@@ -12,7 +12,21 @@ use Rattle.circuit.proofs.Tests.{both-left, both-right, both-true}
 use Rattle.forms.specs.Words.{names}
 use Rattle.forms.specs.Form.{Form, marks, named, numberFits, decimal, closing, naught, ten}
 use Rattle.forms.specs.Machine.{
-  Frame, Numbered, number, digit, made, at, when, anyNamed, begins, nameLives, whose, numberLives, closed, step, steps,
+  Frame,
+  Numbered,
+  number,
+  digit,
+  made,
+  at,
+  when,
+  anyNamed,
+  begins,
+  nameLives,
+  whose,
+  numberLives,
+  closed,
+  step,
+  steps,
 }
 use Rattle.forms.proofs.Choices.{or-elim, or-left, or-right}
 use Rattle.forms.proofs.Decimal.{is-digit, decimal-last, decimal-tens}

@@ -13,8 +13,31 @@ use Rattle.circuit.specs.Accept.{mostGates}
 use Rattle.forms.specs.Form.{Form, gatesInAll}
 use Rattle.forms.specs.Refusals.{deepest}
 use Rattle.forms.specs.Machine.{
-  Frame, Focus, start, spelling, number, digit, made, State, at, origin, isNil, openHere, openIn, closedHere, closedFrames, closedIn, tooDeep,
-  tooMany, step, steps, read, ended, Reading, Rows, No,
+  Frame,
+  Focus,
+  start,
+  spelling,
+  number,
+  digit,
+  made,
+  State,
+  at,
+  origin,
+  isNil,
+  openHere,
+  openIn,
+  closedHere,
+  closedFrames,
+  closedIn,
+  tooDeep,
+  tooMany,
+  step,
+  steps,
+  read,
+  ended,
+  Reading,
+  Rows,
+  No,
 }
 use Rattle.forms.proofs.Stepping.{steps-cons}
 

@@ -22,7 +22,19 @@ use Rattle.protocol.specs.Entry.{leave}
 use Rattle.forms.specs.Form.{printRows, circuitOf}
 use Rattle.forms.specs.Machine.{Reading, Rows, reading}
 use Rattle.forms.specs.Entry.{
-  Done, answer, askShape, rowsIn, circuitIn, askRead, readAnswer, readCircuit, rowsOf, sheetOf, askWrite, writeAnswer, writeText,
+  Done,
+  answer,
+  askShape,
+  rowsIn,
+  circuitIn,
+  askRead,
+  readAnswer,
+  readCircuit,
+  rowsOf,
+  sheetOf,
+  askWrite,
+  writeAnswer,
+  writeText,
 }
 use Rattle.forms.proofs.Exactly.{accepted-exactly}
 use Rattle.forms.proofs.Written.{rows-sheet, rows-low, rows-few, circuit-back}
@@ -41,9 +53,12 @@ module _ (n q top : ℕ) (c : List ℕ) (v : Valid n q c) (parties-fit : n ≤ s
   pub reads-back : reading top (sheetOf c) ≡ Rows (rowsOf c)
   unfolding sheetOf
   reads-back =
-      accepted-exactly top (printRows (rowsOf c)) (rowsOf c) .1
-      (rows-sheet n q top c v parties-fit elements-fit, refl, rows-low n q top c v parties-fit elements-fit,
-      rows-few n q top c v parties-fit elements-fit)
+      accepted-exactly top (printRows (rowsOf c)) (rowsOf c) .1 (
+        rows-sheet n q top c v parties-fit elements-fit,
+        refl,
+        rows-low n q top c v parties-fit elements-fit,
+        rows-few n q top c v parties-fit elements-fit,
+      )
 
   pub circuit-in : circuitIn top (sheetOf c) ≡ c
   unfolding circuitIn rowsIn
@@ -72,13 +87,12 @@ module _ (n q top : ℕ) (c : List ℕ) (parties-fit : mostParties ≤ suc top) 
     accepted-back room =
         let text = sheetOf c in
         let read = circuitIn top text in
-        let last = ask 18 0 (leb (length read) room) in
-        (
+        let last = ask 18 0 (leb (length read) room) in (
           λ e. rw same-circuit at (leb-true (length read) room (ask-true 18 0 _
-            (then-right (askCircuit n q read) last (then-right (askShape (reading top text)) _ (then-right (askParties n) _ e))))),
+              (then-right (askCircuit n q read) last (then-right (askShape (reading top text)) _ (then-right (askParties n) _ e))))),
           λ l. then-both parties
-            (then-both (unfold askShape in rw same-rows)
-            (then-both (rw same-circuit circuit) (ask-yes 18 0 (le-leb (length read) room (rw same-circuit l))))),
+              (then-both (unfold askShape in rw same-rows)
+              (then-both (rw same-circuit circuit) (ask-yes 18 0 (le-leb (length read) room (rw same-circuit l))))),
         )
 
     pub answered-back : (room : ℕ) → length c ≤ room → readAnswer n q top (sheetOf c) room ≡ Done (gates c)
@@ -99,8 +113,7 @@ module _ (n q top : ℕ) (c : List ℕ) (parties-fit : mostParties ≤ suc top) 
       let accepted = asked .0 in
       let parties : askParties n ≡ Accepted = then-left (askParties n) _ accepted in
       let circuit : askCircuit n q c ≡ Accepted = then-left (askCircuit n q c) _ (then-right (askParties n) _ accepted) in
-      let written : take k (writeText n q c text) ≡ sheetOf c = written-is (askWrite n q c (length text)) (sheetOf c) text k accepted (asked .1) in
-      (
+      let written : take k (writeText n q c text) ≡ sheetOf c = written-is (askWrite n q c (length text)) (sheetOf c) text k accepted (asked .1) in (
         rw written (answered-back parties circuit (length list) l),
         rw written (round-trip parties circuit list l),
       )

@@ -12,7 +12,22 @@ use Rattle.circuit.proofs.Tests.{by-cases, both-left, both-right, both-true}
 use Rattle.forms.specs.Words.{Head, heads, letters, sort, names, stands}
 use Rattle.forms.specs.Form.{Form, marks, begin, opening, space}
 use Rattle.forms.specs.Machine.{
-  Frame, start, spelling, at, isNil, when, starts, same, anyNamed, may, wordLives, wordIs, begun, begunAs, step, steps,
+  Frame,
+  start,
+  spelling,
+  at,
+  isNil,
+  when,
+  starts,
+  same,
+  anyNamed,
+  may,
+  wordLives,
+  wordIs,
+  begun,
+  begunAs,
+  step,
+  steps,
 }
 use Rattle.forms.proofs.Choices.{or-left, or-right}
 use Rattle.forms.proofs.Table.{Listed, here, there, listed, spaceless, letters-spaceless, letters-tell}

@@ -17,15 +17,45 @@ use Rattle.circuit.specs.Accept.{mostGates}
 use Rattle.circuit.specs.Valid.{Ref, Valid}
 use Rattle.forms.specs.Words.{Head, Sort, Leaf, One, Two, Scaled, sort, kind, noKind, names, shapeOf, valued}
 use Rattle.forms.specs.Form.{
-  head, depth, depthOfAll, marks, named, Fits, Follow, Sheet, gatesIn, gatesInAll, wireOf, flat, circuitFrom, circuitOf,
+  head,
+  depth,
+  depthOfAll,
+  marks,
+  named,
+  Fits,
+  Follow,
+  Sheet,
+  gatesIn,
+  gatesInAll,
+  wireOf,
+  flat,
+  circuitFrom,
+  circuitOf,
 }
 use Rattle.forms.specs.Refusals.{deepest}
 use Rattle.forms.specs.Entry.{headOf, numberOf, rowFor, rowOf, rowsUpTo, rowsOf}
 use Rattle.forms.proofs.Counting.{gates-snoc}
 use Rattle.forms.proofs.Depths.{rows-deeper}
 use Rattle.forms.proofs.Rows.{
-  Operands, lineFor, Told, told, Named, formed-head, formed-depth, formed-gates, formed-wire, formed-flat, formed-fits, marks-more, marks-length,
-  named-before, named-last, follow-more, valuesFrom, values-more, circuit-more,
+  Operands,
+  lineFor,
+  Told,
+  told,
+  Named,
+  formed-head,
+  formed-depth,
+  formed-gates,
+  formed-wire,
+  formed-flat,
+  formed-fits,
+  marks-more,
+  marks-length,
+  named-before,
+  named-last,
+  follow-more,
+  valuesFrom,
+  values-more,
+  circuit-more,
 }
 
 -- rows and gates of any circuit ------------------------------------------------------------------------------------------
@@ -63,8 +93,13 @@ take-four : (xs : List ℕ) (m : ℕ) → m + 4 ≤ length xs
     → take m xs ++ (getD xs (m + 0) 0 ∷ getD xs (m + 1) 0 ∷ getD xs (m + 2) 0 ∷ getD xs (m + 3) 0 ∷ []) ≡ take (m + 4) xs
 take-four xs m l =
     rw (add-zero m, add-one m, add-two m, add-three m, add-four m)
-    (simp (take-suc xs (suc (suc (suc m))) 0 (omega arith), take-suc xs (suc (suc m)) 0 (omega arith), take-suc xs (suc m) 0 (omega arith),
-    take-suc xs m 0 (omega arith), append-assoc))
+    (simp (
+      take-suc xs (suc (suc (suc m))) 0 (omega arith),
+      take-suc xs (suc (suc m)) 0 (omega arith),
+      take-suc xs (suc m) 0 (omega arith),
+      take-suc xs m 0 (omega arith),
+      append-assoc,
+    ))
 
 -- one gate more
 gate-taken : (c : List ℕ) (k : ℕ) → k < gates c
@@ -84,8 +119,8 @@ counts-more values k C =
     record {
       long = omega (arith, length-append values (k ∷ []), C .long);
       each = λ x l.
-        ⊎-elim (λ e. rw e (getD-at values k [] 0 k (C .long)))
-        (λ b. List·getD-append values (k ∷ []) 0 x (rw (C .long) b) ∙ C .each x b) (eq-or-lt-of-le (le-of-suc-le-suc l));
+          ⊎-elim (λ e. rw e (getD-at values k [] 0 k (C .long)))
+          (λ b. List·getD-append values (k ∷ []) 0 x (rw (C .long) b) ∙ C .each x b) (eq-or-lt-of-le (le-of-suc-le-suc l));
     }
 
 operands-line : (c values : List ℕ) (j : ℕ) (s : Sort) (h : Head) (x y n : ℕ) → Counts values j → Operands s c j x y

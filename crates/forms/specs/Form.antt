@@ -104,9 +104,9 @@ module _ (top : ℕ) where
     leaf-fits : {o : Bool} {h : Head} {n : ℕ} → stands o h ≡ true → sort h ≡ Leaf → numberFits rows h n ≡ true → Fits rows o (leaf h n)
     one-fits : {o : Bool} {h : Head} {f : Form} → stands o h ≡ true → sort h ≡ One → Fits rows false f → Fits rows o (one h f)
     two-fits : {o : Bool} {h : Head} {f g : Form} →
-      stands o h ≡ true → sort h ≡ Two → Fits rows false f → Fits rows false g → Fits rows o (two h f g)
+        stands o h ≡ true → sort h ≡ Two → Fits rows false f → Fits rows false g → Fits rows o (two h f g)
     scaled-fits : {o : Bool} {h : Head} {f : Form} {n : ℕ} →
-      stands o h ≡ true → sort h ≡ Scaled → Fits rows false f → numberFits rows h n ≡ true → Fits rows o (scaled h f n)
+        stands o h ≡ true → sort h ≡ Scaled → Fits rows false f → numberFits rows h n ≡ true → Fits rows o (scaled h f n)
 
   -- rows that may follow these rows
   unfoldable pub Follow : List Form → List Form → Type 0

@@ -175,11 +175,12 @@ pub data Reading : Type 0 where
 unfoldable pub ended : State → ℕ → Reading
 ended s i =
     elim (s .focus) [
-    | start ↦ cond (isNil (s .stack)) (Rows (s .rows)) (No 22 i)
-    | spelling w ↦ No 22 i
-    | number p ↦ No 22 i
-    | digit p v ↦ No 22 i
-    | made f ↦ No 22 i ]
+      | start ↦ cond (isNil (s .stack)) (Rows (s .rows)) (No 22 i)
+      | spelling w ↦ No 22 i
+      | number p ↦ No 22 i
+      | digit p v ↦ No 22 i
+      | made f ↦ No 22 i
+    ]
 
 -- top is the largest number that a sheet may have
 module _ (top : ℕ) where
@@ -194,8 +195,9 @@ module _ (top : ℕ) where
     | number p ↦ when (isDigit b && numberLives (s .rows) (whose p) (b - naught)) (at (s .rows) (s .stack) (digit p (b - naught)))
     | digit p v ↦ cond (eqb b closing) (when (numberFits top (s .rows) (whose p) v) (at (s .rows) (s .stack) (made (closed p v))))
         (when (isDigit b && not (eqb v 0) && numberLives (s .rows) (whose p) (v * ten + (b - naught)))
-          (at (s .rows) (s .stack) (digit p (v * ten + (b - naught)))))
-    | made f ↦ handed (s .rows) (s .stack) f b ]
+        (at (s .rows) (s .stack) (digit p (v * ten + (b - naught)))))
+    | made f ↦ handed (s .rows) (s .stack) f b
+  ]
 
   -- several steps, depth and count aside
   unfoldable pub steps : State → List ℕ → Option State
@@ -207,7 +209,8 @@ module _ (top : ℕ) where
   read s [] i = ended s i
   read s (b ∷ bs) i = elim (step s b) [
     | none ↦ No 22 i
-    | some t ↦ elim (tooDeep t) [ true ↦ No 23 i | false ↦ elim (tooMany t) [ true ↦ No 24 i | false ↦ read t bs (suc i) ] ] ]
+    | some t ↦ elim (tooDeep t) [ true ↦ No 23 i | false ↦ elim (tooMany t) [ true ↦ No 24 i | false ↦ read t bs (suc i) ] ]
+  ]
 
   unfoldable pub reading : List ℕ → Reading
   reading text = read origin text 0

@@ -104,7 +104,12 @@ pub fn entry_named(word: &[u8]) -> usize
 {
     let mut entry = OPEN;
     while entry < NO_ENTRY {
-        if spell_nth(b"open send receive joint show read write score", entry, false, word) {
+        if spell_nth(
+            b"open send receive joint show read write score",
+            entry,
+            false,
+            word,
+        ) {
             return entry;
         }
         entry += 1;
@@ -141,20 +146,10 @@ pub fn spell_field(entry: usize, field: usize, printed: bool, word: &[u8]) -> bo
         );
     }
     if entry == READ {
-        return spell_nth(
-            b"parties - text - - - - - circuit -",
-            field,
-            printed,
-            word,
-        );
+        return spell_nth(b"parties - text - - - - - circuit -", field, printed, word);
     }
     if entry == WRITE {
-        return spell_nth(
-            b"parties - circuit - - - - - text -",
-            field,
-            printed,
-            word,
-        );
+        return spell_nth(b"parties - circuit - - - - - text -", field, printed, word);
     }
     if entry == SCORE {
         return spell_nth(

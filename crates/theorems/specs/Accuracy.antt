@@ -60,7 +60,7 @@ module _ (O : Ops) (J : Joint) (scratch : List ℕ) where
     pub finishes : whole O J scratch .last .point ≡ finished (J .circuit)
     -- "each score is the circuit's value on the plain inputs"
     pub outputs : whole O J scratch .outputs ≡ scores O J (gates (J .circuit))
-    -- "A run takes I + M + 5 × outs − 2 × (outs with nothing unchecked) rounds, at most 766."
+    -- "A run takes I + M + 5 × outs − 2 × (outs with nothing unchecked) rounds, at most 766", and one more for each sq gate
     pub rounds : whole O J scratch .rounds ≡ roundFormula (J .circuit)
     pub at-most : whole O J scratch .rounds ≤ mostRoundsOfAll
     -- the transcript's length

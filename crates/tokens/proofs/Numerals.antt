@@ -14,8 +14,25 @@ use Rattle.circuit.specs.Accept.{mostGates}
 use Rattle.field.specs.Words.{largest}
 use Rattle.forms.specs.Form.{Form, named, numberFits, closing, naught, ten}
 use Rattle.forms.specs.Machine.{
-  Frame, Numbered, whose, at, number, digit, isDigit, nameLives, numberLives, step, when, read, ended, openHere, openIn, closedHere, closedIn,
-  tooDeep, tooMany,
+  Frame,
+  Numbered,
+  whose,
+  at,
+  number,
+  digit,
+  isDigit,
+  nameLives,
+  numberLives,
+  step,
+  when,
+  read,
+  ended,
+  openHere,
+  openIn,
+  closedHere,
+  closedIn,
+  tooDeep,
+  tooMany,
 }
 use Rattle.forms.proofs.Decimal.{digit-least, digit-most}
 use Rattle.tokens.specs.Code.{Calm, NumberIs, NumberDies, known, livesAs, fitsAs, Wanted}
@@ -25,7 +42,7 @@ use Rattle.tokens.proofs.Naming.{lives-small}
 -- the digits so far have this value
 pub record Reached (text table : List ℕ) (naming : Bool) (from value i : ℕ) : Type 0 where
   pub reads : (rows : List Form) (stack : List Frame) (p : Numbered) → Wanted table naming rows stack p →
-    read largest (at rows stack (number p)) (drop from text) from ≡ read largest (at rows stack (digit p value)) (drop i text) i
+      read largest (at rows stack (number p)) (drop from text) from ≡ read largest (at rows stack (digit p value)) (drop i text) i
   pub small : value ≤ largest
   pub inside : i ≤ length text
 
@@ -55,7 +72,7 @@ module _ (text table : List ℕ) (naming : Bool) where
     lives-at v = rw (w .naming-is, w .marked) (go naming)
       where
         go : (c : Bool) → cond c (nameLives (known table) 0 v) (cond c (named (known table) v) (leb v largest))
-          ≡ cond c (nameLives (known table) 0 v) (leb v largest)
+            ≡ cond c (nameLives (known table) 0 v) (leb v largest)
         go true = refl
         go false = refl
 
@@ -80,7 +97,7 @@ module _ (text table : List ℕ) (naming : Bool) where
       }
 
       pub first-digit : length table ≤ mostGates → l ≡ livesAs table naming (getD text from 0 - naught) → not l ≡ false →
-        Reached text table naming from (getD text from 0 - naught) (from + 1)
+          Reached text table naming from (getD text from 0 - naught) (from + 1)
       first-digit k m u = record {
         reads = λ rows stack p w. on largest text from (at rows stack (number p)) (at rows stack (digit p (getD text from 0 - naught))) h
             (unfold step when in rw (granted e t, lives-at rows stack p w (getD text from 0 - naught), granted m u))
@@ -101,7 +118,7 @@ module _ (text table : List ℕ) (naming : Bool) where
 
         -- wherever the machine stops at this byte, so does the code
         stops : ((rows : List Form) (stack : List Frame) (p : Numbered) → Wanted table naming rows stack p →
-          step largest (at rows stack (digit p value)) (getD text i 0) ≡ none) → NumberDies text table naming from i
+            step largest (at rows stack (digit p value)) (getD text i 0) ≡ none) → NumberDies text table naming from i
         stops f = record {
           dies = λ rows stack p w. so-far .reads rows stack p w ∙ dies largest text i (at rows stack (digit p value)) h (f rows stack p w);
         }
@@ -123,16 +140,26 @@ module _ (text table : List ℕ) (naming : Bool) where
               pub large : not l ≡ true → NumberDies text table naming from i
               large u =
                   stops (λ rows stack p w. unfold step when in
-                  rw (ne-eqb (getD text i 0) closing b, granted e t, ne-eqb value 0 z,
-                  lives-at rows stack p w (value * ten + (getD text i 0 - naught)), denied m u))
+                  rw (
+                    ne-eqb (getD text i 0) closing b,
+                    granted e t,
+                    ne-eqb value 0 z,
+                    lives-at rows stack p w (value * ten + (getD text i 0 - naught)),
+                    denied m u,
+                  ))
 
               pub more : length table ≤ mostGates → not l ≡ false →
-                Reached text table naming from (value * ten + (getD text i 0 - naught)) (i + 1)
+                  Reached text table naming from (value * ten + (getD text i 0 - naught)) (i + 1)
               more k u = record {
                 reads = λ rows stack p w. so-far .reads rows stack p w
                     ∙ on largest text i (at rows stack (digit p value)) (at rows stack (digit p (value * ten + (getD text i 0 - naught)))) h
-                    (unfold step when in rw (ne-eqb (getD text i 0) closing b, granted e t, ne-eqb value 0 z,
-                    lives-at rows stack p w (value * ten + (getD text i 0 - naught)), granted m u))
+                    (unfold step when in rw (
+                      ne-eqb (getD text i 0) closing b,
+                      granted e t,
+                      ne-eqb value 0 z,
+                      lives-at rows stack p w (value * ten + (getD text i 0 - naught)),
+                      granted m u,
+                    ))
                     (still rows stack p (value * ten + (getD text i 0 - naught)) (w .calm));
                 small = lives-small table naming (value * ten + (getD text i 0 - naught)) k (granted m u);
                 inside = omega arith;

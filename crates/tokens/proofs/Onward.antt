@@ -31,7 +31,7 @@ module _ (top : ℕ) where
   read-deep s t b bs i e c = rw (e, read) (rw c)
 
   pub read-many : (s t : State) (b : ℕ) (bs : List ℕ) (i : ℕ) →
-    step top s b ≡ some t → tooDeep t ≡ false → tooMany t ≡ true → read top s (b ∷ bs) i ≡ No 24 i
+      step top s b ≡ some t → tooDeep t ≡ false → tooMany t ≡ true → read top s (b ∷ bs) i ≡ No 24 i
   unfolding read
   read-many s t b bs i e c m = rw (e, read) (rw (c, m))
 
@@ -51,7 +51,7 @@ is-at text i b h e = both-true (lt-ltb i (length text) h) (eq-eqb (getD text i 0
 -- the byte at a place of a text
 module _ (top : ℕ) (text : List ℕ) (i : ℕ) where
   pub on : (s t : State) → i < length text → step top s (getD text i 0) ≡ some t → Calm t →
-    read top s (drop i text) i ≡ read top t (drop (i + 1) text) (i + 1)
+      read top s (drop i text) i ≡ read top t (drop (i + 1) text) (i + 1)
   on s t h e c = rw (drop-cons text i 0 h, add-one i) (read-on top s t (getD text i 0) (drop (suc i) text) i e c)
 
   pub dies : (s : State) → i < length text → step top s (getD text i 0) ≡ none → read top s (drop i text) i ≡ No 22 i
@@ -61,7 +61,7 @@ module _ (top : ℕ) (text : List ℕ) (i : ℕ) where
   deep s t h e c = rw (drop-cons text i 0 h) (read-deep top s t (getD text i 0) (drop (suc i) text) i e c)
 
   pub many : (s t : State) → i < length text → step top s (getD text i 0) ≡ some t → tooDeep t ≡ false → tooMany t ≡ true →
-    read top s (drop i text) i ≡ No 24 i
+      read top s (drop i text) i ≡ No 24 i
   many s t h e c m = rw (drop-cons text i 0 h) (read-many top s t (getD text i 0) (drop (suc i) text) i e c m)
 
   pub ends : (s : State) → length text ≤ i → ended s i ≡ No 22 i → read top s (drop i text) i ≡ No 22 i
@@ -69,11 +69,11 @@ module _ (top : ℕ) (text : List ℕ) (i : ℕ) where
   ends s h e = rw (drop-of-length-le text h) e
 
   pub expected : (b : ℕ) (s t : State) → isAt text i b ≡ true → step top s b ≡ some t → Calm t →
-    read top s (drop i text) i ≡ read top t (drop (i + 1) text) (i + 1)
+      read top s (drop i text) i ≡ read top t (drop (i + 1) text) (i + 1)
   expected b s t e p c = on s t (at-inside text i b e) (rw (at-is text i b e) p) c
 
   pub unexpected : (b : ℕ) (s : State) → isAt text i b ≡ false → ((x : ℕ) → (x ≡ b → ⊥) → step top s x ≡ none) → ended s i ≡ No 22 i →
-    read top s (drop i text) i ≡ No 22 i
+      read top s (drop i text) i ≡ No 22 i
   unfolding isAt
   unexpected b s e d q = go (ltb i (length text)) refl (eqb (getD text i 0) b) refl e
     where

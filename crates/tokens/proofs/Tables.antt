@@ -18,8 +18,8 @@ use Rattle.tokens.specs.Code.{RowOf, known, gatesAt}
 -- words -----------------------------------------------------------------------------------------------------------------
 
 pub row-as : {h k : Head} {r s : Row} → h ≡ k → r ≡ s → s .length ≡ length (letters k) → s .sort ≡ sort k → s .kind ≡ kind k →
-  s .naming ≡ names k → s .valued ≡ valued k → roleOf (s .first) ≡ shapeOf k .first → roleOf (s .second) ≡ shapeOf k .second →
-  roleOf (s .constant) ≡ shapeOf k .constant → RowOf h r
+    s .naming ≡ names k → s .valued ≡ valued k → roleOf (s .first) ≡ shapeOf k .first → roleOf (s .second) ≡ shapeOf k .second →
+    roleOf (s .constant) ≡ shapeOf k .constant → RowOf h r
 row-as {h} {k} {r} {s} e d length sort kind naming valued first second constant =
     rw (e, d) (record {
       length-is = length;

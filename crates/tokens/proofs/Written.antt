@@ -33,7 +33,7 @@ pub record Written (text : List ℕ) (from value i : ℕ) : Type 0 where
 
 module _ (text : List ℕ) (from : ℕ) where
   pub first-written : {r : Bool} → from < length text → r ≡ isDigit (getD text from 0) → not r ≡ false →
-    Written text from (getD text from 0 - naught) (from + 1)
+      Written text from (getD text from 0 - naught) (from + 1)
   first-written h e t =
       let b = digit-most (getD text from 0) (granted e t) in
       record {
@@ -51,7 +51,7 @@ module _ (text : List ℕ) (from : ℕ) where
         record { written = so-far .written; forward = so-far .forward; small = so-far .small; closes = is-at text i closing h e }
 
     pub written-more : {r : Bool} → r ≡ isDigit (getD text i 0) → not r ≡ false → (value ≡ 0 → ⊥) →
-      value * ten + (getD text i 0 - naught) ≤ largest → Written text from (value * ten + (getD text i 0 - naught)) (i + 1)
+        value * ten + (getD text i 0 - naught) ≤ largest → Written text from (value * ten + (getD text i 0 - naught)) (i + 1)
     written-more e t z l = record {
       written = part-more text from i (so-far .forward) h
           ∙ (ap (λ (l : List ℕ). l ++ (getD text i 0 ∷ [])) (so-far .written)
@@ -65,35 +65,35 @@ module _ (text : List ℕ) (from : ℕ) where
 
 module _ (top : ℕ) (rows : List Form) (stack : List Frame) (p : Numbered) (quiet : Calm (at rows stack (number p))) where
   digit-first : (n : ℕ) → n < ten → numberLives top rows (whose p) n ≡ true →
-    step top (at rows stack (number p)) (naught + n) ≡ some (at rows stack (digit p n))
+      step top (at rows stack (number p)) (naught + n) ≡ some (at rows stack (digit p n))
   unfolding step when
   digit-first n h e = let z : naught + n - naught ≡ n = omega arith in rw (is-digit n h, z, e)
 
   through-last : (n : ℕ) → n < ten → numberLives top rows (whose p) n ≡ true → (rest : List ℕ) (i : ℕ) →
-    read top (at rows stack (number p)) (decimal n ++ rest) i ≡ read top (at rows stack (digit p n)) rest (i + length (decimal n))
+      read top (at rows stack (number p)) (decimal n ++ rest) i ≡ read top (at rows stack (digit p n)) rest (i + length (decimal n))
   through-last n h e rest i =
       rw (decimal-last n h, add-one i)
       (read-on top (at rows stack (number p)) (at rows stack (digit p n)) (naught + n) rest i (digit-first n h e) (still rows stack p n quiet))
 
   through-within : (k n : ℕ) → n ≤ k → numberLives top rows (whose p) n ≡ true → (rest : List ℕ) (i : ℕ) →
-    read top (at rows stack (number p)) (decimal n ++ rest) i ≡ read top (at rows stack (digit p n)) rest (i + length (decimal n))
+      read top (at rows stack (number p)) (decimal n ++ rest) i ≡ read top (at rows stack (digit p n)) rest (i + length (decimal n))
   through-within zero n l e rest i = through-last n (omega arith) e rest i
   through-within (suc k) n l e rest i =
       go (ltb n ten) refl (λ q h. through-within k (n / ten) q (lives-tens top rows stack p n h e) ((naught + n % ten) ∷ rest) i)
     where
       go : (c : Bool) → ltb n ten ≡ c →
-        (n / ten ≤ k → ten ≤ n → read top (at rows stack (number p)) (decimal (n / ten) ++ ((naught + n % ten) ∷ rest)) i
+          (n / ten ≤ k → ten ≤ n → read top (at rows stack (number p)) (decimal (n / ten) ++ ((naught + n % ten) ∷ rest)) i
           ≡ read top (at rows stack (digit p (n / ten))) ((naught + n % ten) ∷ rest) (i + length (decimal (n / ten)))) →
-        read top (at rows stack (number p)) (decimal n ++ rest) i ≡ read top (at rows stack (digit p n)) rest (i + length (decimal n))
+          read top (at rows stack (number p)) (decimal n ++ rest) i ≡ read top (at rows stack (digit p n)) rest (i + length (decimal n))
       go true c f = through-last n (ltb-true n ten c) e rest i
       go false c f =
           let h : ten ≤ n = ltb-false n ten c in
           let z : n / ten * ten + n % ten ≡ n = omega arith in
           let d = digit-next top rows stack p (n / ten) (n % ten) (omega arith) (omega arith) (rw z e) in
           let s : step top (at rows stack (digit p (n / ten))) (naught + n % ten) ≡ some (at rows stack (digit p n)) =
-              d ∙ ap (λ (m : ℕ). some (at rows stack (digit p m))) z in
+          d ∙ ap (λ (m : ℕ). some (at rows stack (digit p m))) z in
           let q : i + length (decimal (n / ten) ++ ((naught + n % ten) ∷ [])) ≡ suc (i + length (decimal (n / ten))) =
-              ap (λ (m : ℕ). i + m) (length-append (decimal (n / ten)) ((naught + n % ten) ∷ [])) ∙ omega arith in
+          ap (λ (m : ℕ). i + m) (length-append (decimal (n / ten)) ((naught + n % ten) ∷ [])) ∙ omega arith in
           rw (decimal-tens n h, q, append-assoc (decimal (n / ten)) ((naught + n % ten) ∷ []) rest)
           (f (omega arith) h
           ∙ read-on top (at rows stack (digit p (n / ten))) (at rows stack (digit p n)) (naught + n % ten) rest (i + length (decimal (n / ten))) s
@@ -101,16 +101,16 @@ module _ (top : ℕ) (rows : List Form) (stack : List Frame) (p : Numbered) (qui
 
   -- the digits of a number that lives
   pub reads-decimal : (n : ℕ) → numberLives top rows (whose p) n ≡ true → (rest : List ℕ) (i : ℕ) →
-    read top (at rows stack (number p)) (decimal n ++ rest) i ≡ read top (at rows stack (digit p n)) rest (i + length (decimal n))
+      read top (at rows stack (number p)) (decimal n ++ rest) i ≡ read top (at rows stack (digit p n)) rest (i + length (decimal n))
   reads-decimal n e rest i = through-within n n (omega arith) e rest i
 
 -- digits that are written as a number that fits are that number
 pub written-fits : {r : Bool} (text table : List ℕ) (naming : Bool) (from value to : ℕ) → DigitsAre text from value to →
-  r ≡ fitsAs table naming value → r ≡ true → NumberIs text table naming from value to
+    r ≡ fitsAs table naming value → r ≡ true → NumberIs text table naming from value to
 written-fits text table naming from value to d e t =
     let l = at-inside text to closing (d .closes) in
     let q : from + length (decimal value) ≡ to =
-        ap (λ (x : List ℕ). from + length x) (sym (d .written)) ∙ omega (arith, length-part text from to (d .forward) (omega arith), d .forward) in
+    ap (λ (x : List ℕ). from + length x) (sym (d .written)) ∙ omega (arith, length-part text from to (d .forward) (omega arith), d .forward) in
     record {
       reads = λ rows stack p w.
           let f = fits-at text table naming rows stack p w value ∙ (sym e ∙ t) in

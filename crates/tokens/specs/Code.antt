@@ -17,7 +17,23 @@ use Rattle.forms.specs.declared.Sort.{Sort}
 use Rattle.forms.specs.Words.{sort, kind, letters, names, valued, shapeOf, stands}
 use Rattle.forms.specs.Form.{Form, marks, named, decimal, opening, closing, space}
 use Rattle.forms.specs.Machine.{
-  Frame, Numbered, whose, State, at, spelling, number, digit, begun, nameLives, anyNamed, isNil, tooDeep, tooMany, starts, read, No,
+  Frame,
+  Numbered,
+  whose,
+  State,
+  at,
+  spelling,
+  number,
+  digit,
+  begun,
+  nameLives,
+  anyNamed,
+  isNil,
+  tooDeep,
+  tooMany,
+  starts,
+  read,
+  No,
 }
 use Rattle.tokens.specs.declared.Row.{Row}
 use Rattle.tokens.specs.declared.Found.{Found}
@@ -95,13 +111,13 @@ pub record Wanted (table : List ℕ) (naming : Bool) (rows : List Form) (stack :
 -- a number as far as its bracket
 pub record NumberIs (text table : List ℕ) (naming : Bool) (from value to : ℕ) : Type 0 where
   pub reads : (rows : List Form) (stack : List Frame) (p : Numbered) → Wanted table naming rows stack p →
-    read largest (at rows stack (number p)) (drop from text) from ≡ read largest (at rows stack (digit p value)) (drop to text) to
+      read largest (at rows stack (number p)) (drop from text) from ≡ read largest (at rows stack (digit p value)) (drop to text) to
   pub fitting : fitsAs table naming value ≡ true
   pub closes : isAt text to closing ≡ true
 
 pub record NumberDies (text table : List ℕ) (naming : Bool) (from index : ℕ) : Type 0 where
   pub dies : (rows : List Form) (stack : List Frame) (p : Numbered) → Wanted table naming rows stack p →
-    read largest (at rows stack (number p)) (drop from text) from ≡ No 22 index
+      read largest (at rows stack (number p)) (drop from text) from ≡ No 22 index
 
 unfoldable pub NumberRead : List ℕ → List ℕ → Bool → ℕ → Number → Type 0
 NumberRead text table naming from (N.Is value to) = NumberIs text table naming from value to
@@ -159,13 +175,13 @@ pub record WordWanted (any outermost : Bool) (rows : List Form) (stack : List Fr
 -- a word and its space
 pub record WordIs (text : List ℕ) (any outermost : Bool) (from : ℕ) (h : Head) (to : ℕ) : Type 0 where
   pub reads : (rows : List Form) (stack : List Frame) → WordWanted any outermost rows stack →
-    read largest (at rows stack (spelling [])) (drop from text) from ≡ read largest (begun rows stack h (sort h)) (drop to text) to
+      read largest (at rows stack (spelling [])) (drop from text) from ≡ read largest (begun rows stack h (sort h)) (drop to text) to
   pub standing : stands outermost h ≡ true
   pub inside : to ≤ length text
 
 pub record WordDies (text : List ℕ) (any outermost : Bool) (from index : ℕ) : Type 0 where
   pub dies : (rows : List Form) (stack : List Frame) → WordWanted any outermost rows stack →
-    read largest (at rows stack (spelling [])) (drop from text) from ≡ No 22 index
+      read largest (at rows stack (spelling [])) (drop from text) from ≡ No 22 index
 
 unfoldable pub WordRead : List ℕ → Bool → Bool → ℕ → Spelt → Type 0
 WordRead text any outermost from (S.Is h to) = WordIs text any outermost from h to

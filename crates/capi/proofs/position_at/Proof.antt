@@ -35,4 +35,4 @@ pub position-at-spec : {M : Type 1} → statement M
 position-at-spec =
     tie.close
     (tie.spec (λ c κs. search needs) (λ c κs. search needs) returns (λ c κs. search needs) returns-2 (λ c κs. search needs) returns-3 returns-4
-        returns-5 (λ c κs. search needs) returns-6)
+    returns-5 (λ c κs. search needs) returns-6)

@@ -26,4 +26,4 @@ pub put-spec : {M : Type 1} → statement M
 put-spec =
     tie.close
     (tie.spec (λ c. search needs) slice-write-answer-2 slice-write-answer-3 slice-write-answer-4 slice-write-answer-5 (λ c. search needs)
-        (λ c. search needs) returns)
+    (λ c. search needs) returns)

@@ -36,4 +36,4 @@ pub put-answer-spec : {M : Type 1} → statement M
 put-answer-spec =
     tie.close
     (tie.spec (λ c. search needs) (λ c. search needs) put-position-requires (λ c. search needs) (λ c. search needs) put-position-requires-2
-        (λ c. search needs) put-position-requires-3 returns (λ c. search needs) returns-2 (λ c. search needs) returns-3 (λ c. search needs) returns-4)
+    (λ c. search needs) put-position-requires-3 returns (λ c. search needs) returns-2 (λ c. search needs) returns-3 (λ c. search needs) returns-4)

@@ -29,4 +29,4 @@ pub put-joint-spec : {M : Type 1} → statement M
 put-joint-spec =
     tie.close
     (tie.spec (λ c. search needs) (λ c. search needs) put-requires (λ c. search needs) put-requires-2 returns (λ c. search needs) returns-2
-        (λ c. search needs) returns-3)
+    (λ c. search needs) returns-3)

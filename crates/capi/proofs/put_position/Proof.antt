@@ -15,4 +15,4 @@ pub put-position-spec : {M : Type 1} → statement M
 put-position-spec =
     tie.close
     (tie.spec (λ c κs. search needs) (λ c. search needs) (λ c κs. search needs) (λ c. search needs) (λ c. search needs) (λ c κs. search needs)
-        (λ c. search needs) returns)
+    (λ c. search needs) returns)

@@ -47,5 +47,5 @@ pub spdz-joint-run-spec : {M : Type 1} → statement M
 spdz-joint-run-spec =
     tie.close
     (tie.spec (λ c. search needs) (λ c. search needs) joint-run-requires joint-verdict-requires returned-of-requires (λ c. search needs)
-        (λ c. search needs) (λ c. search needs) returns joint-run-requires-2 put-joint-requires joint-verdict-requires-2 returned-of-requires-2
-        (λ c. search needs) (λ c. search needs) (λ c. search needs) (λ c. search needs) returns-2)
+    (λ c. search needs) (λ c. search needs) returns joint-run-requires-2 put-joint-requires joint-verdict-requires-2 returned-of-requires-2
+    (λ c. search needs) (λ c. search needs) (λ c. search needs) (λ c. search needs) returns-2)

@@ -37,4 +37,4 @@ pub spdz-open-run-spec : {M : Type 1} → statement M
 spdz-open-run-spec =
     tie.close
     (tie.spec open-run-requires answer-verdict-requires without-room-requires returns put-answer-requires answer-verdict-requires-2
-        returned-of-requires (λ c. search needs) returns-2)
+    returned-of-requires (λ c. search needs) returns-2)

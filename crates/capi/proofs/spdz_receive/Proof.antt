@@ -43,4 +43,4 @@ pub spdz-receive-spec : {M : Type 1} → statement M
 spdz-receive-spec =
     tie.close
     (tie.spec position-at-requires ask-receive-requires asked-verdict-requires without-room-requires (λ c. search needs) returns receive-requires
-        put-answer-requires answer-verdict-requires returned-of-requires (λ c. search needs) (λ c. search needs) returns-2)
+    put-answer-requires answer-verdict-requires returned-of-requires (λ c. search needs) (λ c. search needs) returns-2)

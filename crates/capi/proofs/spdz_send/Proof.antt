@@ -43,4 +43,4 @@ pub spdz-send-spec : {M : Type 1} → statement M
 spdz-send-spec =
     tie.close
     (tie.spec position-at-requires ask-send-requires asked-verdict-requires without-room-requires returns send-requires put-answer-requires
-        answer-verdict-requires returned-of-requires (λ c. search needs) (λ c. search needs) returns-2)
+    answer-verdict-requires returned-of-requires (λ c. search needs) (λ c. search needs) returns-2)

@@ -49,5 +49,5 @@ pub joint-run-spec : {M : Type 1} → statement M
 joint-run-spec =
     tie.close
     (tie.spec (λ c κs. search needs) (λ c. search needs) returns (λ c. search needs) totals-before-requires frame-of-requires ask-lent-requires
-        (λ c. search needs) returns-2 (λ c. search needs) starts-of-requires slice-aggregate-run run-requires (λ c. search needs) (λ c. search needs)
-        (λ c. search needs) returns-3)
+    (λ c. search needs) returns-2 (λ c. search needs) starts-of-requires slice-aggregate-run run-requires (λ c. search needs) (λ c. search needs)
+    (λ c. search needs) returns-3)

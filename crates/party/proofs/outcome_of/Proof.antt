@@ -41,4 +41,4 @@ pub outcome-of-spec : {M : Type 1} → statement M
 outcome-of-spec =
     tie.close
     (tie.spec keep-held-requires (λ c. search needs) (λ c. search needs) released-requires (λ c. search needs) released-requires-2 (λ c. search needs)
-        released-requires-3 returns returns-2 returns-3 returns-4)
+    released-requires-3 returns returns-2 returns-3 returns-4)

@@ -31,4 +31,4 @@ pub receive-spec : {M : Type 1} → statement M
 receive-spec =
     tie.close
     (tie.spec (λ c κs. search needs) (λ c. search needs) (λ c. search needs) read-slot-requires receive-step-requires (λ c κs. search needs)
-        (λ c. search needs) returns (λ c. search needs) returns-2)
+    (λ c. search needs) returns (λ c. search needs) returns-2)

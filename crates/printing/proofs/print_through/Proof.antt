@@ -21,5 +21,5 @@ pub print-through-spec : {M : Type 1} → statement M
 print-through-spec =
     tie.close
     (tie.spec Inv-loop μ-loop (λ c. search needs) (λ c κs. search needs) (λ c. search needs) (λ c. search needs) (λ c κs. search needs)
-        (λ c. search needs) (λ c. search needs) (λ c. search needs) (λ c. search needs) slice-aggregate-print (λ c κs. search needs)
-        (λ c. search needs) (λ c. search needs))
+    (λ c. search needs) (λ c. search needs) (λ c. search needs) (λ c. search needs) slice-aggregate-print (λ c κs. search needs)
+    (λ c. search needs) (λ c. search needs))

@@ -51,4 +51,4 @@ pub offset-of-spec : {M : Type 1} → statement M
 offset-of-spec =
     tie.close
     (tie.spec (λ c. search needs) (λ c. search needs) add-result (λ c. search needs) add-result-2 add-result-3 (λ c. search needs) add-result-4
-        add-result-5 add-result-6 returns returns-2 returns-3 returns-4)
+    add-result-5 add-result-6 returns returns-2 returns-3 returns-4)

@@ -23,4 +23,4 @@ pub releases-spec : {M : Type 1} → statement M
 releases-spec =
     tie.close
     (tie.spec (λ c. search needs) (λ c. search needs) (λ c. search needs) (λ c. search needs) (λ c. search needs) (λ c. search needs) returns
-        returns-2 returns-3 returns-4 returns-5)
+    returns-2 returns-3 returns-4 returns-5)

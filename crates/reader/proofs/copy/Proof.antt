@@ -36,4 +36,4 @@ pub copy-spec : {M : Type 1} → statement M
 copy-spec =
     tie.close
     (tie.spec Inv-loop μ-loop loop-holds (λ c. search needs) (λ c. search needs) (λ c. search needs) slice-write-to (λ c. search needs)
-        loop-less loop-again same-length returns)
+    loop-less loop-again same-length returns)

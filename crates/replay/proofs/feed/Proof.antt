@@ -46,4 +46,4 @@ pub feed-spec : {M : Type 1} → statement M
 feed-spec =
     tie.close
     (tie.spec Inv-loop μ-loop loop-holds (λ c. search needs) take-byte-requires add-i (λ c. search needs) loop-again same-length same-length-2
-        same-length-3 same-length-4 same-length-5 (λ c. search needs))
+    same-length-3 same-length-4 same-length-5 (λ c. search needs))

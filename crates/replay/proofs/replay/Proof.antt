@@ -50,5 +50,5 @@ pub replay-spec : {M : Type 1} → statement M
 replay-spec =
     tie.close
     (tie.spec Inv-loop μ-loop (λ c κs. search needs) (λ c κs. search needs) loop-holds (λ c κs. search needs) (λ c. search needs) (λ c. search needs)
-        feed-requires turns-left-requires (λ c. search needs) loop-again finish-requires same-length same-length-2 same-length-3 same-length-4
-        same-length-5 same-length-6 (λ c. search needs))
+    feed-requires turns-left-requires (λ c. search needs) loop-again finish-requires same-length same-length-2 same-length-3 same-length-4
+    same-length-5 same-length-6 (λ c. search needs))

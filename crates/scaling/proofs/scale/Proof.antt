@@ -36,4 +36,4 @@ pub scale-spec : {M : Type 1} → statement M
 scale-spec =
     tie.close
     (tie.spec Inv-loop μ-loop loop-holds (λ c. search needs) (λ c. search needs) mul-requires (λ c. search needs) (λ c. search needs)
-        (λ c. search needs) loop-less loop-again same-length returns)
+    (λ c. search needs) loop-less loop-again same-length returns)

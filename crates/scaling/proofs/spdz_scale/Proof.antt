@@ -36,4 +36,4 @@ pub spdz-scale-spec : {M : Type 1} → statement M
 spdz-scale-spec =
     tie.close
     (tie.spec returns ask-elements-requires (λ c. search needs) (λ c. search needs) returns-2 (λ c. search needs) scale-requires (λ c. search needs)
-        returns-3)
+    returns-3)

@@ -62,5 +62,5 @@ pub read-numbers-spec : {M : Type 1} → statement M
 read-numbers-spec =
     tie.close
     (tie.spec Inv-loop μ-loop loop-holds (λ c. search needs) (λ c κs. search needs) put-requires (λ c. search needs) (λ c. search needs) loop-again
-        (λ c κs. search needs) same-length returns (λ c κs. search needs) same-length-2 returns-2 with-digit-requires same-length-3 returns-3
-        (λ c. search needs) (λ c. search needs) (λ c. search needs) loop-again-2 put-requires-2 (λ c. search needs) returns-4)
+    (λ c κs. search needs) same-length returns (λ c κs. search needs) same-length-2 returns-2 with-digit-requires same-length-3 returns-3
+    (λ c. search needs) (λ c. search needs) (λ c. search needs) loop-again-2 put-requires-2 (λ c. search needs) returns-4)

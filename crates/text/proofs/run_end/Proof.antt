@@ -29,4 +29,4 @@ pub run-end-spec : {M : Type 1} → statement M
 run-end-spec =
     tie.close
     (tie.spec Inv-loop μ-loop (λ c. search needs) (λ c. search needs) (λ c κs. search needs) returns (λ c. search needs) (λ c. search needs)
-        loop-again returns-2)
+    loop-again returns-2)

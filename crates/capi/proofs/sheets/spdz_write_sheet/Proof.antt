@@ -8,7 +8,7 @@ use lib.ListN.{length}
 use Rattle.protocol.specs.Send.{overwrite}
 use Rattle.forms.specs.Entry.{Answer}
 use Rattle.capi.specs.Numbers.{places}
-use Rattle.capi.specs.Sheets.{sheetNumbers, sheetVerdict}
+use Rattle.capi.specs.Sheets.{sheetWritten, sheetNumbers, sheetVerdict}
 use Rattle.capi.proofs.Calling.{short-kept, long-returned, long-left}
 use Rattle.capi.proofs.SheetCalls.{write-short-returned, write-verdict, write-left, text-left, text-kept}
 use Rattle.capi.proofs.sheets.spdz_write_sheet.Statement.{statement}
@@ -16,22 +16,26 @@ use Rattle.capi.proofs.sheets.spdz_write_sheet.Tie as tie
 
 returns : tie.Need-returns
 returns c =
-    let run = c .before .before .before .before .write-sheet .ensures in
-    (write-short-returned _ _ _ _ (omega arith) (c .before .sheet-verdict .ensures ∙ ap sheetVerdict (run .0) ∙ write-verdict _ _ _) (c .returned-of .ensures),
-    (short-kept _ _ (omega arith) _ _, rw (run .1 ∙ text-kept _ _) (short-kept _ _ (omega arith) _ _)))
+    let run = c .before .before .before .before .write-sheet .ensures in (
+      write-short-returned _ _ _ _ (omega arith) (c .before .sheet-verdict .ensures ∙ ap sheetVerdict (run .0) ∙ write-verdict _ _ _) (c .returned-of .ensures),
+      (short-kept _ _ (omega arith) _ _, rw (run .1 ∙ text-kept _ _) (short-kept _ _ (omega arith) _ _)),
+    )
 
 returns-2 : tie.Need-returns-2
 returns-2 c =
     let at-start = c .before .before .before .before .before .before .before .before .before .before .before .before .before .before in
     let run = c .before .before .before .before .before .before .before .before .write-sheet2 .ensures in
-    let long : places ≤ length (at-start .args .answer .now) = omega arith in
-    (long-returned _ _ long (c .before .sheet-verdict2 .ensures ∙ ap sheetVerdict (run .0) ∙ write-verdict _ _ _) (c .returned-of2 .ensures),
-    (long-left _ _ long _ _ (write-left _ _ _ _)
-    (c .before .before .before .before .put-sheet .ensures ∙ ap (λ (a : Answer). overwrite (sheetNumbers 5 a) (at-start .args .answer .now)) (run .0)),
-    long-left _ _ long _ _ (text-left _ _ _) (run .1)))
+    let long : places ≤ length (at-start .args .answer .now) = omega arith in (
+      long-returned _ _ long (c .before .sheet-verdict2 .ensures ∙ ap sheetVerdict (run .0) ∙ write-verdict _ _ _) (c .returned-of2 .ensures),
+      (
+        long-left _ _ long _ _ (write-left _ _ _ _)
+            (c .before .before .before .before .put-sheet .ensures ∙ ap (λ (a : Answer). overwrite (sheetNumbers sheetWritten a) (at-start .args .answer .now)) (run .0)),
+        long-left _ _ long _ _ (text-left _ _ _) (run .1),
+      ),
+    )
 
 pub spdz-write-sheet-spec : {M : Type 1} → statement M
 spdz-write-sheet-spec =
     tie.close
     (tie.spec (λ c. search needs) (λ c. search needs) (λ c κs. search needs) (λ c κs. search needs) (λ c κs. search needs) (λ c. search needs) returns
-        (λ c κs. search needs) (λ c κs. search needs) (λ c κs. search needs) (λ c κs. search needs) (λ c. search needs) (λ c. search needs) returns-2)
+    (λ c κs. search needs) (λ c κs. search needs) (λ c κs. search needs) (λ c κs. search needs) (λ c. search needs) (λ c. search needs) returns-2)

@@ -29,4 +29,4 @@ pub words-of-spec : {M : Type 1} → statement M
 words-of-spec =
     tie.close
     (tie.spec (λ c. search needs) (λ c κs. search needs) returns (λ c κs. search needs) returns-2 (λ c. search needs) returns-3 (λ c. search needs)
-        (λ c. search needs) returns-4)
+    (λ c. search needs) returns-4)

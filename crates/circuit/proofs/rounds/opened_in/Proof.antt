@@ -14,4 +14,4 @@ pub opened-in-spec : {M : Type 1} → statement M
 opened-in-spec =
     tie.close
     (tie.spec (λ c. search needs) (λ c. search needs) (λ c. search needs) (λ c κs. search needs) (λ c. search needs) (λ c κs. search needs)
-        (λ c. search needs) (λ c. search needs) returns-3 returns-4)
+    (λ c. search needs) (λ c. search needs) returns-3 returns-4)

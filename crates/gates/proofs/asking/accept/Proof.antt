@@ -50,4 +50,4 @@ pub accept-spec : {M : Type 1} → statement M
 accept-spec =
     tie.close
     (tie.spec returns returns-2 returns-3 scan-requires (λ c. search needs) returns-4 (λ c. search needs) (λ c. search needs) class-at-requires
-        is-out-requires returns-5 returns-6)
+    is-out-requires returns-5 returns-6)

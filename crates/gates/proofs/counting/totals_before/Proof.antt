@@ -39,4 +39,4 @@ pub totals-before-spec : {M : Type 1} → statement M
 totals-before-spec =
     tie.close
     (tie.spec Inv-loop μ-loop loop-holds (λ c κs. search needs) total-gate-requires unchecked-after-requires (λ c. search needs) (λ c. search needs)
-        loop-again returns)
+    loop-again returns)

@@ -37,4 +37,4 @@ pub ask-lent-spec : {M : Type 1} → statement M
 ask-lent-spec =
     tie.close
     (tie.spec mul-ask-lists mul-ask-lists-2 ask-lists-requires (λ c. search needs) returns (λ c. search needs) mul-ask-rooms ask-rooms-requires
-        returns-2)
+    returns-2)

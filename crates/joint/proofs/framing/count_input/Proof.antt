@@ -36,4 +36,4 @@ pub count-input-spec : {M : Type 1} → statement M
 count-input-spec =
     tie.close
     (tie.spec class-at-requires (λ c κs. search needs) first-at-requires mul-counts slice-read-counts add-counts slice-write-counts
-        (λ c. search needs) returns returns-2)
+    (λ c. search needs) returns returns-2)

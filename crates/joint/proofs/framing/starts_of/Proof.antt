@@ -47,4 +47,4 @@ pub starts-of-spec : {M : Type 1} → statement M
 starts-of-spec =
     tie.close
     (tie.spec Inv-loop μ-loop count-inputs-requires loop-holds mul-starts array-write-starts mul-at array-read-at add-at add-i (λ c. omega arith)
-        loop-again returns)
+    loop-again returns)

@@ -87,7 +87,7 @@ pub receive-all-spec : {M : Type 1} → statement M
 receive-all-spec =
     tie.close
     (tie.spec first-at-requires heard-first-requires add-reach reach-requires next-point-requires (λ c. search needs) (λ c κs. search needs)
-        receive-inputs-requires add-settle-all settle-all-requires (λ c. search needs) returns factor-at-requires heard-second-requires
-        receive-openings-requires add-settle-all-2 settle-all-requires-2 (λ c. search needs) receive-outputs-requires (λ c. search needs)
-        (λ c. search needs) returns-2 (λ c. search needs) (λ c. search needs) add-settle-all-3 settle-all-requires-3 (λ c. search needs) returns-3
-        (λ c. search needs) returns-4 returns-5 returns-6 (λ c. search needs) returns-7)
+    receive-inputs-requires add-settle-all settle-all-requires (λ c. search needs) returns factor-at-requires heard-second-requires
+    receive-openings-requires add-settle-all-2 settle-all-requires-2 (λ c. search needs) receive-outputs-requires (λ c. search needs)
+    (λ c. search needs) returns-2 (λ c. search needs) (λ c. search needs) add-settle-all-3 settle-all-requires-3 (λ c. search needs) returns-3
+    (λ c. search needs) returns-4 returns-5 returns-6 (λ c. search needs) returns-7)

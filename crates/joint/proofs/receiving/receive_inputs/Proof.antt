@@ -77,5 +77,5 @@ pub receive-inputs-spec : {M : Type 1} → statement M
 receive-inputs-spec =
     tie.close
     (tie.spec Inv-loop μ-loop loop-holds add-end mul-key add-first add-last mul-after-input shared-slice-read-after-input mul-after-input-2
-        (λ c. omega arith) (λ c. omega arith) part-after-input-end mul-after-input-3 sub-after-input-2 part-after-input-start-2 part-after-input-end-2
-        after-input-requires add-i loop-less loop-again same-length returns)
+    (λ c. omega arith) (λ c. omega arith) part-after-input-end mul-after-input-3 sub-after-input-2 part-after-input-start-2 part-after-input-end-2
+    after-input-requires add-i loop-less loop-again same-length returns)

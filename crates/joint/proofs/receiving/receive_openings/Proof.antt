@@ -76,5 +76,5 @@ pub receive-openings-spec : {M : Type 1} → statement M
 receive-openings-spec =
     tie.close
     (tie.spec Inv-loop μ-loop loop-holds add-end mul-key add-first add-last mul-after-opening shared-slice-read-after-opening mul-after-opening-2
-        (λ c. omega arith) (λ c. omega arith) part-after-opening-end mul-after-opening-3 sub-after-opening-2 part-after-opening-start-2
-        part-after-opening-end-2 after-opening-requires add-i loop-less loop-again same-length returns)
+    (λ c. omega arith) (λ c. omega arith) part-after-opening-end mul-after-opening-3 sub-after-opening-2 part-after-opening-start-2
+    part-after-opening-end-2 after-opening-requires add-i loop-less loop-again same-length returns)

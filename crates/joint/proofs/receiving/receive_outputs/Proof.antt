@@ -49,4 +49,4 @@ pub receive-outputs-spec : {M : Type 1} → statement M
 receive-outputs-spec =
     tie.close
     (tie.spec Inv-loop μ-loop loop-holds add-end mul-after-open-output (λ c. omega arith) (λ c. omega arith) part-after-open-output-end
-        after-open-output-requires add-i loop-less loop-again same-length returns)
+    after-open-output-requires add-i loop-less loop-again same-length returns)

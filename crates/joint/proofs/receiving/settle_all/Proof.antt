@@ -52,4 +52,4 @@ pub settle-all-spec : {M : Type 1} → statement M
 settle-all-spec =
     tie.close
     (tie.spec Inv-loop μ-loop loop-holds kind-at-requires first-at-requires second-at-requires constant-at-requires settle-gate-requires add-j
-        loop-less loop-again same-length returns)
+    loop-less loop-again same-length returns)

@@ -60,4 +60,4 @@ pub settle-gate-spec : {M : Type 1} → statement M
 settle-gate-spec =
     tie.close
     (tie.spec Inv-loop μ-loop loop-holds add-end mul-key mul-after-linear shared-slice-read-after-linear mul-after-linear-2 (λ c. omega arith)
-        (λ c. omega arith) part-after-linear-end after-linear-requires add-i loop-less loop-again same-length returns)
+    (λ c. omega arith) part-after-linear-end after-linear-requires add-i loop-less loop-again same-length returns)

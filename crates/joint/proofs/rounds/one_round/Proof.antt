@@ -73,6 +73,6 @@ pub one-round-spec : {M : Type 1} → statement M
 one-round-spec =
     tie.close
     (tie.spec shape-at-requires words-in-requires mul-end add-end mul-send-all (λ c. search needs) (λ c. search needs) part-send-all-end
-        send-all-requires mul-release (λ c. search needs) (λ c. search needs) part-release-end release-requires mul-receive-all (λ c. search needs)
-        (λ c. search needs) part-receive-all-end receive-all-requires pass-gate-requires coefficients-in-requires add-used add-t32 (λ c. search needs)
-        same-length-2 (λ c. search needs) same-length-4 same-length-5 returns)
+    send-all-requires mul-release (λ c. search needs) (λ c. search needs) part-release-end release-requires mul-receive-all (λ c. search needs)
+    (λ c. search needs) part-receive-all-end receive-all-requires pass-gate-requires coefficients-in-requires add-used add-t32 (λ c. search needs)
+    same-length-2 (λ c. search needs) same-length-4 same-length-5 returns)

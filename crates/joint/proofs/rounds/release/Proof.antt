@@ -38,4 +38,4 @@ pub release-spec : {M : Type 1} → statement M
 release-spec =
     tie.close
     (tie.spec releases-requires returns heard-sum-requires returns-2 slice-aggregate-read-slot read-slot-requires (λ c. search needs)
-        slice-write-outputs (λ c. search needs) (λ c. search needs) returns-3)
+    slice-write-outputs (λ c. search needs) (λ c. search needs) returns-3)

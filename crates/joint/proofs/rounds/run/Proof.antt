@@ -61,4 +61,4 @@ pub run-spec : {M : Type 1} → statement M
 run-spec =
     tie.close
     (tie.spec Inv-loop μ-loop origin-requires loop-holds due-at-requires (λ c. search needs) slice-aggregate-one-round one-round-requires loop-less
-        loop-again (λ c. search needs) ending-requires same-length same-length-2 same-length-3 same-length-4 returns)
+    loop-again (λ c. search needs) ending-requires same-length same-length-2 same-length-3 same-length-4 returns)

@@ -82,5 +82,5 @@ pub check-shares-spec : {M : Type 1} → statement M
 check-shares-spec =
     tie.close
     (tie.spec Inv-loop μ-loop add-v loop-holds mul-key mul-start add-end mul-check-share (λ c. omega arith) (λ c. omega arith) part-check-share-end
-        mul-check-share-2 shared-slice-read-check-share mul-check-share-3 (λ c. omega arith) (λ c. omega arith) part-check-share-end-2
-        check-share-requires mul-held slice-write-held add-i loop-less loop-again same-length returns)
+    mul-check-share-2 shared-slice-read-check-share mul-check-share-3 (λ c. omega arith) (λ c. omega arith) part-check-share-end-2
+    check-share-requires mul-held slice-write-held add-i loop-less loop-again same-length returns)

@@ -82,4 +82,4 @@ pub input-words-spec : {M : Type 1} → statement M
 input-words-spec =
     tie.close
     (tie.spec Inv-loop μ-loop loop-holds mul-start add-start mul-end add-end mul-input-word sub-input-word part-input-word-start part-input-word-end
-        mul-input-word-2 shared-slice-read-input-word input-word-requires mul-out slice-write-out add-i loop-less loop-again same-length returns)
+    mul-input-word-2 shared-slice-read-input-word input-word-requires mul-out slice-write-out add-i loop-less loop-again same-length returns)

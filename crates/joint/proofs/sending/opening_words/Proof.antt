@@ -87,6 +87,6 @@ pub opening-words-spec : {M : Type 1} → statement M
 opening-words-spec =
     tie.close
     (tie.spec Inv-loop μ-loop loop-holds add-b mul-first add-first mul-last add-last mul-start add-end mul-opening-words (λ c. omega arith)
-        (λ c. omega arith) part-opening-words-end mul-opening-words-2 sub-opening-words-2 part-opening-words-start-2 part-opening-words-end-2
-        mul-opening-words-3 (λ c. omega arith) (λ c. omega arith) part-opening-words-end-3 opening-words-requires add-i loop-less loop-again
-        same-length returns)
+    (λ c. omega arith) part-opening-words-end mul-opening-words-2 sub-opening-words-2 part-opening-words-start-2 part-opening-words-end-2
+    mul-opening-words-3 (λ c. omega arith) (λ c. omega arith) part-opening-words-end-3 opening-words-requires add-i loop-less loop-again
+    same-length returns)

@@ -64,4 +64,4 @@ pub output-words-spec : {M : Type 1} → statement M
 output-words-spec =
     tie.close
     (tie.spec Inv-loop μ-loop loop-holds mul-start add-end mul-wire-at (λ c. omega arith) (λ c. omega arith) part-wire-at-end wire-at-requires mul-out
-        slice-write-out add-i loop-less loop-again same-length returns)
+    slice-write-out add-i loop-less loop-again same-length returns)

@@ -59,4 +59,4 @@ pub put-held-spec : {M : Type 1} → statement M
 put-held-spec =
     tie.close
     (tie.spec Inv-loop μ-loop loop-holds mul-out slice-read-out mul-out-2 slice-write-out mul-held slice-write-held add-i loop-less loop-again
-        same-length same-length-2 returns)
+    same-length same-length-2 returns)

@@ -64,6 +64,6 @@ pub send-all-spec : {M : Type 1} → statement M
 send-all-spec =
     tie.close
     (tie.spec (λ c. search needs) first-at-requires (λ c κs. search needs) input-words-requires (λ c. search needs) returns factor-at-requires
-        opening-words-requires (λ c. search needs) first-at-requires-2 output-words-requires (λ c. search needs) put-marks-requires
-        (λ c κs. search needs) check-shares-requires (λ c. search needs) put-held-requires (λ c. search needs) returns-2 (λ c. search needs)
-        returns-3 (λ c. search needs) (λ c. search needs) returns-4 (λ c. search needs) (λ c. search needs) returns-5)
+    opening-words-requires (λ c. search needs) first-at-requires-2 output-words-requires (λ c. search needs) put-marks-requires
+    (λ c κs. search needs) check-shares-requires (λ c. search needs) put-held-requires (λ c. search needs) returns-2 (λ c. search needs)
+    returns-3 (λ c. search needs) (λ c. search needs) returns-4 (λ c. search needs) (λ c. search needs) returns-5)

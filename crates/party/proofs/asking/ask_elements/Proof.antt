@@ -44,4 +44,4 @@ pub ask-elements-spec : {M : Type 1} → statement M
 ask-elements-spec =
     tie.close
     (tie.spec Inv-loop μ-loop (λ c κs. search needs) returns loop-holds (λ c. search needs) (λ c. search needs) returns-2 (λ c. search needs)
-        (λ c. search needs) loop-again returns-3)
+    (λ c. search needs) loop-again returns-3)

@@ -44,5 +44,5 @@ pub ask-lent-spec : {M : Type 1} → statement M
 ask-lent-spec =
     tie.close
     (tie.spec (λ c κs. search needs) (λ c. search needs) returns (λ c. search needs) (λ c κs. search needs) (λ c κs. search needs)
-        tally-between-requires tally-between-requires-2 add-ask-lists size-of-requires (λ c κs. search needs) (λ c. search needs) returns-2
-        (λ c. search needs) returns-3)
+    tally-between-requires tally-between-requires-2 add-ask-lists size-of-requires (λ c κs. search needs) (λ c. search needs) returns-2
+    (λ c. search needs) returns-3)

@@ -43,4 +43,4 @@ pub ask-lists-spec : {M : Type 1} → statement M
 ask-lists-spec =
     tie.close
     (tie.spec returns ask-elements-requires (λ c. search needs) returns-2 (λ c. search needs) returns-3 ask-elements-requires-2 (λ c. search needs)
-        returns-4 (λ c. search needs) returns-5 returns-6)
+    returns-4 (λ c. search needs) returns-5 returns-6)

@@ -49,4 +49,4 @@ pub ask-worked-spec : {M : Type 1} → statement M
 ask-worked-spec =
     tie.close
     (tie.spec (λ c κs. search needs) ask-slots-requires (λ c. search needs) returns (λ c. search needs) ask-slots-requires-2 (λ c. search needs)
-        returns-2 (λ c. search needs) ask-slots-requires-3 (λ c. search needs) returns-3 (λ c. search needs) ask-slots-requires-4 returns-4)
+    returns-2 (λ c. search needs) ask-slots-requires-3 (λ c. search needs) returns-3 (λ c. search needs) ask-slots-requires-4 returns-4)

@@ -38,4 +38,4 @@ pub is-wanted-spec : {M : Type 1} → statement M
 is-wanted-spec =
     tie.close
     (tie.spec (λ c. search needs) class-at-requires (λ c κs. search needs) (λ c. search needs) class-at-requires-2 (λ c κs. search needs)
-        (λ c. search needs) (λ c. search needs) returns returns-2 returns-3 returns-4)
+    (λ c. search needs) (λ c. search needs) returns returns-2 returns-3 returns-4)

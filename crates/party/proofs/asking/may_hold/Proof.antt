@@ -32,4 +32,4 @@ pub may-hold-spec : {M : Type 1} → statement M
 may-hold-spec =
     tie.close
     (tie.spec (λ c. search needs) is-reveal-requires (λ c. search needs) is-commit-requires (λ c. search needs) (λ c. search needs) returns returns-2
-        returns-3 returns-4)
+    returns-3 returns-4)

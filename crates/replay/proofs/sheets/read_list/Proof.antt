@@ -17,4 +17,4 @@ pub read-list-spec : {M : Type 1} → statement M
 read-list-spec =
     tie.close
     (tie.spec (λ c κs. search needs) (λ c. search needs) (λ c κs. search needs) (λ c. search needs) slice-aggregate-read-in read-in-requires
-        (λ c. search needs) (λ c. search needs))
+    (λ c. search needs) (λ c. search needs))

@@ -17,4 +17,4 @@ pub write-list-spec : {M : Type 1} → statement M
 write-list-spec =
     tie.close
     (tie.spec (λ c κs. search needs) (λ c. search needs) (λ c κs. search needs) (λ c. search needs) slice-aggregate-write-in write-in-requires
-        (λ c. search needs) (λ c. search needs))
+    (λ c. search needs) (λ c. search needs))

@@ -27,4 +27,4 @@ pub all-bytes-spec : {M : Type 1} → statement M
 all-bytes-spec =
     tie.close
     (tie.spec Inv-loop μ-loop (λ c. refl) (λ c. search needs) (λ c. search needs) returns (λ c. search needs) (λ c. search needs) loop-again
-        returns-2)
+    returns-2)

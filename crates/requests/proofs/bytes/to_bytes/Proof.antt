@@ -39,4 +39,4 @@ pub to-bytes-spec : {M : Type 1} → statement M
 to-bytes-spec =
     tie.close
     (tie.spec Inv-loop μ-loop loop-holds (λ c. search needs) (λ c. search needs) cast-bytes slice-write-bytes (λ c. search needs)
-        (λ c. search needs) loop-again same-length returns)
+    (λ c. search needs) loop-again same-length returns)

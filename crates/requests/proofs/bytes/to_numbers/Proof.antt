@@ -37,4 +37,4 @@ pub to-numbers-spec : {M : Type 1} → statement M
 to-numbers-spec =
     tie.close
     (tie.spec Inv-loop μ-loop loop-holds (λ c. search needs) cast-list (λ c. search needs) slice-write-list (λ c. search needs)
-        (λ c. search needs) loop-again same-length returns)
+    (λ c. search needs) loop-again same-length returns)

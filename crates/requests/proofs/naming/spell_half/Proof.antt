@@ -29,4 +29,4 @@ pub spell-half-spec : {M : Type 1} → statement M
 spell-half-spec =
     tie.close
     (tie.spec (λ c κs. search needs) (λ c κs. search needs) returns returns-2 slice-aggregate-same (λ c κs. search needs) returns-3
-        (λ c. search needs) (λ c. search needs) (λ c. search needs) (λ c κs. search needs) returns-4)
+    (λ c. search needs) (λ c. search needs) (λ c. search needs) (λ c κs. search needs) returns-4)

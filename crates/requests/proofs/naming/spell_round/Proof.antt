@@ -51,6 +51,6 @@ pub spell-round-spec : {M : Type 1} → statement M
 spell-round-spec =
     tie.close
     (tie.spec (λ c. search needs) (λ c. search needs) spell-requires (λ c. search needs) (λ c. search needs) spell-requires-2 (λ c. search needs)
-        (λ c. search needs) (λ c. search needs) spell-requires-3 (λ c. search needs) (λ c. search needs) spell-requires-4 (λ c. search needs)
-        (λ c. search needs) (λ c. search needs) spell-requires-5 (λ c. search needs) (λ c. search needs) spell-requires-6 returns returns-2 returns-3
-        returns-4 returns-5 returns-6)
+    (λ c. search needs) (λ c. search needs) spell-requires-3 (λ c. search needs) (λ c. search needs) spell-requires-4 (λ c. search needs)
+    (λ c. search needs) (λ c. search needs) spell-requires-5 (λ c. search needs) (λ c. search needs) spell-requires-6 returns returns-2 returns-3
+    returns-4 returns-5 returns-6)

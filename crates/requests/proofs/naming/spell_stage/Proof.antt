@@ -37,5 +37,5 @@ pub spell-stage-spec : {M : Type 1} → statement M
 spell-stage-spec =
     tie.close
     (tie.spec (λ c. search needs) (λ c. search needs) spell-half-requires (λ c. search needs) (λ c. search needs) spell-half-requires-2
-        (λ c. search needs) (λ c. search needs) spell-requires (λ c. search needs) (λ c. search needs) spell-requires-2 returns returns-2 returns-3
-        returns-4)
+    (λ c. search needs) (λ c. search needs) spell-requires (λ c. search needs) (λ c. search needs) spell-requires-2 returns returns-2 returns-3
+    returns-4)

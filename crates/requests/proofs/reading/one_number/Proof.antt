@@ -28,4 +28,4 @@ pub one-number-spec : {M : Type 1} → statement M
 one-number-spec =
     tie.close
     (tie.spec (λ c. search needs) (λ c κs. search needs) (λ c. search needs) (λ c. search needs) returns (λ c. search needs) (λ c. search needs)
-        (λ c. search needs) returns-2 returns-3 returns-4 returns-5)
+    (λ c. search needs) returns-2 returns-3 returns-4 returns-5)

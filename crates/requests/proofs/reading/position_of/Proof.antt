@@ -25,4 +25,4 @@ pub position-of-spec : {M : Type 1} → statement M
 position-of-spec =
     tie.close
     (tie.spec (λ c. search needs) (λ c. search needs) (λ c. search needs) (λ c. search needs) (λ c. search needs) (λ c. search needs)
-        (λ c. search needs) returns returns-2 returns-3 returns-4)
+    (λ c. search needs) returns returns-2 returns-3 returns-4)

@@ -18,4 +18,4 @@ pub take-field-spec : {M : Type 1} → statement M
 take-field-spec =
     tie.close
     (tie.spec (λ c κs. search needs) returns (λ c κs. search needs) (λ c κs. search needs) (λ c κs. search needs) (λ c κs. search needs) returns-2
-        (λ c κs. search needs) returns-3)
+    (λ c κs. search needs) returns-3)

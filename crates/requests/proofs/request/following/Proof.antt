@@ -36,4 +36,4 @@ pub following-spec : {M : Type 1} → statement M
 following-spec =
     tie.close
     (tie.spec Inv-loop μ-loop loop-holds (λ c. search needs) (λ c. search needs) (λ c κs. search needs) returns (λ c. search needs) loop-again
-        returns-2)
+    returns-2)

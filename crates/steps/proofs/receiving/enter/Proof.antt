@@ -54,4 +54,4 @@ pub enter-spec : {M : Type 1} → statement M
 enter-spec =
     tie.close
     (tie.spec (λ c. search needs) returns class-at-requires (λ c. search needs) (λ c. search needs) sending-at-requires (λ c. search needs)
-        sending-at-requires-2 (λ c. search needs) sending-at-requires-3 returns-2 sending-at-requires-4 returns-3 returns-4 returns-5 returns-6)
+    sending-at-requires-2 (λ c. search needs) sending-at-requires-3 returns-2 sending-at-requires-4 returns-3 returns-4 returns-5 returns-6)

@@ -37,5 +37,5 @@ pub next-point-spec : {M : Type 1} → statement M
 next-point-spec =
     tie.close
     (tie.spec (λ c. search needs) resume-requires (λ c. search needs) (λ c κs. search needs) (λ c. search needs) (λ c κs. search needs)
-        (λ c. search needs) (λ c κs. search needs) returns (λ c. search needs) (λ c κs. search needs) (λ c. search needs) resume-requires-2 returns-2
-        returns-3 returns-4 returns-5 returns-6)
+    (λ c. search needs) (λ c κs. search needs) returns (λ c. search needs) (λ c κs. search needs) (λ c. search needs) resume-requires-2 returns-2
+    returns-3 returns-4 returns-5 returns-6)

@@ -60,5 +60,5 @@ pub receive-own-spec : {M : Type 1} → statement M
 receive-own-spec =
     tie.close
     (tie.spec shared-slice-read-key (λ c κs. search needs) mul-after-input sub-after-input part-after-input-start (λ c. search needs)
-        after-input-requires add-settle settle-requires (λ c. search needs) returns mul-after-opening sub-after-opening part-after-opening-start
-        (λ c. search needs) after-opening-requires add-settle-2 settle-requires-2 (λ c. search needs) returns-2)
+    after-input-requires add-settle settle-requires (λ c. search needs) returns mul-after-opening sub-after-opening part-after-opening-start
+    (λ c. search needs) after-opening-requires add-settle-2 settle-requires-2 (λ c. search needs) returns-2)

@@ -50,4 +50,4 @@ pub receive-step-spec : {M : Type 1} → statement M
 receive-step-spec =
     tie.close
     (tie.spec shape-at-requires first-at-requires factor-at-requires words-in-requires heard-first-requires heard-second-requires add-reach
-        reach-requires next-point-requires receive-summed-requires (λ c. search needs) returns)
+    reach-requires next-point-requires receive-summed-requires (λ c. search needs) returns)

@@ -49,5 +49,5 @@ pub receive-summed-spec : {M : Type 1} → statement M
 receive-summed-spec =
     tie.close
     (tie.spec (λ c. search needs) receive-own-requires (λ c. search needs) after-open-output-requires (λ c. search needs) (λ c. search needs) returns
-        (λ c. search needs) (λ c. search needs) shared-slice-read-settle add-settle settle-requires (λ c. search needs) returns-2 (λ c. search needs)
-        returns-3 returns-4 returns-5 (λ c. search needs) returns-6)
+    (λ c. search needs) (λ c. search needs) shared-slice-read-settle add-settle settle-requires (λ c. search needs) returns-2 (λ c. search needs)
+    returns-3 returns-4 returns-5 (λ c. search needs) returns-6)

@@ -63,4 +63,4 @@ pub settle-spec : {M : Type 1} → statement M
 settle-spec =
     tie.close
     (tie.spec Inv-loop μ-loop loop-holds kind-at-requires first-at-requires second-at-requires constant-at-requires after-linear-requires add-j
-        loop-less loop-again same-length returns)
+    loop-less loop-again same-length returns)

@@ -59,5 +59,5 @@ pub check-share-spec : {M : Type 1} → statement M
 check-share-spec =
     tie.close
     (tie.spec Inv-loop μ-loop loop-holds (λ c. omega arith) (λ c. omega arith) opened-value-requires add-product-requires opened-mac-requires
-        add-product-requires-2 (λ c. omega arith) (λ c. omega arith) loop-again (λ c κs. search needs) (λ c κs. search needs) mul-requires
-        sub-requires returns)
+    add-product-requires-2 (λ c. omega arith) (λ c. omega arith) loop-again (λ c κs. search needs) (λ c κs. search needs) mul-requires
+    sub-requires returns)

@@ -30,4 +30,4 @@ pub opening-words-spec : {M : Type 1} → statement M
 opening-words-spec =
     tie.close
     (tie.spec masked-requires (λ c. search needs) (λ c. search needs) (λ c. search needs) masked-requires-2 slice-write-out-2 (λ c. search needs)
-        returns (λ c. search needs) returns-2)
+    returns (λ c. search needs) returns-2)

@@ -64,5 +64,5 @@ pub send-own-spec : {M : Type 1} → statement M
 send-own-spec =
     tie.close
     (tie.spec shape-at-requires first-at-requires is-in-requires mul-input-word sub-input-word part-input-word-start (λ c. search needs)
-        input-word-requires slice-write-out (λ c. search needs) returns factor-at-requires mul-opening-words sub-opening-words
-        part-opening-words-start (λ c. search needs) opening-words-requires (λ c. search needs) returns-2)
+    input-word-requires slice-write-out (λ c. search needs) returns factor-at-requires mul-opening-words sub-opening-words
+    part-opening-words-start (λ c. search needs) opening-words-requires (λ c. search needs) returns-2)

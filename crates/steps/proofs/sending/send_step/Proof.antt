@@ -52,5 +52,5 @@ pub send-step-spec : {M : Type 1} → statement M
 send-step-spec =
     tie.close
     (tie.spec (λ c. search needs) send-own-requires (λ c. search needs) send-output-requires (λ c. search needs) slice-write-out opened-in-requires
-        shared-slice-read-check-share check-share-requires (λ c. search needs) slice-write-out-2 (λ c. search needs) returns (λ c. search needs)
-        returns-2 (λ c. search needs) returns-3 (λ c. search needs) returns-4)
+    shared-slice-read-check-share check-share-requires (λ c. search needs) slice-write-out-2 (λ c. search needs) returns (λ c. search needs)
+    returns-2 (λ c. search needs) returns-3 (λ c. search needs) returns-4)

@@ -36,4 +36,4 @@ pub name-lives-spec : {M : Type 1} → statement M
 name-lives-spec =
     tie.close
     (tie.spec Inv-loop μ-loop loop-holds (λ c. search needs) (λ c. search needs) (λ c κs. search needs) returns (λ c. search needs)
-        (λ c. search needs) loop-again returns-2)
+    (λ c. search needs) loop-again returns-2)

@@ -52,12 +52,12 @@ loop-again : tie.Need-loop-again Inv-loop μ-loop
 loop-again c =
     let at-loop-test = c .before .before .before .before .before .before .before in
     written-more _ _ _ _ (at-loop-test .before .loop .inv) (at-loop-test .loop-test .taken) (c .before .before .before .before .is-digit2 .ensures)
-        (c .before .before .before .if4 .left) (c .before .before .if5 .left) (omega (arith, c .before .index .ensures, c .if6 .left))
+    (c .before .before .before .if4 .left) (c .before .before .if5 .left) (omega (arith, c .before .index .ensures, c .if6 .left))
 
 pub read-digits-spec : {M : Type 1} → statement M
 read-digits-spec =
     tie.close
     (tie.spec Inv-loop μ-loop (λ c. unfold DigitsRead in tt) (λ c. search needs) (λ c κs. search needs) (λ c. unfold DigitsRead in tt) sub-so-far
-        cast-so-far (λ c. search needs) loop-holds (λ c. search needs) cast-t17 returns-3 (λ c κs. search needs) (λ c. unfold DigitsRead in tt)
-        (λ c. unfold DigitsRead in tt) mul-larger sub-larger cast-larger add-larger (λ c κs. search needs) (λ c. unfold DigitsRead in tt)
-        (λ c. search needs) (λ c. search needs) loop-again (λ c. unfold DigitsRead in tt))
+    cast-so-far (λ c. search needs) loop-holds (λ c. search needs) cast-t17 returns-3 (λ c κs. search needs) (λ c. unfold DigitsRead in tt)
+    (λ c. unfold DigitsRead in tt) mul-larger sub-larger cast-larger add-larger (λ c κs. search needs) (λ c. unfold DigitsRead in tt)
+    (λ c. search needs) (λ c. search needs) loop-again (λ c. unfold DigitsRead in tt))

@@ -12,10 +12,10 @@ unfolding NumberRead
 returns c =
     let at-read-digits = c .before .before .before .before .before .before in
     written-fits _ _ _ _ _ _ (written-told _ _ _ _ (at-read-digits .read-digits .ensures) (c .before .before .before .before .value .given .1))
-        (c .before .fits2 .ensures ∙ ap (fitsAs _ _) (c .before .before .index .ensures)) (c .if1 .taken)
+    (c .before .fits2 .ensures ∙ ap (fitsAs _ _) (c .before .before .index .ensures)) (c .if1 .taken)
 
 pub read-number-spec : {M : Type 1} → statement M
 read-number-spec =
     tie.close
     (tie.spec (λ c κs. search needs) (λ c. search needs) (λ c κs. search needs) (λ c κs. search needs) returns (λ c κs. search needs)
-        (λ c. search needs) (λ c κs. search needs) (λ c. search needs) (λ c. search needs))
+    (λ c. search needs) (λ c κs. search needs) (λ c. search needs) (λ c. search needs))

@@ -38,4 +38,4 @@ pub find-word-spec : {M : Type 1} → statement M
 find-word-spec =
     tie.close
     (tie.spec Inv-loop μ-loop (λ c. refl) (λ c κs. search needs) (λ c κs. search needs) returns (λ c. search needs) (λ c. search needs) loop-again
-        returns-2)
+    returns-2)

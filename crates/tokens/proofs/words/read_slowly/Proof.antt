@@ -57,4 +57,4 @@ pub read-slowly-spec : {M : Type 1} → statement M
 read-slowly-spec =
     tie.close
     (tie.spec Inv-loop μ-loop loop-holds (λ c. search needs) find-word-requires (λ c. search needs) (λ c. search needs) returns (λ c. search needs)
-        returns-2 (λ c. search needs) word-lives-requires returns-3 (λ c. search needs) (λ c. search needs) loop-again returns-4)
+    returns-2 (λ c. search needs) word-lives-requires returns-3 (λ c. search needs) (λ c. search needs) loop-again returns-4)

@@ -32,10 +32,13 @@ returns-2 c =
     (c .before .before .before .if1 .left) (c .if2 .taken))
 
 loop-again : tie.Need-loop-again Inv-loop μ-loop
-loop-again c =
-    (c .before .before .before .before .before .loop .inv .0
-    ∙ starts-more _ _ _ _ _ (c .before .before .before .before .loop-test .taken) (c .before .before .before .before .before .before .pre .1)
-    (c .before .before .before .if1 .left) (c .if2 .left), omega arith, omega arith)
+loop-again c = (
+  c .before .before .before .before .before .loop .inv .0
+      ∙ starts-more _ _ _ _ _ (c .before .before .before .before .loop-test .taken) (c .before .before .before .before .before .before .pre .1)
+      (c .before .before .before .if1 .left) (c .if2 .left),
+  omega arith,
+  omega arith,
+)
 
 returns-3 : tie.Need-returns-3 Inv-loop μ-loop
 returns-3 c = sym (c .before .loop .inv .0 ∙ starts-all _ (c .before .before .args .w .now) _ _ (c .before .loop .k) (c .loop-test .left))
@@ -44,4 +47,4 @@ pub starts-word-spec : {M : Type 1} → statement M
 starts-word-spec =
     tie.close
     (tie.spec Inv-loop μ-loop loop-holds returns (λ c. search needs) (λ c. search needs) returns-2 (λ c. search needs) (λ c. search needs)
-        (λ c. search needs) loop-again returns-3)
+    (λ c. search needs) loop-again returns-3)

@@ -37,4 +37,4 @@ pub word-lives-spec : {M : Type 1} → statement M
 word-lives-spec =
     tie.close
     (tie.spec Inv-loop μ-loop (λ c. refl) (λ c κs. search needs) (λ c κs. search needs) returns (λ c. search needs) (λ c. search needs) loop-again
-        returns-2)
+    returns-2)
