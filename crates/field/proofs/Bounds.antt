@@ -11,6 +11,10 @@ use Rattle.field.specs.Prime.{p}
 pub product-le : {x y : ℕ} → x < p → y < p → x * y ≤ (p - 1) * (p - 1)
 product-le hx hy = mul-le-mul {n₂ = p - 1} {m₂ = p - 1} (omega arith) (omega arith)
 
+-- The product of two elements is below p * p.
+pub product-lt : {x y : ℕ} → x < p → y < p → x * y < p * p
+product-lt hx hy = omega (arith, product-le hx hy)
+
 -- The product of two elements fits 64 bits.
 pub product-fits : {x y : ℕ} → x < p → y < p → Fits w64 (x * y)
 product-fits hx hy = record { fits = omega (arith, product-le hx hy) }
@@ -18,10 +22,6 @@ product-fits hx hy = record { fits = omega (arith, product-le hx hy) }
 -- A number below p * p and a product fit 64 bits.
 pub more-fits : {s x y : ℕ} → s < p * p → x < p → y < p → Fits w64 (s + x * y)
 more-fits h hx hy = record { fits = omega (arith, product-le hx hy) }
-
--- A number below p * p and a product are below p * p, once it is taken off.
-pub more-less : {s x y : ℕ} → s < p * p → x < p → y < p → s + x * y - p * p < p * p
-more-less h hx hy = omega (arith, product-le hx hy)
 
 -- An element and a product fit 64 bits.
 pub one-fits : {c e b : ℕ} → c < p → e < p → b < p → Fits w64 (c + e * b)

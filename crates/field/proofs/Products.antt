@@ -1,8 +1,7 @@
 -- The elements of sums of products, which are reduced once at the end.
 -- Assumes nothing.
-use Prim.Native.Nat.{ℕ, _+_, _*_, _-_, _≤_}
+use Prim.Native.Nat.{ℕ, _+_, _*_}
 use mathlib.Core.Path.{_≡_, ap, sym, _∙_}
-use native.Mathlib.Omega.{arith}
 use Rattle.field.specs.Prime.{p, norm, add, mul}
 use Rattle.field.specs.Prime.Laws.{norm-eq, add-eq, mul-eq, add-norm}
 use Rattle.field.proofs.Laws.{laws}
@@ -20,10 +19,6 @@ norm-more s x y =
     ∙ sym (add-norm s (x * y))
     ∙ sym (add-norm-r laws (norm s) (x * y))
     ∙ ap (add (norm s)) (norm-product x y)
-
--- A number from which p * p is taken off stands for the same element.
-pub norm-less : (s : ℕ) → p * p ≤ s → norm (s - p * p) ≡ norm s
-norm-less s h = rw (norm-eq (s - p * p), norm-eq s) (omega arith)
 
 -- A number with three products added stands for the sum with each.
 pub norm-three : (c e b d a k m : ℕ)

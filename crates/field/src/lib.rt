@@ -34,11 +34,24 @@ pub fn sub(x: Word, y: Word) -> Word
     if y <= x { x - y } else { x + (SIZE - y) }
 }
 
-// The element that a number stands for, by one division.
-pub fn reduce(x: Sum) -> Word
+// The bits below bit 31. As a number it is SIZE, so that 2^31 stands for 1.
+const LOW: Sum = SIZE as u64;
+
+// One fold: the bits from bit 31 on are added to the bits below it.
+fn fold(x: Sum) -> Sum
+    ensures { λ r. ⌜ (r < sumSize) × (norm r ≡ norm x) ⌝ }
+{
+    (x & LOW) + (x >> 31)
+}
+
+// The element that a number below SIZE * SIZE stands for: one fold comes below 2 * SIZE, so that at most one SIZE is taken off,
+// and without a branch.
+fn element(x: Sum) -> Word
+    requires { ⌜ x < sumSize ⌝ }
     ensures { λ r. ⌜ Is size (norm x) r ⌝ }
 {
-    (x % (SIZE as u64)) as u32
+    let s = ((x & LOW) as u32) + ((x >> 31) as u32);
+    s - if s < SIZE { 0 } else { SIZE }
 }
 
 // The product. It is below SIZE * SIZE, which fits 64 bits.
@@ -46,19 +59,22 @@ pub fn mul(x: Word, y: Word) -> Word
     requires { ⌜ (x < size) × (y < size) ⌝ }
     ensures { λ r. ⌜ Is size (mul x y) r ⌝ }
 {
-    reduce((x as u64) * (y as u64))
+    element((x as u64) * (y as u64))
 }
 
-// A multiple of SIZE, below which running sums of products are kept.
-const SQUARE: u64 = (SIZE as u64) * (SIZE as u64);
+// The element that a number stands for. One fold comes below SIZE * SIZE, whatever the number is.
+pub fn reduce(x: Sum) -> Word
+    ensures { λ r. ⌜ Is size (norm x) r ⌝ }
+{
+    element(fold(x))
+}
 
-// A running sum of products with x * y added. It is below 2 * SQUARE, which fits 64 bits, so that at most one SQUARE is taken off.
+// A running sum of products with x * y added. It is below 2 * SIZE * SIZE, which fits 64 bits.
 pub fn add_product(sum: Sum, x: Word, y: Word) -> Sum
     requires { ⌜ (sum < sumSize) × (x < size) × (y < size) ⌝ }
     ensures { λ r. ⌜ (r < sumSize) × (norm r ≡ add (norm sum) (mul x y)) ⌝ }
 {
-    let s = sum + (x as u64) * (y as u64);
-    if s < SQUARE { s } else { s - SQUARE }
+    fold(sum + (x as u64) * (y as u64))
 }
 
 // c + e * b + d * a + k * m, reduced once: an element and three products fit 64 bits.

@@ -11,6 +11,7 @@ mod boundary;
 mod boundary_steps;
 mod coverage;
 mod neighbours;
+mod products;
 mod random_sheet;
 mod refuse;
 mod refuse_steps;

@@ -4,7 +4,7 @@ use super::boundary::{boundaries, Boundary, ListOf, NO_ELEMENTS};
 use super::boundary_steps::coefficients;
 use super::runs::{self, Wrong, TRIPLE_WRONGS};
 use super::scene::Scene;
-use super::{rotation, squares, Answered, Entry, Request, Size};
+use super::{products, rotation, squares, Answered, Entry, Request, Size};
 use crate::circuit::{IN, MAX_GATES, MUL, OUT, PLUS};
 use crate::docket;
 use crate::random::{self, Kinds, Random};
@@ -15,10 +15,17 @@ pub enum Set {
     Large,
     Square,
     SquaresLarge,
+    Products,
 }
 
 impl Set {
-    pub const ALL: [Set; 4] = [Set::Small, Set::Large, Set::Square, Set::SquaresLarge];
+    pub const ALL: [Set; 5] = [
+        Set::Small,
+        Set::Large,
+        Set::Square,
+        Set::SquaresLarge,
+        Set::Products,
+    ];
     pub const KEPT: [Set; 3] = [Set::Small, Set::Large, Set::Square];
 
     pub fn name(self) -> &'static str {
@@ -27,6 +34,7 @@ impl Set {
             Set::Large => "large",
             Set::Square => "square",
             Set::SquaresLarge => "squares-large",
+            Set::Products => "products",
         }
     }
 
@@ -36,6 +44,7 @@ impl Set {
             Set::Large => "circuits of up to 256 gates and 8 parties; the longest runs and lists, refusals at high indices",
             Set::Square => "squares among other gates; both sides of every question's boundary, squares of every kind of wire, tampered words, bad preprocessing",
             Set::SquaresLarge => "squares in circuits of up to 256 gates and 8 parties; every boundary, whole runs, the longest run",
+            Set::Products => "products at the edges of a reduction: by constants, by the key share, of opened values; the largest sums of products",
         }
     }
 
@@ -47,6 +56,7 @@ impl Set {
             Set::Large => large(&mut random),
             Set::Square => squares::kept(&mut random),
             Set::SquaresLarge => squares::large(&mut random),
+            Set::Products => products::all(&mut random),
         };
         requests.into_iter().map(Request::answered).collect()
     }

@@ -1,24 +1,23 @@
--- `field::add_product` meets its contract: the sum is below 2 * p * p, and p * p is a multiple of p.
+-- `field::add_product` meets its contract: the sum fits 64 bits, and a fold keeps its element.
 -- Assumes nothing.
 use borrow.Author.Needs.{needs}
 use mathlib.Core.Path.{_∙_}
-use native.Mathlib.Omega.{arith}
-use Rattle.field.proofs.Bounds.{product-fits, more-fits, more-less}
-use Rattle.field.proofs.Products.{norm-more, norm-less}
+use Rattle.field.proofs.Bounds.{product-fits, more-fits}
+use Rattle.field.proofs.Products.{norm-more}
 use Rattle.field.proofs.add_product.Statement.{statement}
 use Rattle.field.proofs.add_product.Tie as tie
 
-mul-s : tie.Need-mul-s
-mul-s c = search (needs, product-fits)
+mul-fold : tie.Need-mul-fold
+mul-fold c = search (needs, product-fits)
 
-add-s : tie.Need-add-s
-add-s c = search (needs, more-fits)
+add-fold : tie.Need-add-fold
+add-fold c = search (needs, more-fits)
+
+fold-requires : tie.Need-fold-requires
+fold-requires c κs = search needs
 
 returns : tie.Need-returns
-returns c = (omega arith, norm-more _ _ _)
-
-returns-2 : tie.Need-returns-2
-returns-2 c = (search (needs, more-less), norm-less _ (omega arith) ∙ norm-more _ _ _)
+returns c = (c .fold .ensures .0, c .fold .ensures .1 ∙ norm-more _ _ _)
 
 pub add-product-spec : {M : Type 1} → statement M
-add-product-spec = tie.close (tie.spec mul-s add-s returns returns-2)
+add-product-spec = tie.close (tie.spec mul-fold add-fold fold-requires returns)
