@@ -17,14 +17,14 @@ add-s : tie.Need-add-s
 add-s c = fold-fits-word (c .args .x) (search needs)
 
 sub-result : tie.Need-sub-result
-sub-result c = ⊎-elim (λ w. rw (w .1) (omega arith)) (λ w. rw (w .1) (w .0 .left)) (c .before .if1 .came)
+sub-result c = ⊎-elim (λ w. rw (w .1) (omega arith)) (λ w. rw (w .1) (omega (arith, w .0 .left))) (c .before .if1 .came)
 
 returns : tie.Need-returns
 returns c =
     let x = c .before .before .args .x in
     ⊎-elim
-    (λ w. rw (w .1) (element-small x (search needs) (w .0 .taken)))
-    (λ w. rw (w .1) (element-large x (search needs) (w .0 .left)))
+    (λ w. rw (w .1) (element-small x (search needs) (omega (arith, w .0 .taken))))
+    (λ w. rw (w .1) (element-large x (search needs) (omega (arith, w .0 .left))))
     (c .before .if1 .came)
 
 pub element-spec : {M : Type 1} → statement M
