@@ -13,7 +13,7 @@ use Rattle.circuit.specs.Count.{unchecked}
 use Rattle.circuit.specs.Round.{Round, isCommit, isReveal, rounds, among, coefficientsIn}
 use Rattle.protocol.specs.Position.{Point, Send, keep, stageOccurs, mayHold}
 use Rattle.protocol.specs.Receive.{next, received}
-use Rattle.protocol.specs.Code.{pointOf, Sited}
+use Rattle.protocol.specs.Code.{Sited}
 use Rattle.protocol.specs.Ready.{Ready}
 use Rattle.protocol.proofs.Following.{Possible, next-possible, next-holds}
 use Rattle.protocol.proofs.Points.{FitsStage}
@@ -21,8 +21,7 @@ use Rattle.protocol.proofs.Keeping.{ready-stood, received-stands, ready-next}
 use Rattle.protocol.specs.Joint.{Joint, band, party}
 use Rattle.protocol.specs.Run.{said, step}
 use Rattle.joint.specs.declared.Frame.{Frame}
-use Rattle.joint.specs.declared.Course.{Course}
-use Rattle.joint.specs.Code.{siteOf, stateOf, Going, Turned}
+use Rattle.joint.specs.Code.{Course, siteOf, stateOf, Going, Moved}
 
 module _ (J : Joint) (f : Frame) (s : Course) (r : Round) (held l : List ℕ) (g : Going J f s r held l) where
   -- the words of all in this round
@@ -47,14 +46,13 @@ module _ (J : Joint) (f : Frame) (s : Course) (r : Round) (held l : List ℕ) (g
   pub next-there : Possible (J .circuit) nextIn
   next-there = next-possible (J .circuit) ops (J .parties) (s .point .gate) heardIn r occurs within
 
-  module _ {t o : List ℕ} {s′ : Course} {held′ l′ t′ o′ : List ℕ} (d : Turned J f s r held l t o s′ held′ l′ t′ o′) where
+  module _ {t : List ℕ} {s′ : Course} {held′ l′ t′ : List ℕ} (d : Moved J f s r held l t s′ held′ l′ t′) where
     -- where the round leads
-    pub point-is : pointOf (s′ .point) ≡ nextIn
-    unfolding stateOf step pointOf
+    pub point-is : s′ .point ≡ nextIn
+    unfolding stateOf step
     point-is = d .alike .point
 
     gate-is : s′ .point .gate ≡ nextIn .gate
-    unfolding pointOf
     gate-is = ap (λ (x : Point). x .gate) point-is
 
     -- which is a round of a gate, if it is one
@@ -67,13 +65,13 @@ module _ (J : Joint) (f : Frame) (s : Course) (r : Round) (held l : List ℕ) (g
     sited i h =
         record {
           within = omega (arith, gate-is, next-there .within);
-          prep = d .tallied .prep;
-          unchecked = d .tallied .unchecked;
+          prep = d .prep-is;
+          unchecked = refl;
           input = refl;
         }
 
     received-is : (i : ℕ) → i < J .parties → band (f .scratch) l′ i ≡ received ops (party J i) (band (f .scratch) l i) (s .point .gate) r heardIn
-    unfolding stateOf step pointOf
+    unfolding stateOf step
     received-is i h = d .alike .scratch i h
 
     ready-then : (r′ : Round) → nextIn .stage ≡ Send r′ → (i : ℕ) → i < J .parties → Ready size (party J i) (band (f .scratch) l′ i) (f .layout) (siteOf (J .circuit) s′ i) r′
@@ -99,7 +97,7 @@ module _ (J : Joint) (f : Frame) (s : Course) (r : Round) (held l : List ℕ) (g
         record {
           lent = g .lent;
           room = omega (arith, g .room, d .long);
-          tallied = d .tallied;
+          prep-is = d .prep-is;
           eight = d .eight;
           held-low = d .held-low;
           held-none = none-held r′ e;

@@ -1,28 +1,27 @@
 -- Where a run stands after a round: at the same gate, or where the linear gates after it lead. These count nothing.
 -- Assumes nothing.
 use Prim.Native.Nat.{ℕ, zero, suc, _+_, _-_, _<_, _≤_}
-use mathlib.Core.Path.{_≡_, refl, sym, ap, _∙_}
+use mathlib.Core.Path.{_≡_, sym, ap, subst, _∙_}
 use mathlib.Core.Bool.{Bool, true, false, cond}
 use mathlib.Core.List.{List}
-use mathlib.Core.Logic.{inl, inr, ⊎-elim}
 use native.Mathlib.Decide.{ℕ-discrete}
 use native.Mathlib.Numerals.{add-one}
 use native.Mathlib.Omega.{arith}
-use Rattle.algebra.specs.Ops.{Ops}
 use Rattle.circuit.specs.Gate.{Gate, gate, gates}
-use Rattle.circuit.specs.Kind.{isOut, isLinear, ownedBy, shape}
+use Rattle.circuit.specs.Kind.{Output, isOut, isLinear, ownedBy, shape}
 use Rattle.circuit.specs.Count.{total, count, prepAt, inputAt, unchecked}
-use Rattle.circuit.specs.Round.{Round}
 use Rattle.circuit.specs.Valid.{Valid}
-use Rattle.circuit.specs.Code.{Tallied}
-use Rattle.circuit.specs.declared.Tally.{Tally}
 use Rattle.circuit.proofs.Counts.{total-mono}
-use Rattle.circuit.proofs.KindLaws.{Idle, idle}
-use Rattle.protocol.specs.Position.{Point, finished, aborted, reach, resume, follow}
+use Rattle.circuit.proofs.KindLaws.{Idle, idle, is-class, output-facts}
+use Rattle.protocol.specs.Position.{Point, finished, reach, resume}
 use Rattle.protocol.specs.Receive.{passes, next}
 use Rattle.protocol.proofs.Following.{unchecked-reach}
-use Rattle.protocol.proofs.Points.{Reached, reached, Entered, ended, begun, entered, Followed, stays, leaves, followed}
-use Rattle.joint.specs.Code.{Onward, Placed}
+use Rattle.protocol.proofs.Points.{Reached, reached, Entered, ended, begun, entered}
+use Rattle.joint.specs.Code.{Placed}
+
+-- A stop is found by how many gates there are.
+pub same-stop : (c : List ℕ) (j : ℕ) {m m′ stop : ℕ} → m ≡ m′ → stop ≡ reach c (m - j) j → stop ≡ reach c (m′ - j) j
+same-stop c j {stop = stop} e = subst (λ (k : ℕ). stop ≡ reach c (k - j) j) e
 
 module _ (c : List ℕ) where
   -- So a sum to which such gates add nothing passes over them.
@@ -44,39 +43,20 @@ module _ (c : List ℕ) where
     rest = omega arith
 
     -- what is counted up to the next gate is counted up to the stop
-    tallied-stop : {i : ℕ} {t : Tally} → Tallied c i (j + 1) t → Tallied c i (reach c (gates c - (j + 1)) (j + 1)) t
-    unfolding prepAt inputAt count
-    tallied-stop {i} was =
-        record {
-          prep = was .prep ∙ ap (λ (k : ℕ). 1 + k) (sym (total-over (λ g. shape g .prep) (λ g q. q .prep) (gates c - (j + 1)) (j + 1) rest));
-          openings = was .openings ∙ sym (total-over (λ g. shape g .openings) (λ g q. q .openings) (gates c - (j + 1)) (j + 1) rest);
-          unchecked = was .unchecked ∙ sym (unchecked-reach c (gates c - (j + 1)) (j + 1));
-          inputs = was .inputs ∙ sym (total-over (λ g. cond (ownedBy i g) 1 0) (λ g q. rw (q .nobody i)) (gates c - (j + 1)) (j + 1) rest);
-        }
+    prep-stop : prepAt c (reach c (gates c - (j + 1)) (j + 1)) ≡ prepAt c (j + 1)
+    unfolding prepAt
+    prep-stop = ap (λ (k : ℕ). 1 + k) (total-over (λ g. shape g .prep) (λ g q. q .prep) (gates c - (j + 1)) (j + 1) rest)
 
-    placed-stop : {n : ℕ} {places : List ℕ} → Placed n c (j + 1) places → Placed n c (reach c (gates c - (j + 1)) (j + 1)) places
+    pub waits-stop : unchecked c (reach c (gates c - (j + 1)) (j + 1)) ≡ unchecked c (j + 1)
+    waits-stop = unchecked-reach c (gates c - (j + 1)) (j + 1)
+
+    pub placed-stop : {n : ℕ} {places : List ℕ} → Placed n c (j + 1) places → Placed n c (reach c (gates c - (j + 1)) (j + 1)) places
     unfolding inputAt count
     placed-stop was =
         record {
           eight = was .eight;
           each = λ i l. omega (arith, was .each i l, total-over (λ g. cond (ownedBy i g) 1 0) (λ g q. rw (q .nobody i)) (gates c - (j + 1)) (j + 1) rest);
         }
-
-    stop-later : j < reach c (gates c - (j + 1)) (j + 1)
-    stop-later = omega (arith, reach-later (gates c - (j + 1)) (j + 1))
-
-  module _ {n i j k : ℕ} (h : j < gates c) (on : Onward c j k) where
-    -- so the counts stay as they are where the run stays, ..
-    pub stayed : k ≤ j → {t : Tally} → Tallied c i j t → {places : List ℕ} → Placed n c j places → Tallied c i k t × Placed n c k places
-    stayed l {t} tallied {places} placed =
-        let e : k ≡ j = ⊎-elim (λ e. e) (λ e. absurd (omega (arith, e, stop-later j h))) on in
-        rw e (tallied, placed)
-
-    -- .. and are those after the gate where it goes on
-    pub passed : j < k → {t : Tally} → Tallied c i (j + 1) t → {places : List ℕ} → Placed n c (j + 1) places → Tallied c i k t × Placed n c k places
-    passed l {t} tallied {places} placed =
-        let e : k ≡ reach c (gates c - (j + 1)) (j + 1) = ⊎-elim (λ e. absurd (omega (arith, e))) (λ e. e) on in
-        rw e (tallied-stop j h tallied, placed-stop j h placed)
 
   -- The last gate is an out gate, so only that gate has none but linear gates after it.
   last-gate : {n q : ℕ} → Valid n q c → (j : ℕ) → j < gates c → reach c (gates c - suc j) (suc j) ≡ gates c → gates c - 1 ≡ j
@@ -97,25 +77,18 @@ module _ (c : List ℕ) where
           let all : suc (gates c - 1) ≡ gates c = omega arith in
           absurd (omega (arith, none, one, ap outs all, total-mono (λ g. cond (isOut g) 1 0) c (suc j) (gates c - 1) (omega arith)))
 
-  resumed : {n q : ℕ} → Valid n q c → (j : ℕ) → j < gates c → Onward c j (resume c (suc j) .gate)
+  -- It has no record.
+  last-none : {n q : ℕ} → Valid n q c → (j : ℕ) → gates c - 1 ≡ j → prepAt c (gates c - 1) ≡ prepAt c (suc j)
+  unfolding prepAt total
+  last-none v j e = rw e (omega (arith, output-facts (gate c j) (is-class Output (rw e at (v .last))) .prep))
+
+  -- Where a run goes on after gate j, the records before that gate are those up to gate j.
+  pub resumed-prep : {n q : ℕ} → Valid n q c → (j : ℕ) → j < gates c → prepAt c (resume c (suc j) .gate) ≡ prepAt c (suc j)
   unfolding resume
-  resumed v j h =
+  resumed-prep v j h =
       let k : Reached c (suc j) (reach c (gates c - suc j) (suc j)) = reached c (gates c - suc j) (suc j) (omega arith) in
       go _ (entered c (reach c (gates c - suc j) (suc j)) (k .within) (k .stands))
     where
-      go : (x : Point) → Entered c (reach c (gates c - suc j) (suc j)) x → Onward c j (x .gate)
-      go x (ended e q) = rw q (unfold finished in inl (last-gate v j h e))
-      go x (begun r rs m e b q) = rw q (inr (ap (λ (m : ℕ). reach c (gates c - m) m) (sym (add-one j))))
-
-  -- The point after a round is at the gate or at the stop after it.
-  pub next-onward : {n q : ℕ} → Valid n q c → (O : Ops) (m j : ℕ) (r : Round) (heard : List ℕ) → j < gates c → Onward c j (next O m c j r heard .gate)
-  unfolding next aborted
-  next-onward v O m j r heard h = go (passes O m r heard)
-    where
-      from : (x : Point) → Followed c j r x → Onward c j (x .gate)
-      from x (stays r′ rest e q) = rw q (inl refl)
-      from x (leaves e q) = rw q (resumed v j h)
-
-      go : (b : Bool) → Onward c j (cond b (follow c j r) (aborted j) .gate)
-      go true = from (follow c j r) (followed c j r)
-      go false = inl refl
+      go : (x : Point) → Entered c (reach c (gates c - suc j) (suc j)) x → prepAt c (x .gate) ≡ prepAt c (suc j)
+      go x (ended e q) = rw q (unfold finished in last-none v j (last-gate v j h e))
+      go x (begun r rs m e b q) = rw q (rw (add-one j) at (prep-stop j h))

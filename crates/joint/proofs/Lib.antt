@@ -13,5 +13,11 @@ pub mod ReceiveTurns
 pub mod Measures
 pub mod Later
 pub mod Rounding
+pub mod Checking
+pub mod Turns
+pub mod Stops
+pub mod Passing
+pub mod CheckTurns
+pub mod Ends
 pub mod Accepting
 pub mod Entering

@@ -10,7 +10,8 @@ use lib.Seq.{drop-at}
 use Rattle.field.specs.Words.{size, ops}
 use Rattle.field.proofs.Laws.{laws}
 use Rattle.circuit.specs.Gate.{gateSize, Gate, gate}
-use Rattle.circuit.specs.Kind.{Class, Owned, Opens, shape, isClass, isLinear}
+use Rattle.circuit.specs.Kind.{Owned, Opens, shape, isLinear}
+use Rattle.circuit.specs.Count.{unchecked}
 use Rattle.circuit.specs.Round.{Check, First, Second, Round, Own, Open, Commit, Reveal}
 use Rattle.circuit.proofs.KindLaws.{owned-facts, opens-facts}
 use Rattle.protocol.specs.Position.{reach}
@@ -20,13 +21,12 @@ use Rattle.protocol.specs.Code.{layoutOf}
 use Rattle.protocol.specs.Ready.{Opening, Settles, Receives, heardFirst, Named, Summed}
 use Rattle.protocol.proofs.Slots.{length-put, length-opened}
 use Rattle.protocol.proofs.Lengths.{length-differences, length-afterLinear}
-use Rattle.protocol.proofs.Settling.{Settling, Reaching, settling-start, settling-asks, settling-again, settling-end, reaching-start, reaching-again, reaching-linear}
-use Rattle.protocol.proofs.Readiness.{within-there, input-settles, opening-asks, opening-settles, output-settles, own-owned, own-opens}
+use Rattle.protocol.proofs.Settling.{Settling, Reaching, settling-start, settling-asks, settling-again, settling-end, reaching-start, reaching-again, reaching-stop, reaching-done}
+use Rattle.protocol.proofs.Readiness.{within-there, input-settles, opening-asks, opening-settles, output-settles}
 use Rattle.protocol.proofs.Received as R
 use Rattle.protocol.specs.Joint.{Joint, joined, band, party}
 use Rattle.joint.specs.declared.Frame.{Frame}
-use Rattle.joint.specs.declared.Course.{Course}
-use Rattle.joint.specs.Code.{siteOf, Lent, prepFrom, keyIn, Prepared, Banded, EachBand, rebanded, receivedIn}
+use Rattle.joint.specs.Code.{Course, siteOf, Lent, prepFrom, keyIn, Prepared, Banded, EachBand, rebanded, receivedIn}
 use Rattle.protocol.proofs.Words.{length-joined, joined-ext}
 use Rattle.protocol.proofs.Bands.{band-front, band-joined, joined-bands}
 use Rattle.joint.proofs.Cutting.{band-long}
@@ -122,21 +122,22 @@ module _ (f : Frame) (c preps : List ℕ) (a : ℕ) (l₀ : List ℕ) (b : Bande
         reaching = reaching-start c (f .layout .gates) a (s 0 some .upto);
       }
 
-  module _ {j : ℕ} {l : List ℕ} (inv : SettlingAll f c preps a l₀ j l) {stop : ℕ} (e : stop ≡ reach c (f .layout .gates - a) a) where
-    module _ (h : j < stop) where
-      pub all-linear : (j < f .layout .gates) × (isLinear (gate c j) ≡ true)
-      all-linear = reaching-linear c (f .layout .gates) a j (inv .reaching) (omega (arith, e))
-
-      -- gate j can be read off the circuit, and what it reads off each band
+  module _ {j : ℕ} {l : List ℕ} (inv : SettlingAll f c preps a l₀ j l) where
+    module _ (h : j < f .layout .gates) where
+      -- gate j can be read off the circuit ..
       pub all-there : gateSize * j + gateSize ≤ length c
       unfolding layoutOf
-      all-there = omega (arith, all-linear .0, s 0 some .valid .whole, s 0 some .count)
+      all-there = omega (arith, s 0 some .valid .whole, s 0 some .count)
 
-      module _ {g : Gate} (eg : g ≡ gate c j) where
+      -- .. and is the stop unless it is linear
+      pub all-stop : isLinear (gate c j) ≡ false → j ≡ reach c (f .layout .gates - a) a
+      all-stop = reaching-stop c (f .layout .gates) a j (inv .reaching) h
+
+      module _ (linear : isLinear (gate c j) ≡ true) {g : Gate} (eg : g ≡ gate c j) where
         pub all-reads : EachBand f l (λ i k. Reads size (layoutOf (f .layout)) k g)
         unfolding layoutOf
         all-reads i k =
-            settling-asks c (layoutOf (f .layout)) i (keyIn f preps i) a (band (f .scratch) l₀ i) j (band (f .scratch) l i) (inv .each i k) (s i k) (all-linear .0) eg .1
+            settling-asks c (layoutOf (f .layout)) i (keyIn f preps i) a (band (f .scratch) l₀ i) j (band (f .scratch) l i) (inv .each i k) (s i k) h eg .1
 
         pub all-again : {l₁ : List ℕ} → l₁ ≡ rebanded f (linearLeft f preps l j g) l → SettlingAll f c preps a l₀ (j + 1) l₁
         unfolding layoutOf
@@ -148,14 +149,18 @@ module _ (f : Frame) (c preps : List ℕ) (a : ℕ) (l₀ : List ℕ) (b : Bande
               excess = reband-excess (inv .banded) (linearLeft f preps l j g) each d ∙ inv .excess;
               each = λ i k.
                   settling-again c (layoutOf (f .layout)) i (keyIn f preps i) a (band (f .scratch) l₀ i) j (band (f .scratch) l i) (inv .each i k) laws
-                  (s i k .room) (all-linear .0) (all-linear .1)
+                  (s i k .room) h linear
                   (reband-band (inv .banded) (linearLeft f preps l j g) each d i k ∙ ap (λ (z : Gate). linearLeft f preps l j z i) eg);
-              reaching = reaching-again c (f .layout .gates) a j (inv .reaching) (all-linear .0) (all-linear .1);
+              reaching = reaching-again c (f .layout .gates) a j (inv .reaching) h linear;
             }
 
-    pub all-settled : stop ≤ j → l ≡ rebanded f (settledLeft f c preps l₀ a) l₀
+    pub all-done : f .layout .gates ≤ j → j ≡ reach c (f .layout .gates - a) a
+    all-done = reaching-done c (f .layout .gates) a j (inv .reaching)
+
+    -- at the stop all is done
+    pub all-settled : j ≡ reach c (f .layout .gates - a) a → l ≡ rebanded f (settledLeft f c preps l₀ a) l₀
     unfolding layoutOf
-    all-settled h =
+    all-settled e =
         sym (joined-bands (f .parties) (f .scratch) l (inv .banded .room))
         ∙ ap (λ (z : List ℕ). joined (f .parties) (band (f .scratch) l) ++ z) (inv .excess)
         ∙ ap (λ (z : List ℕ). z ++ drop (f .parties * f .scratch) l₀)
@@ -197,20 +202,18 @@ module _ (f : Frame) (s : Course) (c preps inputs l heard : List ℕ) (t : Lent 
   stopped-left k e = left-alone (Reveal k) (λ i h. R.stopped-received ops (party J i) (band (f .scratch) l i) (s .point .gate) heard k e)
 
   -- what settling asks, where m is the scratch of all
-  abbrev SettlesAll : List ℕ → ℕ → Type 0
-  SettlesAll m stop =
+  abbrev SettlesAll : List ℕ → Type 0
+  SettlesAll m =
       Prepared f preps 0 1
       × Banded f m
       × (0 < f .parties)
       × EachBand f m (λ i k. Settles size c (layoutOf (f .layout)) (keyIn f preps i) k (s .point .gate + 1))
-      × (stop ≡ reach c (f .layout .gates - (s .point .gate + 1)) (s .point .gate + 1))
 
   -- a round that leaves each band as F i, and then settles it
   module _ (F : ℕ → List ℕ) (each : (i : ℕ) → i < f .parties → length (F i) ≡ f .scratch) {l₁ : List ℕ} (d : l₁ ≡ rebanded f F l) where
     settling-asked : ((i : ℕ) → i < f .parties → band (f .scratch) l₁ i ≡ F i → Settles size c (layoutOf (f .layout)) (keyIn f preps i) (band (f .scratch) l₁ i) (s .point .gate + 1))
-        → {stop : ℕ} → stop ≡ reach c (f .layout .gates - (s .point .gate + 1)) (s .point .gate + 1)
-        → SettlesAll l₁ stop
-    settling-asked k z = (lent-key t, reband-banded banded F each d, some, λ i h. k i h (reband-band banded F each d i h), z)
+        → SettlesAll l₁
+    settling-asked k = (lent-key t, reband-banded banded F each d, some, λ i h. k i h (reband-band banded F each d i h))
 
     settling-made : (r : Round)
         → ((i : ℕ) → i < f .parties → band (f .scratch) l₁ i ≡ F i → settledLeft f c preps l₁ (s .point .gate + 1) i ≡ bandsOf r i)
@@ -221,45 +224,35 @@ module _ (f : Frame) (s : Course) (c preps inputs l heard : List ℕ) (t : Lent 
 
   -- a gate's own round
   module _ (w : asked Own) where
-    -- the class, by the code's test of it
-    module _ {h : Class} (e : h ≡ shape (gate c (s .point .gate)) .class) where
-      pub receives-in : isClass Owned h ≡ true → shape (gate c (s .point .gate)) .class ≡ Owned
-      unfolding siteOf party
-      receives-in = own-owned (w 0 some .ready) e
-
-      pub receives-opens : isClass Owned h ≡ false → shape (gate c (s .point .gate)) .class ≡ Opens
-      unfolding siteOf party
-      receives-opens = own-opens (w 0 some .ready) e
-
-    record-there : s .tally .prep + shape (gate c (s .point .gate)) .prep ≤ f .prep
+    record-there : s .prep + shape (gate c (s .point .gate)) .prep ≤ f .prep
     unfolding siteOf party
     record-there = lent-record t (w 0 some .ready .sited .prep) (w 0 some .ready .sited .within)
 
-    record-here : (i : ℕ) → prepFrom f preps (s .tally .prep) i ≡ drop (s .tally .prep) (party J i .prep)
+    record-here : (i : ℕ) → prepFrom f preps (s .prep) i ≡ drop (s .prep) (party J i .prep)
     unfolding siteOf party
     record-here i = lent-record-is t (w 0 some .ready .sited .prep) (w 0 some .ready .sited .within) i
 
     -- in gates
     module _ (cl : shape (gate c (s .point .gate)) .class ≡ Owned) {e : ℕ} (e-low : e < size) where
-      pub inputs-ask : Prepared f preps (s .tally .prep) 2 × Banded f l × (s .point .gate < f .layout .gates) × (e < size)
+      pub inputs-ask : Prepared f preps (s .prep) 2 × Banded f l × (s .point .gate < f .layout .gates) × (e < size)
       unfolding siteOf party
       inputs-ask = (
-        lent-prepared t (s .tally .prep) 2 (omega (arith, record-there, owned-facts (gate c (s .point .gate)) cl .prep)),
+        lent-prepared t (s .prep) 2 (omega (arith, record-there, owned-facts (gate c (s .point .gate)) cl .prep)),
         banded,
         within-there (party J 0) (band (f .scratch) l 0) (f .layout) (siteOf c s 0) Own (w 0 some .ready),
         e-low,
       )
 
-      module _ {l₁ : List ℕ} (d : l₁ ≡ rebanded f (inputLeft f preps l (s .point .gate) (s .tally .prep) e) l) where
-        lengths : (i : ℕ) → i < f .parties → length (inputLeft f preps l (s .point .gate) (s .tally .prep) e i) ≡ f .scratch
-        lengths = input-each banded preps (s .point .gate) (s .tally .prep) e
+      module _ {l₁ : List ℕ} (d : l₁ ≡ rebanded f (inputLeft f preps l (s .point .gate) (s .prep) e) l) where
+        lengths : (i : ℕ) → i < f .parties → length (inputLeft f preps l (s .point .gate) (s .prep) e i) ≡ f .scratch
+        lengths = input-each banded preps (s .point .gate) (s .prep) e
 
-        pub inputs-settle : {stop : ℕ} → stop ≡ reach c (f .layout .gates - (s .point .gate + 1)) (s .point .gate + 1) → SettlesAll l₁ stop
+        pub inputs-settle : SettlesAll l₁
         unfolding siteOf party
         inputs-settle =
             settling-asked _ lengths d
             (λ i h q. rw (lent-keyed t i)
-            (input-settles laws (party J i) (band (f .scratch) l i) (f .layout) (siteOf c s i) (w i h .ready) i (prepFrom f preps (s .tally .prep) i) e
+            (input-settles laws (party J i) (band (f .scratch) l i) (f .layout) (siteOf c s i) (w i h .ready) i (prepFrom f preps (s .prep) i) e
             (q ∙ rw (lent-keyed t i))))
 
         pub inputs-received : e ≡ heardFirst ops (f .parties) (gate c (s .point .gate)) Own heard → {l₂ : List ℕ}
@@ -278,33 +271,33 @@ module _ (f : Frame) (s : Course) (c preps inputs l heard : List ℕ) (t : Lent 
     module _ (cl : shape (gate c (s .point .gate)) .class ≡ Opens) {x z k e d : ℕ} (n : Named (gate c (s .point .gate)) x z k)
         (v : Summed ops (f .parties) (gate c (s .point .gate)) Own heard e d) where
       abbrev opened : ℕ → List ℕ
-      opened = openingLeft f preps l (s .point .gate) x z (s .tally .prep) k (s .tally .unchecked) e d
+      opened = openingLeft f preps l (s .point .gate) x z (s .prep) k (unchecked c (s .point .gate)) e d
 
-      each-asks : EachBand f l (λ i m. Opening size (keyIn f preps i) (layoutOf (f .layout)) m (s .point .gate) x z (prepFrom f preps (s .tally .prep) i) k (s .tally .unchecked) e d)
+      each-asks : EachBand f l (λ i m. Opening size (keyIn f preps i) (layoutOf (f .layout)) m (s .point .gate) x z (prepFrom f preps (s .prep) i) k (unchecked c (s .point .gate)) e d)
       unfolding siteOf party
       each-asks i h =
           rw (lent-keyed t i)
           (opening-asks (party J i) (band (f .scratch) l i) (f .layout) (siteOf c s i) (w i h .ready) cl (record-here i) n (v .first .below) (v .second .below))
 
-      pub openings-ask : Prepared f preps (s .tally .prep) (2 * k + 2)
+      pub openings-ask : Prepared f preps (s .prep) (2 * k + 2)
           × Banded f l
-          × EachBand f l (λ i m. Opening size (keyIn f preps i) (layoutOf (f .layout)) m (s .point .gate) x z (prepFrom f preps (s .tally .prep) i) k (s .tally .unchecked) e d)
+          × EachBand f l (λ i m. Opening size (keyIn f preps i) (layoutOf (f .layout)) m (s .point .gate) x z (prepFrom f preps (s .prep) i) k (unchecked c (s .point .gate)) e d)
       openings-ask = (
-        lent-prepared t (s .tally .prep) (2 * k + 2) (omega (arith, record-there, n .openings, opens-facts (gate c (s .point .gate)) cl .prep)),
+        lent-prepared t (s .prep) (2 * k + 2) (omega (arith, record-there, n .openings, opens-facts (gate c (s .point .gate)) cl .prep)),
         banded,
         each-asks,
       )
 
       module _ {l₁ : List ℕ} (q : l₁ ≡ rebanded f opened l) where
         opened-lengths : (i : ℕ) → i < f .parties → length (opened i) ≡ f .scratch
-        opened-lengths = opening-each banded preps (s .point .gate) x z (s .tally .prep) k (s .tally .unchecked) e d
+        opened-lengths = opening-each banded preps (s .point .gate) x z (s .prep) k (unchecked c (s .point .gate)) e d
 
-        pub openings-settle : {stop : ℕ} → stop ≡ reach c (f .layout .gates - (s .point .gate + 1)) (s .point .gate + 1) → SettlesAll l₁ stop
+        pub openings-settle : SettlesAll l₁
         unfolding siteOf party
         openings-settle =
             settling-asked opened opened-lengths q
             (λ i h y. rw (lent-keyed t i)
-            (opening-settles laws (party J i) (band (f .scratch) l i) (f .layout) (siteOf c s i) (w i h .ready) i x z (prepFrom f preps (s .tally .prep) i) k e d
+            (opening-settles laws (party J i) (band (f .scratch) l i) (f .layout) (siteOf c s i) (w i h .ready) i x z (prepFrom f preps (s .prep) i) k e d
             (rw (lent-keyed t i) at (each-asks i h)) (y ∙ rw (lent-keyed t i))))
 
         pub openings-received : {l₂ : List ℕ} → l₂ ≡ rebanded f (settledLeft f c preps l₁ (s .point .gate + 1)) l₁ → l₂ ≡ rebanded f (bandsOf Own) l
@@ -337,14 +330,13 @@ module _ (f : Frame) (s : Course) (c preps inputs l heard : List ℕ) (t : Lent 
 
   -- the reveal of the second check
   module _ (w : asked (Reveal Second)) where
-    pub reveal-settles : {stop : ℕ} → stop ≡ reach c (f .layout .gates - (s .point .gate + 1)) (s .point .gate + 1) → SettlesAll l stop
+    pub reveal-settles : SettlesAll l
     unfolding siteOf party
-    reveal-settles z = (
+    reveal-settles = (
       lent-key t,
       banded,
       some,
       λ i h. rw (lent-keyed t i) (output-settles (party J i) (band (f .scratch) l i) (f .layout) (siteOf c s i) (w i h .ready)),
-      z,
     )
 
     pub reveal-received : passes ops (f .parties) (Reveal Second) heard ≡ true → {l₁ : List ℕ} → l₁ ≡ rebanded f (settledLeft f c preps l (s .point .gate + 1)) l → l₁ ≡ rebanded f (bandsOf (Reveal Second)) l

@@ -6,14 +6,13 @@ use mathlib.Core.Bool.{true, cond}
 use mathlib.Core.List.{List, [], _++_, append-assoc, append-nil}
 use native.Mathlib.Nat.{mul-le-mul-left, mul-add}
 use native.Mathlib.Omega.{arith}
-use lib.ListN.{length, drop, replicate}
+use lib.ListN.{length, drop}
 use Rattle.field.specs.Words.{size, ops}
 use Rattle.circuit.specs.Gate.{gate, gates}
-use Rattle.circuit.specs.Count.{unchecked}
+use Rattle.circuit.specs.Count.{total, prepAt, unchecked}
 use Rattle.circuit.specs.Round.{Round, Own, words, openedIn, coefficientsIn, overRun, wordCount, coefficientCount}
 use Rattle.protocol.specs.Scratch.{layout, scratchSize}
 use Rattle.protocol.specs.Position.{Point, Stage, Send, Receive, Finished, Aborted, follow, start}
-use Rattle.protocol.specs.Code.{pointOf, stageOf}
 use Rattle.protocol.specs.Ready.{Ready}
 use Rattle.protocol.specs.Ask.{mostParties}
 use Rattle.protocol.specs.Entry.{releases}
@@ -25,13 +24,12 @@ use Rattle.protocol.specs.Run.{State, Run, said, step, released, takes, begun, 
 use Rattle.protocol.specs.JointEntry as E
 use Rattle.joint.specs.declared.JointAnswer.{JointAnswer}
 use Rattle.joint.specs.declared.Frame.{Frame}
-use Rattle.joint.specs.declared.Course.{Course}
-use Rattle.joint.specs.Code.{jointAnswerOf, Placed, siteOf, stateOf, writtenAt, Going, Turning, Alike, Turned, Started, Runnable, Ran}
+use Rattle.joint.specs.Code.{Course, jointAnswerOf, siteOf, stateOf, writtenAt, dueAt, noneHeld, Going, Moving, Alike, Turned, Runnable, Ran}
 use Rattle.protocol.proofs.Words.{length-band, joined-ext}
 use Rattle.joint.proofs.Written.{Written, written-more, written-le, written-length, written-done}
 use Rattle.protocol.proofs.Bands.{joined-bands}
 use Rattle.protocol.proofs.Gathering.{zeros}
-use Rattle.protocol.proofs.Runs.{Over, over-of, run-goes, run-over, next-passed, next-goes, released-fits, released-one}
+use Rattle.protocol.proofs.Runs.{Over, run-goes, run-over, next-passed, next-goes, released-fits, released-one}
 use Rattle.protocol.proofs.Said.{length-said}
 use Rattle.joint.proofs.Parties.{party-prep, party-prep-low, party-inputs, party-inputs-low}
 use Rattle.protocol.proofs.Spending.{rounds-le, outputs-all}
@@ -85,9 +83,9 @@ module _ (J : Joint) (f : Frame) where
       pub outputs : whole ops J l₀ .outputs ≡ vs ++ run ops J left st .outputs
       pub rounds : whole ops J l₀ .rounds ≡ s .rounds + run ops J left st .rounds
       pub last : whole ops J l₀ .last ≡ run ops J left st .last
-      pub due : Due s held l left (stageOf (s .point .stage))
+      pub due : Due s held l left (s .point .stage)
 
-    module _ (able : Runnable J f l₀ t₀ o₀) {s : Course} {held l t o : List ℕ} (inv : Running s held l t o) (r : Round) (e : stageOf (s .point .stage) ≡ Send r) where
+    module _ (able : Runnable J f l₀ t₀ o₀) {s : Course} {held l t o : List ℕ} (inv : Running s held l t o) (r : Round) (e : s .point .stage ≡ Send r) where
       due-is : DueRound s held l (inv .left) r
       due-is = subst (Due s held l (inv .left)) e (inv .due)
 
@@ -110,14 +108,14 @@ module _ (J : Joint) (f : Frame) where
             inv .long-t,
           )
 
-      outputs-left : releases r ≡ true → s .released < length o
+      pub outputs-left : releases r ≡ true → s .released < length o
       outputs-left h =
           let z : _≡_ {A = ℕ} (cond (releases r) 1 0) 1 = rw h in
           omega (arith, due-is .given, spent-le (J .circuit) outputOf (s .point .gate) r fits, outputs-all (J .circuit), able .outputs-fit, inv .long-o)
 
       -- the round is asked what it may ask
-      pub running-turning : Turning J f s r held l t o
-      running-turning = record { going = due-is .going; words-fit = words-left; outputs-upto = written-le (inv .outs) (inv .long-o); outputs-fit = outputs-left; rounds-few = rounds-left }
+      pub running-moving : Moving J f s r held l t
+      running-moving = record { going = due-is .going; words-fit = words-left; rounds-few = rounds-left }
 
       module _ {s′ : Course} {held′ l′ t′ o′ : List ℕ} (d : Turned J f s r held l t o s′ held′ l′ t′ o′) where
         c : List ℕ
@@ -135,7 +133,7 @@ module _ (J : Joint) (f : Frame) where
 
         -- how many words were said, and where the round led
         said-many : length (said ops J (stateOf f s held l) r) ≡ J .parties * words (gate (J .circuit) (s .point .gate)) r
-        unfolding stateOf pointOf
+        unfolding stateOf
         said-many = length-said ops J (stateOf f s held l) r (fits .1)
 
         outputs-length : length o′ ≡ length o
@@ -146,7 +144,7 @@ module _ (J : Joint) (f : Frame) where
 
         transcript-length : length t′ ≡ length t
         transcript-length =
-            ap length (d .transcript)
+            ap length (d .moved .transcript)
             ∙ written-length (s .written) (said ops J (stateOf f s held l) r) t (omega (arith, words-left, said-many))
 
         -- the run from here on is the round and the run after it
@@ -158,7 +156,7 @@ module _ (J : Joint) (f : Frame) where
         rest-is = omega (arith, due-is .fuel, rounds-left)
 
         st-sends : inv .st .point .stage ≡ Send r
-        unfolding stateOf pointOf
+        unfolding stateOf
         st-sends = ap (λ (x : Point). x .stage) (sym (inv .alike .point)) ∙ e
 
         run-is : run ops J (inv .left) (inv .st) ≡ ahead ops J (inv .st) r (run ops J rest (step ops J (inv .st) r))
@@ -167,37 +165,36 @@ module _ (J : Joint) (f : Frame) where
         -- what lies behind the next round
         module _ (r′ : Round) (e′ : nextIn J f s r held l (due-is .going) .stage ≡ Send r′) where
           spent-next : (h : ℕ → Round → ℕ) → spent (J .circuit) h (sending (s′ .point .gate) r′) ≡ spent (J .circuit) h (sending (s .point .gate) r) + h (s .point .gate) r
-          unfolding pointOf
           spent-next h =
               ap (λ (x : Point). spent (J .circuit) h x) there
               ∙ spent-follow (J .circuit) h (s .point .gate) r fits
             where
               there : _≡_ {A = Point} (record { gate = s′ .point .gate; stage = Send r′ }) (follow (J .circuit) (s .point .gate) r)
               there =
-                  ap (λ (x : Point). record { gate = x .gate; stage = Send r′ }) (point-is J f s r held l (due-is .going) d)
+                  ap (λ (x : Point). record { gate = x .gate; stage = Send r′ }) (point-is J f s r held l (due-is .going) (d .moved))
                   ∙ ap (λ (z : Stage). record { gate = nextIn J f s r held l (due-is .going) .gate; stage = z }) (sym e′)
                   ∙ next-goes ops (J .parties) (J .circuit) (s .point .gate) r (heardIn J f s r held l (due-is .going)) r′ e′
 
           fits-next : FitsStage (J .circuit) (s′ .point .gate) (Send r′)
-          fits-next = next-fits J f s r held l (due-is .going) d r′ e′
+          fits-next = next-fits J f s r held l (due-is .going) (d .moved) r′ e′
 
           used-next : s′ .used ≡ spent (J .circuit) (drawsOf (J .circuit)) (sending (s′ .point .gate) r′)
-          unfolding stateOf step takes pointOf
-          used-next = d .alike .used ∙ omega (arith, due-is .used, spent-next (drawsOf (J .circuit)))
+          unfolding stateOf step takes
+          used-next = d .moved .alike .used ∙ omega (arith, due-is .used, spent-next (drawsOf (J .circuit)))
 
           due-next : DueRound s′ held′ l′ rest r′
           unfolding coefficientCount
           due-next =
               record {
                 going =
-                    going-next J f s r held l (due-is .going) d r′ e′
+                    going-next J f s r held l (due-is .going) (d .moved) r′ e′
                     (omega (arith, used-next, spent-le (J .circuit) (drawsOf (J .circuit)) (s′ .point .gate) r′ fits-next, able .coefficient-count));
-                fuel = omega (arith, due-is .fuel, d .rounds, rest-is);
-                rounds = omega (arith, d .rounds, due-is .rounds, spent-next one);
+                fuel = omega (arith, due-is .fuel, d .moved .rounds, rest-is);
+                rounds = omega (arith, d .moved .rounds, due-is .rounds, spent-next one);
                 written =
                     omega (
                       arith,
-                      d .written,
+                      d .moved .written,
                       due-is .written,
                       said-many,
                       mul-add (J .parties) (spent (J .circuit) (wordsOf (J .circuit)) (sending (s .point .gate) r)) (words (gate (J .circuit) (s .point .gate)) r),
@@ -214,9 +211,10 @@ module _ (J : Joint) (f : Frame) where
                     );
               }
 
-        due-then : Due s′ held′ l′ rest (stageOf (s′ .point .stage))
-        unfolding pointOf
-        due-then = rw (ap (λ (x : Point). x .stage) (point-is J f s r held l (due-is .going) d)) (go (nextIn J f s r held l (due-is .going) .stage) refl)
+        due-then : Due s′ held′ l′ rest (s′ .point .stage)
+        due-then =
+            subst (Due s′ held′ l′ rest) (sym (ap (λ (x : Point). x .stage) (point-is J f s r held l (due-is .going) (d .moved))))
+            (go (nextIn J f s r held l (due-is .going) .stage) refl)
           where
             go : (x : Stage) → nextIn J f s r held l (due-is .going) .stage ≡ x → Due s′ held′ l′ rest x
             go (Send r′) e′ = due-next r′ e′
@@ -230,28 +228,28 @@ module _ (J : Joint) (f : Frame) where
         running-again =
             record {
               st = step ops J (inv .st) r;
-              alike = alike-then (J .parties) _ _ _ (d .alike) (step-alike ops J (stateOf f s held l) (inv .st) r (inv .alike));
+              alike = alike-then (J .parties) _ _ _ (d .moved .alike) (step-alike ops J (stateOf f s held l) (inv .st) r (inv .alike));
               left = rest;
               ws = inv .ws ++ said ops J (inv .st) r;
               vs = inv .vs ++ released ops J (inv .st) r;
-              long = d .long ∙ inv .long;
+              long = d .moved .long ∙ inv .long;
               long-t = transcript-length ∙ inv .long-t;
               long-o = outputs-length ∙ inv .long-o;
-              excess = d .excess ∙ inv .excess;
-              words = written-more (inv .words) (said ops J (inv .st) r) (d .transcript ∙ ap (λ (w : List ℕ). writtenAt (s .written) w t) said-is) (d .written ∙ ap (λ (w : List ℕ). s .written + length w) said-is);
+              excess = d .moved .excess ∙ inv .excess;
+              words = written-more (inv .words) (said ops J (inv .st) r) (d .moved .transcript ∙ ap (λ (w : List ℕ). writtenAt (s .written) w t) said-is) (d .moved .written ∙ ap (λ (w : List ℕ). s .written + length w) said-is);
               outs = written-more (inv .outs) (released ops J (inv .st) r) (d .outputs ∙ ap (λ (w : List ℕ). writtenAt (s .released) w o) released-is) (d .given ∙ ap (λ (w : List ℕ). s .released + length w) released-is);
               transcript = inv .transcript ∙ ap (λ (x : Run). inv .ws ++ x .transcript) run-is ∙ sym (append-assoc (inv .ws) (said ops J (inv .st) r) _);
               outputs = inv .outputs ∙ ap (λ (x : Run). inv .vs ++ x .outputs) run-is ∙ sym (append-assoc (inv .vs) (released ops J (inv .st) r) _);
-              rounds = inv .rounds ∙ ap (λ (x : Run). s .rounds + x .rounds) run-is ∙ omega (arith, d .rounds);
+              rounds = inv .rounds ∙ ap (λ (x : Run). s .rounds + x .rounds) run-is ∙ omega (arith, d .moved .rounds);
               last = inv .last ∙ ap (λ (x : Run). x .last) run-is;
               due = due-then;
             }
 
     -- the run is over: the words and outputs so far are all
     module _ (able : Runnable J f l₀ t₀ o₀) {s : Course} {held l t o : List ℕ} (inv : Running s held l t o)
-        (over : Over (stageOf (s .point .stage))) where
+        (over : Over (s .point .stage)) where
       st-over : Over (inv .st .point .stage)
-      unfolding stateOf pointOf
+      unfolding stateOf
       st-over = subst (λ (z : Point). Over (z .stage)) (inv .alike .point) over
 
       rest-none : run ops J (inv .left) (inv .st) ≡ still ops J (inv .st)
@@ -273,7 +271,7 @@ module _ (J : Joint) (f : Frame) where
       unfolding still
       outputs-are = inv .outputs ∙ ap (λ (x : Run). inv .vs ++ x .outputs) rest-none ∙ append-nil (inv .vs)
 
-      point-last : whole ops J l₀ .last .point ≡ pointOf (s .point)
+      point-last : whole ops J l₀ .last .point ≡ s .point
       unfolding stateOf
       point-last = ap (λ (x : State). x .point) last-is ∙ sym (inv .alike .point)
 
@@ -286,9 +284,8 @@ module _ (J : Joint) (f : Frame) where
           ∙ ap (λ (k : ℕ). joined (J .parties) (whole ops J l₀ .last .scratch) ++ drop (J .parties * k) l₀) (able .lent .framed .scratch)
 
       -- so the answer tells the end of the whole run, and the lists hold what it leaves
-      running-over : (a : JointAnswer) → jointAnswerOf a ≡ E.ended (stageOf (s .point .stage)) (s .point .gate) (s .rounds) → Ran J l₀ t₀ o₀ a l t o
-      unfolding pointOf
-      running-over a e =
+      pub running-over : {a : JointAnswer} → jointAnswerOf a ≡ E.ended (s .point .stage) (s .point .gate) (s .rounds) → Ran J l₀ t₀ o₀ a l t o
+      running-over e =
           record {
             answer = rw (point-last, rounds-is) e;
             scratch = scratch-last;
@@ -296,27 +293,23 @@ module _ (J : Joint) (f : Frame) where
             outputs = written-done (inv .outs) ∙ ap (λ (x : List ℕ). overwrite x o₀) (sym outputs-are);
           }
 
-    -- it ends where nothing is sent
-    pub running-ended : Runnable J f l₀ t₀ o₀ → {s : Course} {held l t o : List ℕ} → Running s held l t o
-        → ((r : Round) → stageOf (s .point .stage) ≡ Send r → ⊥)
-        → {a : JointAnswer} → jointAnswerOf a ≡ E.ended (stageOf (s .point .stage)) (s .point .gate) (s .rounds)
-        → Ran J l₀ t₀ o₀ a l t o
-    running-ended able inv none {a} e = running-over able inv (over-of _ none) a e
+-- before the first round, which is an in gate's own
+pub record Started (s : Course) : Type 0 where
+  pub point : s .point ≡ dueAt 0 Own
+  pub prep : s .prep ≡ 1
+  pub used : s .used ≡ 0
+  pub written : s .written ≡ 0
+  pub released : s .released ≡ 0
+  pub rounds : s .rounds ≡ 0
 
--- Before the first round.
 module _ (J : Joint) (f : Frame) (l t o : List ℕ) (able : Runnable J f l t o) (s : Course) (b : Started s) where
   gate-zero : s .point .gate ≡ 0
-  unfolding pointOf
   gate-zero = ap (λ (x : Point). x .gate) (b .point)
 
-  pub placed-start : {places : List ℕ} → Placed (J .parties) (J .circuit) 0 places → Placed (J .parties) (J .circuit) (s .point .gate) places
-  placed-start k = rw gate-zero k
-
-  stage-input : stageOf (s .point .stage) ≡ Send Own
-  unfolding pointOf
+  stage-input : s .point .stage ≡ Send Own
   stage-input = ap (λ (x : Point). x .stage) (b .point)
 
-  at-start : pointOf (s .point) ≡ start (J .circuit)
+  at-start : s .point ≡ start (J .circuit)
   at-start = b .point ∙ sym (start-is (J .circuit) (J .parties) size (able .lent .valid))
 
   goes : Goes (J .circuit) 0 (record { gate = 0; stage = Send Own })
@@ -330,10 +323,13 @@ module _ (J : Joint) (f : Frame) (l t o : List ℕ) (able : Runnable J f l t o) 
   unfolding unchecked
   none-opened = refl
 
+  first-record : s .prep ≡ prepAt (J .circuit) 0
+  unfolding prepAt total
+  first-record = b .prep
+
   ready-first : (i : ℕ) → i < J .parties → Ready size (party J i) (band (f .scratch) l i) (f .layout) (siteOf (J .circuit) s i) Own
   unfolding siteOf party
   ready-first i h =
-      let k = b .tallied (J .circuit) in
       rw gate-zero
       (record {
         valid = able .lent .valid;
@@ -343,13 +339,13 @@ module _ (J : Joint) (f : Frame) (l t o : List ℕ) (able : Runnable J f l t o) 
         inputs-low = party-inputs-low (able .lent) i h;
         lay = able .lent .framed .lay;
         room = omega (arith, able .lent .framed .scratch, length-band (f .scratch) (J .parties) l (able .room) i h);
-        sited = record { within = goes .fits .0; prep = k .prep; unchecked = k .unchecked; input = refl };
+        sited = record { within = goes .fits .0; prep = first-record; unchecked = refl; input = refl };
         occurs = goes .fits .1;
         worked = λ x z. absurd (omega arith);
         opened = λ x z. absurd (omega (arith, none-opened));
       })
 
-  pub running-start : Running J f l t o s (replicate mostParties 0) l t o
+  pub running-start : Running J f l t o s noneHeld l t o
   unfolding whole begun stateOf
   running-start =
       record {
@@ -375,13 +371,13 @@ module _ (J : Joint) (f : Frame) (l t o : List ℕ) (able : Runnable J f l t o) 
         rounds = omega (arith, b .rounds);
         last = refl;
         due =
-            rw stage-input
+            subst (Due J f s noneHeld l (mostRounds ops J * gates (J .circuit))) (sym stage-input)
             (record {
               going =
                   record {
                     lent = able .lent;
                     room = able .room;
-                    tallied = rw gate-zero (b .tallied (J .circuit));
+                    prep-is = rw gate-zero first-record;
                     eight = refl;
                     held-low = λ i h. rw (zeros mostParties i) (omega arith);
                     held-none = λ e i h. zeros mostParties i;

@@ -15,7 +15,7 @@ use Rattle.algebra.specs.Ops.{Ops}
 use Rattle.algebra.specs.Element.{Is}
 use Rattle.field.specs.Words.{ops, size}
 use Rattle.circuit.specs.Gate.{gate}
-use Rattle.circuit.specs.Kind.{Class, Owned, Opens, shape, isClass}
+use Rattle.circuit.specs.Kind.{Owned, Opens, shape}
 use Rattle.circuit.specs.Count.{inputAt, inputCount, unchecked}
 use Rattle.circuit.specs.Round.{Round, Own, Open, isCommit, words, openedIn, coefficientsIn}
 use Rattle.circuit.proofs.Counts.{input-within}
@@ -26,20 +26,19 @@ use Rattle.protocol.specs.Part as A
 use Rattle.protocol.specs.Scratch.{Layout, wire}
 use Rattle.protocol.specs.Position.{keep}
 use Rattle.protocol.specs.Party.{key, recordIn, recordOf, inputOf}
-use Rattle.protocol.specs.Send.{inputWord, openingWords, checkShare, opening, ownWords, sent, holds}
+use Rattle.protocol.specs.Send.{inputWord, openingWords, opening, ownWords, sent, holds}
 use Rattle.steps.specs.declared.Part.{Part}
 use Rattle.protocol.specs.Holding.{Below, Held, Opened}
-use Rattle.protocol.specs.Code.{layoutOf, pointOf}
+use Rattle.protocol.specs.Code.{layoutOf}
 use Rattle.protocol.specs.Ready.{Named}
 use Rattle.steps.specs.Code.{IsPart}
 use Rattle.protocol.specs.Ask.{mostParties}
 use Rattle.steps.proofs.Numbers.{share-is}
-use Rattle.protocol.proofs.Readiness.{input-words, opening-words, output-words, opened-there, opening-held, output-held, own-owned, own-opens}
+use Rattle.protocol.proofs.Readiness.{input-words, opening-words, output-words, opened-there, opening-held, output-held}
 use Rattle.protocol.specs.Joint.{Joint, joined, band, inputsAt, party}
 use Rattle.protocol.specs.Run.{takes, said, step}
 use Rattle.joint.specs.declared.Frame.{Frame}
-use Rattle.joint.specs.declared.Course.{Course}
-use Rattle.joint.specs.Code.{Placed, jointOf, siteOf, stateOf, part, prepFrom, keyIn, Prepared, Banded, EachBand, Going, saidBy}
+use Rattle.joint.specs.Code.{Course, Placed, jointOf, siteOf, stateOf, part, prepFrom, keyIn, Prepared, Banded, EachBand, Going, saidBy, shareIn}
 use Rattle.protocol.proofs.Words.{joined-ext}
 use Rattle.joint.proofs.Parties.{lent-prepared, lent-key, lent-banded, lent-keyed, lent-record, lent-record-is}
 use Rattle.joint.proofs.Going.{within, occurs}
@@ -76,15 +75,15 @@ lentAll f c preps inputs coefficients = jointOf (f .parties) c preps inputs coef
 
 module _ {f : Frame} {s : Course} {c preps inputs coefficients held l : List ℕ} where
   module _ {r : Round} (g : Going (lentAll f c preps inputs coefficients) f s r held l) where
-    record-end : s .tally .prep + shape (gate c (s .point .gate)) .prep ≤ f .prep
-    record-end = lent-record (g .lent) (g .tallied .prep) (within (lentAll f c preps inputs coefficients) f s r held l g)
+    record-end : s .prep + shape (gate c (s .point .gate)) .prep ≤ f .prep
+    record-end = lent-record (g .lent) (g .prep-is) (within (lentAll f c preps inputs coefficients) f s r held l g)
 
     -- what is cut out is what the definitions read
-    record-is : (i : ℕ) → prepFrom f preps (s .tally .prep) i ≡ recordOf (party (lentAll f c preps inputs coefficients) i) (s .point .gate)
+    record-is : (i : ℕ) → prepFrom f preps (s .prep) i ≡ recordOf (party (lentAll f c preps inputs coefficients) i) (s .point .gate)
     unfolding recordOf recordIn party
     record-is i =
-        lent-record-is (g .lent) (g .tallied .prep) (within (lentAll f c preps inputs coefficients) f s r held l g) i
-        ∙ ap (λ (a : ℕ). drop a (party (lentAll f c preps inputs coefficients) i .prep)) (g .tallied .prep)
+        lent-record-is (g .lent) (g .prep-is) (within (lentAll f c preps inputs coefficients) f s r held l g) i
+        ∙ ap (λ (a : ℕ). drop a (party (lentAll f c preps inputs coefficients) i .prep)) (g .prep-is)
 
     key-of : (i : ℕ) → keyIn f preps i ≡ key (party (lentAll f c preps inputs coefficients) i)
     unfolding key
@@ -99,16 +98,12 @@ module _ {f : Frame} {s : Course} {c preps inputs coefficients held l : List ℕ
     unfolding step keep
     held-zero e i z = record { is = z ∙ rw e; below = rw z (omega arith) }
 
-    module _ (e : isCommit r ≡ true) {k : ℕ} (ek : k ≡ openedIn (s .tally .unchecked) r) where
-      opened-is : k ≡ openedIn (unchecked c (s .point .gate)) r
-      opened-is = ek ∙ ap (λ (u : ℕ). openedIn u r) (g .tallied .unchecked)
-
-      taken : k ≡ takes ops (lentAll f c preps inputs coefficients) (stateOf f s held l) r
-      unfolding takes stateOf pointOf coefficientsIn
+    module _ (e : isCommit r ≡ true) {k : ℕ} (opened-is : k ≡ openedIn (unchecked c (s .point .gate)) r) where
+      pub taken : k ≡ takes ops (lentAll f c preps inputs coefficients) (stateOf f s held l) r
+      unfolding takes stateOf coefficientsIn
       taken = opened-is ∙ rw e
 
-      pub check-asks : (length held ≡ mostParties)
-          × (f .parties ≤ mostParties)
+      pub check-asks : (f .parties ≤ mostParties)
           × Prepared f preps 0 1
           × Banded f l
           × (s .used + k ≤ length coefficients)
@@ -116,7 +111,6 @@ module _ {f : Frame} {s : Course} {c preps inputs coefficients held l : List ℕ
           × EachBand f l (λ i m. (t : ℕ) → t < k → Opened size (layoutOf (f .layout)) m t)
       unfolding coefficientsIn siteOf party
       check-asks = (
-        g .eight,
         g .lent .few,
         lent-key (g .lent),
         lent-banded (g .lent) (g .room),
@@ -125,15 +119,10 @@ module _ {f : Frame} {s : Course} {c preps inputs coefficients held l : List ℕ
         λ i h. rw opened-is (opened-there (party (lentAll f c preps inputs coefficients) i) (band (f .scratch) l i) (f .layout) (siteOf c s i) r (g .ready i h)),
       )
 
-      checked : (i : ℕ) → checkShare ops (layoutOf (f .layout)) (band (f .scratch) l i) k (keyIn f preps i) (part (s .used) (s .used + k) coefficients)
+      pub checked-is : (i : ℕ) → shareIn f preps l k (s .used) coefficients i
           ≡ step ops (lentAll f c preps inputs coefficients) (stateOf f s held l) r .held i
-      unfolding step stateOf pointOf keep holds party
-      checked i = rw (e, ← opened-is, ← taken, g .lent .framed .lay, key-of i, add-sub-cancel-left (s .used) k)
-
-      pub held-made : (i : ℕ) {x : ℕ}
-          → Is size (checkShare ops (layoutOf (f .layout)) (band (f .scratch) l i) k (keyIn f preps i) (part (s .used) (s .used + k) coefficients)) x
-          → Is size (step ops (lentAll f c preps inputs coefficients) (stateOf f s held l) r .held i) x
-      held-made i w = record { is = w .is ∙ checked i; below = w .below }
+      unfolding step stateOf keep holds party
+      checked-is i = rw (e, ← opened-is, ← taken, g .lent .framed .lay, key-of i, add-sub-cancel-left (s .used) k)
 
     -- the words are those of the definition, if each party's are
     pub said-by : (F : ℕ → List ℕ) → ((i : ℕ) → i < f .parties → F i ≡ saidBy ops (lentAll f c preps inputs coefficients) (stateOf f s held l) r i) → {out : List ℕ} → out ≡ joined (f .parties) F → out ≡ said ops (lentAll f c preps inputs coefficients) (stateOf f s held l) r
@@ -145,23 +134,13 @@ module _ {f : Frame} {s : Course} {c preps inputs coefficients held l : List ℕ
     some : 0 < f .parties
     some = omega (arith, g .lent .some)
 
-    -- the class, by the code's test of it
-    module _ {h : Class} (e : h ≡ shape (gate c (s .point .gate)) .class) where
-      pub sends-in : isClass Owned h ≡ true → shape (gate c (s .point .gate)) .class ≡ Owned
-      unfolding siteOf party
-      sends-in = own-owned (g .ready 0 some) e
-
-      pub sends-opens : isClass Owned h ≡ false → shape (gate c (s .point .gate)) .class ≡ Opens
-      unfolding siteOf party
-      sends-opens = own-opens (g .ready 0 some) e
-
     -- in gates
     module _ (cl : shape (gate c (s .point .gate)) .class ≡ Owned) {places : List ℕ} (placed : Placed (f .parties) c (s .point .gate) places) where
       pub input-asks : (out : List ℕ) → length out ≡ f .parties * words (gate c (s .point .gate)) Own
-          → (f .parties ≤ mostParties) × Prepared f preps (s .tally .prep) 3 × Below size inputs × (f .parties ≤ length places) × (length out ≡ f .parties)
+          → (f .parties ≤ mostParties) × Prepared f preps (s .prep) 3 × Below size inputs × (f .parties ≤ length places) × (length out ≡ f .parties)
       input-asks out e = (
         g .lent .few,
-        lent-prepared (g .lent) (s .tally .prep) 3 (omega (arith, record-end g, owned-facts (gate c (s .point .gate)) cl .prep)),
+        lent-prepared (g .lent) (s .prep) 3 (omega (arith, record-end g, owned-facts (gate c (s .point .gate)) cl .prep)),
         g .lent .inputs-low,
         omega (arith, g .lent .few, placed .eight),
         put-asks g out e (input-words (gate c (s .point .gate)) cl) .1,
@@ -174,9 +153,9 @@ module _ {f : Frame} {s : Course} {c preps inputs coefficients held l : List ℕ
           ∙ sym (getD-take (inputCount c i) (drop (inputsAt c i) inputs) (inputAt c i (s .point .gate)) 0 (input-within c i (s .point .gate) (class-is cl) (sym e) (within (lentAll f c preps inputs coefficients) f s Own held l g)) ∙ getD-drop (inputsAt c i) inputs (inputAt c i (s .point .gate)) 0)
 
       pub said-input : {x : ℕ} → x ≡ gate c (s .point .gate) .first → {out : List ℕ}
-          → out ≡ joined (f .parties) (λ i. inputWord ops i x (prepFrom f preps (s .tally .prep) i) (getD inputs (getD places i 0) 0) ∷ [])
+          → out ≡ joined (f .parties) (λ i. inputWord ops i x (prepFrom f preps (s .prep) i) (getD inputs (getD places i 0) 0) ∷ [])
           → out ≡ said ops (lentAll f c preps inputs coefficients) (stateOf f s held l) Own
-      unfolding sent ownWords stateOf pointOf party
+      unfolding sent ownWords stateOf party
       said-input {x} ex d =
           said-by g _
           (λ i h.
@@ -189,7 +168,7 @@ module _ {f : Frame} {s : Course} {c preps inputs coefficients held l : List ℕ
       pub opening-asks : (out : List ℕ) → length out ≡ f .parties * words (gate c (s .point .gate)) Own
           → (1 ≤ k)
           × (k ≤ 2)
-          × Prepared f preps (s .tally .prep) (2 * k + 2)
+          × Prepared f preps (s .prep) (2 * k + 2)
           × Banded f l
           × EachBand f l (λ i m. Held size (layoutOf (f .layout)) m x × Held size (layoutOf (f .layout)) m z)
           × (length out ≡ f .parties * k)
@@ -198,16 +177,16 @@ module _ {f : Frame} {s : Course} {c preps inputs coefficients held l : List ℕ
           let o = opens-facts (gate c (s .point .gate)) cl in (
             omega (arith, n .openings, o .some),
             omega (arith, n .openings, o .few),
-            lent-prepared (g .lent) (s .tally .prep) (2 * k + 2) (omega (arith, record-end g, n .openings, o .prep)),
+            lent-prepared (g .lent) (s .prep) (2 * k + 2) (omega (arith, record-end g, n .openings, o .prep)),
             lent-banded (g .lent) (g .room),
             λ i h. rw (n .first, n .second) (opening-held (party (lentAll f c preps inputs coefficients) i) (band (f .scratch) l i) (f .layout) (siteOf c s i) (g .ready i h) cl),
             e ∙ ap (λ (m : ℕ). f .parties * m) (opening-words (gate c (s .point .gate)) cl ∙ sym (n .openings)),
           )
 
-      pub said-opening : {out : List ℕ} → out ≡ joined (f .parties) (openedWords f preps l (s .tally .prep) x z k) → out ≡ said ops (lentAll f c preps inputs coefficients) (stateOf f s held l) Own
-      unfolding sent ownWords opening stateOf pointOf party
+      pub said-opening : {out : List ℕ} → out ≡ joined (f .parties) (openedWords f preps l (s .prep) x z k) → out ≡ said ops (lentAll f c preps inputs coefficients) (stateOf f s held l) Own
+      unfolding sent ownWords opening stateOf party
       said-opening d =
-          said-by g (openedWords f preps l (s .tally .prep) x z k)
+          said-by g (openedWords f preps l (s .prep) x z k)
           (λ i h. rw (cl, n .first, n .second, n .openings, record-is g i, g .lent .framed .lay)) d
 
   -- opened outputs
@@ -224,5 +203,5 @@ module _ {f : Frame} {s : Course} {c preps inputs coefficients held l : List ℕ
 
     pub said-output : {out : List ℕ} → out ≡ joined (f .parties) (λ i. wire (layoutOf (f .layout)) (band (f .scratch) l i) x .share ∷ [])
         → out ≡ said ops (lentAll f c preps inputs coefficients) (stateOf f s held l) Open
-    unfolding sent stateOf pointOf party
+    unfolding sent stateOf party
     said-output d = said-by g _ (λ i h. rw (ex, g .lent .framed .lay)) d

@@ -2,27 +2,25 @@
 -- Assumes nothing.
 use Prim.Native.Nat.{ℕ, _+_, _-_, _*_, _<_, _≤_}
 use mathlib.Core.Path.{_≡_}
-use mathlib.Core.Bool.{true, false, cond, _&&_}
-use mathlib.Core.Logic.{_⊎_}
+use mathlib.Core.Bool.{false, cond, _&&_}
 use mathlib.Core.List.{List, [], _∷_, _++_}
-use lib.ListN.{length, getD, take, drop}
-use lib.Dec.{leb, eqb}
+use lib.ListN.{length, getD, take, drop, replicate}
+use lib.Dec.{ltb, leb, eqb}
 use Rattle.algebra.specs.Ops.{Ops}
-use Rattle.algebra.specs.Element.{Is}
 use Rattle.field.specs.Words.{size, ops}
 use Rattle.circuit.specs.Verdict.{Verdict, ask, _then_, elements}
 use Rattle.circuit.specs.Gate.{gate, gates}
-use Rattle.circuit.specs.Count.{prepSize, inputAt, inCount, outCount, unchecked}
-use Rattle.circuit.specs.Round.{Round, Own, isReveal, words, coefficientsIn, wordCount, coefficientCount}
+use Rattle.circuit.specs.Kind.{Class, Local, Owned, Opens, Output, shape}
+use Rattle.circuit.specs.Count.{prepSize, prepAt, inputAt, inCount, outCount, unchecked}
+use Rattle.circuit.specs.Round.{First, Round, Own, Open, Commit, isReveal, words, coefficientsIn, wordCount, coefficientCount}
 use Rattle.circuit.specs.Accept.{mostGates}
 use Rattle.circuit.specs.Valid.{Valid}
-use Rattle.circuit.specs.Code.{roundOf, Tallied}
 use Rattle.protocol.specs.Scratch.{layout, scratchSize, Value, read}
-use Rattle.protocol.specs.Position.{Stage, Send, reach}
-use Rattle.protocol.specs.Send.{sent, overwrite}
+use Rattle.protocol.specs.Position.{Point, Send, finished, reach}
+use Rattle.protocol.specs.Send.{checkShare, sent, overwrite}
 use Rattle.protocol.specs.Receive.{passes, received}
 use Rattle.protocol.specs.Holding.{Below}
-use Rattle.protocol.specs.Code.{layoutOf, pointOf}
+use Rattle.protocol.specs.Code.{layoutOf}
 use Rattle.protocol.specs.Ready.{Ready}
 use Rattle.protocol.specs.declared.Site.{Site}
 use Rattle.protocol.specs.Entry.{releases}
@@ -32,20 +30,13 @@ use Rattle.protocol.specs.Run.{State, said, step, released, mostRounds, whole}
 use Rattle.protocol.specs.JointEntry as E
 use Rattle.joint.specs.declared.JointAnswer.{JointAnswer}
 use Rattle.joint.specs.declared.JointAnswer.the-variants.{Refusal, Done, Aborted}
-use Rattle.joint.specs.declared.Due.{Due}
-use Rattle.joint.specs.declared.Due.the-variants.{Next, Over}
 use Rattle.joint.specs.declared.Frame.{Frame}
-use Rattle.joint.specs.declared.Course.{Course}
+use Rattle.joint.specs.declared.Stop.{Stop}
 
 unfoldable pub jointAnswerOf : JointAnswer → E.JointAnswer
 jointAnswerOf (Refusal number index) = E.Refusal number index
 jointAnswerOf (Done rounds) = E.Done rounds
 jointAnswerOf (Aborted gate rounds) = E.Aborted gate rounds
-
--- a round is due at its sending half, and elsewhere none
-abbrev pub IsDue : Stage → Due → Type 0
-IsDue x (Next r) = x ≡ Send (roundOf r)
-IsDue x Over = (r : Round) → x ≡ Send r → ⊥
 
 -- what a joint run is lent, from the lists of the code
 abbrev pub jointOf : ℕ → List ℕ → List ℕ → List ℕ → List ℕ → Joint
@@ -72,20 +63,47 @@ pub record Placed (n : ℕ) (c : List ℕ) (j : ℕ) (places : List ℕ) : Type 
   pub eight : length places ≡ mostParties
   pub each : (i : ℕ) → i < n → getD places i 0 ≡ inputsAt c i + inputAt c i j
 
--- where a run stands after a round of gate j: still there, or where the linear gates after it lead
-abbrev pub Onward : List ℕ → ℕ → ℕ → Type 0
-Onward c j k = (k ≡ j) ⊎ (k ≡ reach c (gates c - (j + 1)) (j + 1))
+-- where a run stands between two rounds: the point, where the record of its gate starts in each party's preprocessing, and how many
+-- coefficients are used, words written, outputs released and rounds made
+pub record Course : Type 0 where
+  pub point : Point
+  pub prep : ℕ
+  pub used : ℕ
+  pub written : ℕ
+  pub released : ℕ
+  pub rounds : ℕ
+
+-- a run that stands at that point, with what is counted at a stop
+abbrev pub courseOf : Point → Stop → Course
+courseOf x s =
+    record { point = x; prep = s .prep; used = s .used; written = s .written; released = s .released; rounds = s .rounds }
+
+-- round r of gate j is due
+abbrev pub dueAt : ℕ → Round → Point
+dueAt j r = record { gate = j; stage = Send r }
+
+-- the round that is due at a gate of that class, where that many opened entries wait for a check
+unfoldable pub dueIn : Class → ℕ → Round
+dueIn Local waiting = Own
+dueIn Owned waiting = Own
+dueIn Opens waiting = Own
+dueIn Output waiting = cond (eqb waiting 0) Open (Commit First)
+
+-- the point of a run that has come to gate j, or to the end
+unfoldable pub cameTo : List ℕ → ℕ → ℕ → Point
+cameTo c j waiting =
+    cond (ltb j (gates c)) (dueAt j (dueIn (shape (gate c j) .class) waiting)) (finished c)
 
 -- where the numbers of the gate stand for party i
 unfoldable pub siteOf : List ℕ → Course → ℕ → Site
 siteOf c s i =
-    record { gate = s .point .gate; prep = s .tally .prep; unchecked = s .tally .unchecked; input = inputAt c i (s .point .gate) }
+    record { gate = s .point .gate; prep = s .prep; unchecked = unchecked c (s .point .gate); input = inputAt c i (s .point .gate) }
 
 -- all parties between two rounds, where held has the check share of each, and l is the scratch of all
 unfoldable pub stateOf : Frame → Course → List ℕ → List ℕ → State
 stateOf f s held l =
     record {
-      point = pointOf (s .point);
+      point = s .point;
       held = λ i. getD held i 0;
       scratch = band (f .scratch) l;
       used = s .used;
@@ -151,13 +169,18 @@ pub record Banded (f : Frame) (l : List ℕ) : Type 0 where
 abbrev pub EachBand : Frame → List ℕ → (ℕ → List ℕ → Type 0) → Type 0
 EachBand f l P = (i : ℕ) → i < f .parties → P i (band (f .scratch) l i)
 
--- an array holds w i for each party i
-abbrev pub EachIs : Frame → (ℕ → ℕ) → List ℕ → Type 0
-EachIs f w xs = (i : ℕ) → i < f .parties → Is size (w i) (getD xs i 0)
-
 -- the bands of the scratch are F i, and the excess is that of l
 abbrev pub rebanded : Frame → (ℕ → List ℕ) → List ℕ → List ℕ
 rebanded f F l = joined (f .parties) F ++ drop (f .parties * f .scratch) l
+
+-- the check share of party i over the first k opened entries, whose coefficients start at u
+abbrev pub shareIn : Frame → List ℕ → List ℕ → ℕ → ℕ → List ℕ → ℕ → ℕ
+shareIn f preps l k u coefficients i =
+    checkShare ops (layoutOf (f .layout)) (band (f .scratch) l i) k (keyIn f preps i) (part u (u + k) coefficients)
+
+-- one word of each party
+abbrev pub each : ℕ → (ℕ → ℕ) → List ℕ
+each n w = joined n (λ i. w i ∷ [])
 
 -- what the words of party i in round r are
 abbrev pub saidBy : Ops → Joint → State → Round → ℕ → List ℕ
@@ -179,7 +202,7 @@ writtenAt k ws xs = take k xs ++ (ws ++ drop (k + length ws) xs)
 pub record Going (J : Joint) (f : Frame) (s : Course) (r : Round) (held l : List ℕ) : Type 0 where
   pub lent : Lent J f
   pub room : J .parties * f .scratch ≤ length l
-  pub tallied : Tallied (J .circuit) 0 (s .point .gate) (s .tally)
+  pub prep-is : s .prep ≡ prepAt (J .circuit) (s .point .gate)
   pub eight : length held ≡ mostParties
   pub held-low : (i : ℕ) → i < J .parties → getD held i 0 < size
   pub held-none : isReveal r ≡ false → (i : ℕ) → i < J .parties → getD held i 0 ≡ 0
@@ -187,12 +210,10 @@ pub record Going (J : Joint) (f : Frame) (s : Course) (r : Round) (held l : List
   pub coefficient-count : s .used + coefficientsIn (unchecked (J .circuit) (s .point .gate)) r ≤ length (J .coefficients)
   pub coefficients-low : Below size (J .coefficients)
 
--- and of the lists that it writes to: t is the transcript, and o the outputs
-pub record Turning (J : Joint) (f : Frame) (s : Course) (r : Round) (held l t o : List ℕ) : Type 0 where
+-- and of the transcript t that it writes to
+pub record Moving (J : Joint) (f : Frame) (s : Course) (r : Round) (held l t : List ℕ) : Type 0 where
   pub going : Going J f s r held l
   pub words-fit : s .written + J .parties * words (gate (J .circuit) (s .point .gate)) r ≤ length t
-  pub outputs-upto : s .released ≤ length o
-  pub outputs-fit : releases r ≡ true → s .released < length o
   pub rounds-few : s .rounds < mostRounds ops J * gates (J .circuit)
 
 -- two states are the same to n parties
@@ -202,28 +223,37 @@ pub record Alike (n : ℕ) (s s′ : State) : Type 0 where
   pub scratch : (i : ℕ) → i < n → s .scratch i ≡ s′ .scratch i
   pub used : s .used ≡ s′ .used
 
--- what a round leaves
-pub record Turned (J : Joint) (f : Frame) (s : Course) (r : Round) (held l t o : List ℕ) (s′ : Course) (held′ l′ t′ o′ : List ℕ) : Type 0 where
+-- what a round leaves, its outputs aside
+pub record Moved (J : Joint) (f : Frame) (s : Course) (r : Round) (held l t : List ℕ) (s′ : Course) (held′ l′ t′ : List ℕ) : Type 0 where
   pub alike : Alike (J .parties) (stateOf f s′ held′ l′) (step ops J (stateOf f s held l) r)
-  pub tallied : Tallied (J .circuit) 0 (s′ .point .gate) (s′ .tally)
+  pub prep-is : s′ .prep ≡ prepAt (J .circuit) (s′ .point .gate)
   pub eight : length held′ ≡ mostParties
   pub held-low : (i : ℕ) → i < J .parties → getD held′ i 0 < size
   pub long : length l′ ≡ length l
   pub excess : drop (J .parties * f .scratch) l′ ≡ drop (J .parties * f .scratch) l
   pub transcript : t′ ≡ writtenAt (s .written) (said ops J (stateOf f s held l) r) t
-  pub outputs : o′ ≡ writtenAt (s .released) (released ops J (stateOf f s held l) r) o
   pub written : s′ .written ≡ s .written + length (said ops J (stateOf f s held l) r)
-  pub given : s′ .released ≡ s .released + length (released ops J (stateOf f s held l) r)
   pub rounds : s′ .rounds ≡ s .rounds + 1
 
--- before the first round, which is an in gate's own
-pub record Started (s : Course) : Type 0 where
-  pub point : pointOf (s .point) ≡ record { gate = 0; stage = Send Own }
-  pub tallied : (c : List ℕ) → Tallied c 0 0 (s .tally)
-  pub used : s .used ≡ 0
-  pub written : s .written ≡ 0
-  pub released : s .released ≡ 0
-  pub rounds : s .rounds ≡ 0
+-- and the outputs o
+pub record Turned (J : Joint) (f : Frame) (s : Course) (r : Round) (held l t o : List ℕ) (s′ : Course) (held′ l′ t′ o′ : List ℕ) : Type 0 where
+  pub moved : Moved J f s r held l t s′ held′ l′ t′
+  pub outputs : o′ ≡ writtenAt (s .released) (released ops J (stateOf f s held l) r) o
+  pub given : s′ .released ≡ s .released + length (released ops J (stateOf f s held l) r)
+
+-- nobody holds a check share
+abbrev pub noneHeld : List ℕ
+noneHeld = replicate mostParties 0
+
+-- a round that uses no coefficient and releases nothing
+pub record Kept (s s′ : Stop) : Type 0 where
+  pub used : s′ .used ≡ s .used
+  pub released : s′ .released ≡ s .released
+
+-- the run has passed the gate of s, and come to that of s′
+pub record Passed (c : List ℕ) (s s′ : Stop) : Type 0 where
+  pub gate : s′ .gate ≡ reach c (gates c - (s .gate + 1)) (s .gate + 1)
+  pub waiting : s′ .waiting ≡ unchecked c (s′ .gate)
 
 -- what all questions make sure of
 pub record Runnable (J : Joint) (f : Frame) (l t o : List ℕ) : Type 0 where

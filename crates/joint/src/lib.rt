@@ -5,12 +5,9 @@ mod receiving;
 mod rounds;
 mod sending;
 
-use circuit::Round;
-use circuit::Tally;
 use circuit::Verdict;
 use field::Word;
 use protocol::Layout;
-use protocol::Point;
 ghost use mathlib.Core.Path.{_≡_};
 ghost use Rattle.field.specs.Words.{ops};
 ghost use Rattle.protocol.specs.JointEntry.{jointAnswer, jointScratch, jointTranscript, jointOutputs};
@@ -23,7 +20,7 @@ pub enum JointAnswer {
     Aborted { gate: usize, rounds: usize },
 }
 
-// What stays the same from round to round: the number of parties, the layout and the length of a party's scratch, and the length of its
+// What stays the same from gate to gate: the number of parties, the layout and the length of a party's scratch, and the length of its
 // preprocessing.
 pub struct Frame {
     pub parties: usize,
@@ -32,21 +29,16 @@ pub struct Frame {
     pub prep: usize,
 }
 
-// What goes on from round to round: the point; what is counted of the gates before it, where the inputs alone differ by party, so that
-// the tally is party 0's; and how many coefficients are used, words written, outputs released and rounds made.
-pub struct Course {
-    pub point: Point,
-    pub tally: Tally,
+// What goes on from gate to gate: the gate that the run has come to, and where its record stands in each party's preprocessing; how many
+// opened entries wait for a check; and how many coefficients are used, words written, outputs released and rounds made.
+pub struct Stop {
+    pub gate: usize,
+    pub prep: usize,
+    pub waiting: usize,
     pub used: usize,
     pub written: usize,
     pub released: usize,
     pub rounds: usize,
-}
-
-// The round that is due, if any.
-pub enum Due {
-    Next(Round),
-    Over,
 }
 
 pub fn joint_run(

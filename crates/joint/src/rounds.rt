@@ -1,205 +1,214 @@
-// The rounds of a run: in each, every party sends, and then every party receives the words of all. Nothing is asked here: what is
-// needed is what the entry has asked.
-use crate::Course;
-use crate::Due;
+// The rounds of a run, gate by gate: in each, every party sends, and then every party receives the words of all. Nothing is asked here:
+// what is needed is what the entry has asked.
 use crate::Frame;
 use crate::JointAnswer;
-use crate::framing;
+use crate::Stop;
 use crate::receiving;
 use crate::sending;
-use circuit::Round;
-use circuit::Tally;
+use circuit::Shape;
 use field::Word;
-use protocol::Point;
 use protocol::Slot;
-use protocol::Stage;
 ghost use mathlib.Core.Path.{_≡_};
-ghost use mathlib.Core.Bool.{true};
-ghost use Prim.Native.Nat.{_+_, _<_, _≤_};
+ghost use Prim.Native.Nat.{ℕ, suc, _+_, _*_, _<_, _≤_};
 ghost use lib.ListN.{length};
-ghost use Rattle.field.specs.Words.{size};
-ghost use Rattle.circuit.specs.Gate.{gates};
-ghost use Rattle.circuit.specs.Valid.{Valid};
-ghost use Rattle.circuit.specs.Code.{roundOf, Tallied};
-ghost use Rattle.protocol.specs.Holding.{Below};
-ghost use Rattle.protocol.specs.Code.{stageOf};
+ghost use Rattle.algebra.specs.Element.{Is};
+ghost use Rattle.field.specs.Words.{size, ops};
+ghost use Rattle.circuit.specs.Gate.{gate};
+ghost use Rattle.circuit.specs.Kind.{Owned, Opens, shape};
+ghost use Rattle.circuit.specs.Count.{unchecked};
+ghost use Rattle.circuit.specs.Round.{Second, Own, Open, Commit, revealWords};
+ghost use Rattle.circuit.specs.Code.{shapeOf};
+ghost use Rattle.protocol.specs.Position.{resume};
+ghost use Rattle.protocol.specs.Receive.{heardSum};
+ghost use Rattle.protocol.specs.Send.{mark};
+ghost use Rattle.protocol.specs.Holding.{Below, Opened};
+ghost use Rattle.protocol.specs.Code.{layoutOf};
 ghost use Rattle.protocol.specs.Ask.{mostParties};
-ghost use Rattle.protocol.specs.Entry.{releases};
-ghost use Rattle.protocol.specs.Joint.{band};
-ghost use Rattle.protocol.specs.JointEntry.{ended};
-ghost use Rattle.joint.specs.Code.{jointAnswerOf, IsDue, jointOf, Placed, Onward, Framed, freed, writtenAt, Turning, Turned, Started, Runnable, Ran};
+ghost use Rattle.joint.specs.Code.{jointOf, Placed, courseOf, dueAt, Prepared, Banded, EachBand, shareIn, each, writtenAt, Moving, Moved, noneHeld, Passed, Kept, Runnable, Ran};
 
-// What the round releases goes to the outputs, where at are there. How many are there then.
-fn release(
+// The round of an in gate, which has the shape g; each party's next input is at its place.
+fn input_round(
     f: Frame,
-    r: Round,
-    c: &[Word],
-    scratch: &[Word],
-    heard: &[Word],
-    outputs: &mut [Word],
-    at: usize,
-) -> usize
-    requires { ⌜ Framed (f .parties) (now c) f
-        × (f .scratch ≤ length (now scratch))
-        × Below size (now heard)
-        × (at ≤ length (now outputs))
-        × (releases (roundOf r) ≡ true → (f .parties ≤ length (now heard)) × (at < length (now outputs))) ⌝ }
-    ensures { λ k. ⌜ (k ≡ at + length (freed (f .parties) (now (c .entry)) (roundOf r) (band (f .scratch) (now (scratch .entry)) 0) (now (heard .entry))))
-        × (now (outputs .exit) ≡ writtenAt at (freed (f .parties) (now (c .entry)) (roundOf r) (band (f .scratch) (now (scratch .entry)) 0) (now (heard .entry))) (now (outputs .entry))) ⌝ }
-{
-    if !protocol::releases(r) {
-        return at;
-    }
-    if steps::receiving::heard_sum(f.parties, circuit::rounds::REVEAL_WORDS, 0, heard) != 0 {
-        return at;
-    }
-    let w = f.scratch;
-    outputs[at] = steps::scratch::read_slot(&scratch[..w], f.layout, Slot::Value(0));
-    at + 1
-}
-
-// Past gate j to where the linear gates after it lead, if the run has left it: what is counted goes on by the gate, as linear gates add
-// nothing.
-fn pass_gate(
-    parties: usize,
-    c: &[Word],
-    j: usize,
-    next: usize,
-    t: Tally,
-    places: &mut [usize],
-) -> Tally
-    requires { ⌜ Valid parties size (now c)
-        × (parties ≤ mostParties)
-        × (j < gates (now c))
-        × Tallied (now c) 0 j t
-        × Placed parties (now c) j (now places)
-        × Onward (now c) j next ⌝ }
-    ensures { λ r. ⌜ Tallied (now (c .entry)) 0 next r × Placed parties (now (c .entry)) next (now (places .exit)) ⌝ }
-{
-    if next <= j {
-        return t;
-    }
-    framing::count_input(parties, c, j, places);
-    gates::counting::tally_gate(c, 0, j, t)
-}
-
-// Round r; each party's next input is at its place. The words that are received are those that stand in the transcript.
-fn one_round(
-    f: Frame,
-    s: Course,
-    r: Round,
+    s: Stop,
+    g: Shape,
     c: &[Word],
     preps: &[Word],
     inputs: &[Word],
     places: &mut [usize],
-    held: &mut [Word],
     scratch: &mut [Word],
     coefficients: &[Word],
     transcript: &mut [Word],
-    outputs: &mut [Word],
-) -> Course
-    requires { ⌜ Turning (jointOf (f .parties) (now c) (now preps) (now inputs) (now coefficients)) f s (roundOf r) (now held) (now scratch) (now transcript) (now outputs)
-        × Placed (f .parties) (now c) (s .point .gate) (now places) ⌝ }
-    ensures { λ x. ⌜ Turned (jointOf (f .parties) (now (c .entry)) (now (preps .entry)) (now (inputs .entry)) (now (coefficients .entry))) f s (roundOf r) (now (held .entry)) (now (scratch .entry)) (now (transcript .entry)) (now (outputs .entry)) x (now (held .exit)) (now (scratch .exit)) (now (transcript .exit)) (now (outputs .exit))
-        × Placed (f .parties) (now (c .entry)) (x .point .gate) (now (places .exit)) ⌝ }
+) -> Stop
+    requires { ⌜ Moving (jointOf (f .parties) (now c) (now preps) (now inputs) (now coefficients)) f (courseOf (dueAt (s .gate) Own) s) Own noneHeld (now scratch) (now transcript)
+        × (shapeOf g ≡ shape (gate (now c) (s .gate)))
+        × (shape (gate (now c) (s .gate)) .class ≡ Owned)
+        × (s .waiting ≡ unchecked (now c) (s .gate))
+        × Placed (f .parties) (now c) (s .gate) (now places) ⌝ }
+    ensures { λ r. ⌜ Moved (jointOf (f .parties) (now (c .entry)) (now (preps .entry)) (now (inputs .entry)) (now (coefficients .entry))) f (courseOf (dueAt (s .gate) Own) s) Own noneHeld (now (scratch .entry)) (now (transcript .entry)) (courseOf (resume (now (c .entry)) (suc (s .gate))) r) noneHeld (now (scratch .exit)) (now (transcript .exit))
+        × Kept s r
+        × Passed (now (c .entry)) s r
+        × Placed (f .parties) (now (c .entry)) (r .gate) (now (places .exit)) ⌝ }
 {
-    let here = s.point;
-    let t = s.tally;
+    let j = s.gate;
     let start = s.written;
-    let g = gates::reading::shape_at(c, here.gate);
-    let w = circuit::rounds::words_in(g, r);
-    let end = start + f.parties * w;
-    sending::send_all(
+    let end = start + f.parties;
+    let x = gates::reading::first_at(c, j);
+    sending::input_words(
         f,
-        s,
-        r,
-        g,
-        c,
+        s.prep,
+        x,
+        places,
         preps,
         inputs,
-        places,
-        scratch,
-        coefficients,
-        held,
         &mut transcript[start..end],
     );
-    let released = release(
-        f,
-        r,
-        c,
-        scratch,
-        &transcript[start..end],
-        outputs,
-        s.released,
-    );
-    let point = receiving::receive_all(
-        f,
-        s,
-        r,
-        g,
-        w,
-        c,
-        preps,
-        inputs,
-        scratch,
-        &transcript[start..end],
-    );
-    let tally = pass_gate(f.parties, c, here.gate, point.gate, t, places);
-    let used = s.used + circuit::rounds::coefficients_in(t.unchecked, r);
-    Course {
-        point,
-        tally,
-        used,
+    let class = g.class;
+    let e = steps::receiving::heard_first(f.parties, class, x, g.words, &transcript[start..end]);
+    receiving::receive_inputs(f, j, s.prep, preps, scratch, e);
+    let stop = receiving::settle(f, c, j + 1, preps, scratch);
+    places[x] += 1;
+    Stop {
+        gate: stop,
+        prep: s.prep + g.prep,
+        waiting: s.waiting,
+        used: s.used,
         written: end,
-        released,
+        released: s.released,
         rounds: s.rounds + 1,
     }
 }
 
-// Before the first round, which is an in gate's.
-fn origin() -> Course
-    ensures { λ s. ⌜ Started s ⌝ }
+// The round of a gate that opens values, which has the shape g.
+fn opening_round(
+    f: Frame,
+    s: Stop,
+    g: Shape,
+    c: &[Word],
+    preps: &[Word],
+    inputs: &[Word],
+    scratch: &mut [Word],
+    coefficients: &[Word],
+    transcript: &mut [Word],
+) -> Stop
+    requires { ⌜ Moving (jointOf (f .parties) (now c) (now preps) (now inputs) (now coefficients)) f (courseOf (dueAt (s .gate) Own) s) Own noneHeld (now scratch) (now transcript)
+        × (shapeOf g ≡ shape (gate (now c) (s .gate)))
+        × (shape (gate (now c) (s .gate)) .class ≡ Opens)
+        × (s .waiting ≡ unchecked (now c) (s .gate)) ⌝ }
+    ensures { λ r. ⌜ Moved (jointOf (f .parties) (now (c .entry)) (now (preps .entry)) (now (inputs .entry)) (now (coefficients .entry))) f (courseOf (dueAt (s .gate) Own) s) Own noneHeld (now (scratch .entry)) (now (transcript .entry)) (courseOf (resume (now (c .entry)) (suc (s .gate))) r) noneHeld (now (scratch .exit)) (now (transcript .exit))
+        × Kept s r
+        × Passed (now (c .entry)) s r ⌝ }
 {
-    Course {
-        point: Point {
-            gate: 0,
-            stage: Stage::Send(Round::Own),
-        },
-        tally: circuit::counting::no_tally(),
-        used: 0,
-        written: 0,
-        released: 0,
-        rounds: 0,
+    let j = s.gate;
+    let k = g.openings;
+    let start = s.written;
+    let end = start + f.parties * k;
+    let x = gates::reading::first_at(c, j);
+    let z = gates::reading::factor_at(c, j, k);
+    sending::opening_words(
+        f,
+        s.prep,
+        x,
+        z,
+        k,
+        preps,
+        scratch,
+        &mut transcript[start..end],
+    );
+    let class = g.class;
+    let e = steps::receiving::heard_first(f.parties, class, x, k, &transcript[start..end]);
+    let d = steps::receiving::heard_second(f.parties, class, k, k, &transcript[start..end]);
+    receiving::receive_openings(f, j, x, z, s.prep, k, s.waiting, preps, scratch, e, d);
+    let stop = receiving::settle(f, c, j + 1, preps, scratch);
+    Stop {
+        gate: stop,
+        prep: s.prep + g.prep,
+        waiting: s.waiting + k,
+        used: s.used,
+        written: end,
+        released: s.released,
+        rounds: s.rounds + 1,
     }
 }
 
-// Nothing is sent any more once a run is finished or aborted.
-fn due_at(stage: Stage) -> Due
-    ensures { λ d. ⌜ IsDue (stageOf stage) d ⌝ }
+// The opening of an output.
+fn show_round(
+    f: Frame,
+    s: Stop,
+    c: &[Word],
+    preps: &[Word],
+    inputs: &[Word],
+    scratch: &mut [Word],
+    coefficients: &[Word],
+    transcript: &mut [Word],
+) -> Stop
+    requires { ⌜ Moving (jointOf (f .parties) (now c) (now preps) (now inputs) (now coefficients)) f (courseOf (dueAt (s .gate) Open) s) Open noneHeld (now scratch) (now transcript) ⌝ }
+    ensures { λ r. ⌜ Moved (jointOf (f .parties) (now (c .entry)) (now (preps .entry)) (now (inputs .entry)) (now (coefficients .entry))) f (courseOf (dueAt (s .gate) Open) s) Open noneHeld (now (scratch .entry)) (now (transcript .entry)) (courseOf (dueAt (s .gate) (Commit Second)) r) noneHeld (now (scratch .exit)) (now (transcript .exit))
+        × Kept s r
+        × (r .gate ≡ s .gate)
+        × (r .prep ≡ s .prep) ⌝ }
 {
-    match stage {
-        Stage::Send(r) => Due::Next(r),
-        Stage::Receive(_) => Due::Over,
-        Stage::Finished => Due::Over,
-        Stage::Aborted => Due::Over,
+    let start = s.written;
+    let end = start + f.parties;
+    let x = gates::reading::first_at(c, s.gate);
+    sending::output_words(f, x, scratch, &mut transcript[start..end]);
+    let e = steps::receiving::heard_sum(f.parties, 1, 0, &transcript[start..end]);
+    receiving::receive_outputs(f, x, scratch, e);
+    Stop {
+        gate: s.gate,
+        prep: s.prep,
+        waiting: s.waiting,
+        used: s.used,
+        written: end,
+        released: s.released,
+        rounds: s.rounds + 1,
     }
 }
 
-// How a run that stands at a point has ended.
-fn ending(point: Point, rounds: usize) -> JointAnswer
-    ensures { λ a. ⌜ jointAnswerOf a ≡ ended (stageOf (point .stage)) (point .gate) rounds ⌝ }
+// Both rounds of a check of the first k opened entries, whose coefficients start at u: the marks of all into the transcript from start on,
+// and then their check shares. The sum of these.
+fn check(
+    f: Frame,
+    k: usize,
+    u: usize,
+    start: usize,
+    preps: &[Word],
+    scratch: &[Word],
+    coefficients: &[Word],
+    transcript: &mut [Word],
+) -> Word
+    requires { ⌜ (f .parties ≤ mostParties)
+        × Prepared f (now preps) 0 1
+        × Banded f (now scratch)
+        × (u + k ≤ length (now coefficients))
+        × Below size (now coefficients)
+        × EachBand f (now scratch) (λ i l. (t : ℕ) → t < k → Opened size (layoutOf (f .layout)) l t)
+        × (start + f .parties + f .parties ≤ length (now transcript)) ⌝ }
+    ensures { λ e. ⌜ (now (transcript .exit)
+        ≡ writtenAt (start + f .parties) (each (f .parties) (shareIn f (now (preps .entry)) (now (scratch .entry)) k u (now (coefficients .entry))))
+        (writtenAt start (each (f .parties) (λ i. mark)) (now (transcript .entry))))
+        × Is size (heardSum ops (f .parties) revealWords 0 (each (f .parties) (shareIn f (now (preps .entry)) (now (scratch .entry)) k u (now (coefficients .entry))))) e ⌝ }
 {
-    let gate = point.gate;
-    let stage = point.stage;
-    match stage {
-        Stage::Send(_) => JointAnswer::Done(rounds),
-        Stage::Receive(_) => JointAnswer::Done(rounds),
-        Stage::Finished => JointAnswer::Done(rounds),
-        Stage::Aborted => JointAnswer::Aborted { gate, rounds },
-    }
+    let middle = start + f.parties;
+    let end = middle + f.parties;
+    sending::put_marks(f.parties, &mut transcript[start..middle]);
+    sending::check_shares(
+        f,
+        k,
+        u,
+        preps,
+        scratch,
+        coefficients,
+        &mut transcript[middle..end],
+    );
+    steps::receiving::heard_sum(
+        f.parties,
+        circuit::rounds::REVEAL_WORDS,
+        0,
+        &transcript[middle..end],
+    )
 }
 
-// Round after round, until no party sends any more. Each party's next input is at its place.
+// Gate after gate, until a check stops the run or no gate is left. Each party's next input is at its place.
 pub fn run(
     f: Frame,
     places: &mut [usize],
@@ -215,31 +224,98 @@ pub fn run(
         × Placed (f .parties) (now c) 0 (now places) ⌝ }
     ensures { λ a. ⌜ Ran (jointOf (f .parties) (now (c .entry)) (now (preps .entry)) (now (inputs .entry)) (now (coefficients .entry))) (now (scratch .entry)) (now (transcript .entry)) (now (outputs .entry)) a (now (scratch .exit)) (now (transcript .exit)) (now (outputs .exit)) ⌝ }
 {
-    let mut held: [Word; 8] = [0; 8];
-    let mut s = origin();
-    loop {
-        let point = s.point;
-        let stage = point.stage;
-        match due_at(stage) {
-            Due::Next(r) => {
-                s = one_round(
-                    f,
-                    s,
-                    r,
-                    c,
-                    preps,
-                    inputs,
-                    places,
-                    &mut held,
-                    scratch,
-                    coefficients,
-                    transcript,
-                    outputs,
-                );
-            }
-            Due::Over => {
-                return ending(point, s.rounds);
-            }
+    let mut s = Stop {
+        gate: 0,
+        prep: 1,
+        waiting: 0,
+        used: 0,
+        written: 0,
+        released: 0,
+        rounds: 0,
+    };
+    while s.gate < f.layout.gates {
+        let j = s.gate;
+        let g = gates::reading::shape_at(c, j);
+        let class = g.class;
+        if circuit::shapes::is_in(class) {
+            s = input_round(
+                f,
+                s,
+                g,
+                c,
+                preps,
+                inputs,
+                places,
+                scratch,
+                coefficients,
+                transcript,
+            );
+            continue;
         }
+        if circuit::shapes::opens(class) {
+            s = opening_round(f, s, g, c, preps, inputs, scratch, coefficients, transcript);
+            continue;
+        }
+        let waiting = s.waiting;
+        if waiting != 0 {
+            let sum = check(
+                f,
+                waiting,
+                s.used,
+                s.written,
+                preps,
+                scratch,
+                coefficients,
+                transcript,
+            );
+            let made = s.rounds + 2;
+            if sum != 0 {
+                return JointAnswer::Aborted {
+                    gate: j,
+                    rounds: made,
+                };
+            }
+            let next = Stop {
+                gate: j,
+                prep: s.prep,
+                waiting: 0,
+                used: s.used + waiting,
+                written: s.written + f.parties + f.parties,
+                released: s.released,
+                rounds: made,
+            };
+            s = next;
+            continue;
+        }
+        s = show_round(f, s, c, preps, inputs, scratch, coefficients, transcript);
+        let e = check(
+            f,
+            1,
+            s.used,
+            s.written,
+            preps,
+            scratch,
+            coefficients,
+            transcript,
+        );
+        let rounds = s.rounds + 2;
+        if e != 0 {
+            return JointAnswer::Aborted { gate: j, rounds };
+        }
+        let w = f.scratch;
+        let at = s.released;
+        outputs[at] = steps::scratch::read_slot(&scratch[..w], f.layout, Slot::Value(0));
+        let stop = receiving::settle(f, c, j + 1, preps, scratch);
+        let next = Stop {
+            gate: stop,
+            prep: s.prep,
+            waiting: 0,
+            used: s.used + 1,
+            written: s.written + f.parties + f.parties,
+            released: at + 1,
+            rounds,
+        };
+        s = next;
     }
+    JointAnswer::Done(s.rounds)
 }

@@ -1,31 +1,23 @@
-// What all parties send in a round: a loop for each sort of word, in which each party gets its own part of the joined lists. Nothing is
+// What all parties send: a loop for each sort of word, in which each party gets its own part of the joined lists. Nothing is
 // asked here: what is needed is what the entry has asked.
-use crate::Course;
 use crate::Frame;
-use circuit::Round;
-use circuit::Shape;
 use field::Word;
 ghost use mathlib.Core.Path.{_≡_};
 ghost use mathlib.Core.List.{[], _∷_};
 ghost use Prim.Native.Nat.{ℕ, _+_, _*_, _<_, _≤_};
 ghost use lib.ListN.{length, getD};
 ghost use Rattle.field.specs.Words.{ops, size};
-ghost use Rattle.circuit.specs.Gate.{gate};
-ghost use Rattle.circuit.specs.Kind.{shape};
-ghost use Rattle.circuit.specs.Round.{words};
-ghost use Rattle.circuit.specs.Code.{roundOf, shapeOf};
 ghost use Rattle.protocol.specs.Scratch.{wire};
-ghost use Rattle.protocol.specs.Send.{mark, inputWord, openingWords, checkShare};
+ghost use Rattle.protocol.specs.Send.{mark, inputWord, openingWords};
 ghost use Rattle.protocol.specs.Holding.{Below, Held, Opened};
 ghost use Rattle.protocol.specs.Code.{layoutOf};
 ghost use Rattle.protocol.specs.Ask.{mostParties};
 ghost use Rattle.protocol.specs.Joint.{joined, band};
-ghost use Rattle.protocol.specs.Run.{said, step};
-ghost use Rattle.joint.specs.Code.{jointOf, stateOf, Placed, part, prepFrom, keyIn, Prepared, Banded, EachBand, EachIs, Going};
+ghost use Rattle.joint.specs.Code.{prepFrom, Prepared, Banded, EachBand, shareIn};
 
 // Each party's word of an in gate into out. Its record stands at number at of each party's preprocessing, and each party's next input at its
 // place.
-fn input_words(
+pub fn input_words(
     f: Frame,
     at: usize,
     owner: usize,
@@ -52,7 +44,7 @@ fn input_words(
 }
 
 // Each party's k words of a gate that opens k values into out. The gate names x and z, and its record stands at number at.
-fn opening_words(
+pub fn opening_words(
     f: Frame,
     at: usize,
     x: usize,
@@ -94,7 +86,7 @@ fn opening_words(
 }
 
 // The share that each party shows at an out gate into out, of the gate x that it names.
-fn output_words(f: Frame, x: usize, scratch: &[Word], out: &mut [Word])
+pub fn output_words(f: Frame, x: usize, scratch: &[Word], out: &mut [Word])
     requires { ⌜ (f .parties ≤ mostParties)
         × Banded f (now scratch)
         × EachBand f (now scratch) (λ i l. Held size (layoutOf (f .layout)) l x)
@@ -113,7 +105,7 @@ fn output_words(f: Frame, x: usize, scratch: &[Word], out: &mut [Word])
 }
 
 // The mark of each party into out.
-fn put_marks(parties: usize, out: &mut [Word])
+pub fn put_marks(parties: usize, out: &mut [Word])
     requires { ⌜ (parties ≤ mostParties) × (length (now out) ≡ parties) ⌝ }
     ensures { λ r. ⌜ now (out .exit) ≡ joined parties (λ i. mark ∷ []) ⌝ }
 {
@@ -124,24 +116,24 @@ fn put_marks(parties: usize, out: &mut [Word])
     }
 }
 
-// The check shares over the first k opened entries, whose coefficients start at u: each party holds its own.
-fn check_shares(
+// Each party's check share over the first k opened entries, whose coefficients start at u, into out.
+pub fn check_shares(
     f: Frame,
     k: usize,
     u: usize,
     preps: &[Word],
     scratch: &[Word],
     coefficients: &[Word],
-    held: &mut [Word],
+    out: &mut [Word],
 )
-    requires { ⌜ (length (now held) ≡ mostParties)
-        × (f .parties ≤ mostParties)
+    requires { ⌜ (f .parties ≤ mostParties)
         × Prepared f (now preps) 0 1
         × Banded f (now scratch)
         × (u + k ≤ length (now coefficients))
         × Below size (now coefficients)
-        × EachBand f (now scratch) (λ i l. (t : ℕ) → t < k → Opened size (layoutOf (f .layout)) l t) ⌝ }
-    ensures { λ r. ⌜ EachIs f (λ i. checkShare ops (layoutOf (f .layout)) (band (f .scratch) (now (scratch .entry)) i) k (keyIn f (now (preps .entry)) i) (part u (u + k) (now (coefficients .entry)))) (now (held .exit)) ⌝ }
+        × EachBand f (now scratch) (λ i l. (t : ℕ) → t < k → Opened size (layoutOf (f .layout)) l t)
+        × (length (now out) ≡ f .parties) ⌝ }
+    ensures { λ r. ⌜ now (out .exit) ≡ joined (f .parties) (λ i. shareIn f (now (preps .entry)) (now (scratch .entry)) k u (now (coefficients .entry)) i ∷ []) ⌝ }
 {
     let v = u + k;
     let mut i = 0;
@@ -156,67 +148,7 @@ fn check_shares(
             preps[key],
             &coefficients[u..v],
         );
-        held[i] = h;
+        out[i] = h;
         i += 1;
-    }
-}
-
-// The check share that each party holds into out. It holds none then.
-fn put_held(parties: usize, held: &mut [Word], out: &mut [Word])
-    requires { ⌜ (length (now held) ≡ mostParties) × (parties ≤ mostParties) × (length (now out) ≡ parties) ⌝ }
-    ensures { λ r. ⌜ ((i : ℕ) → i < parties → getD (now (held .exit)) i 0 ≡ 0)
-        × (now (out .exit) ≡ joined parties (λ i. getD (now (held .entry)) i 0 ∷ [])) ⌝ }
-{
-    let mut i = 0;
-    while i < parties {
-        out[i] = held[i];
-        held[i] = 0;
-        i += 1;
-    }
-}
-
-// Every party sends in round r of a gate of shape g, into its part of out, and holds its check share from a commitment to the reveal.
-pub fn send_all(
-    f: Frame,
-    s: Course,
-    r: Round,
-    g: Shape,
-    c: &[Word],
-    preps: &[Word],
-    inputs: &[Word],
-    places: &[usize],
-    scratch: &[Word],
-    coefficients: &[Word],
-    held: &mut [Word],
-    out: &mut [Word],
-)
-    requires { ⌜ Going (jointOf (f .parties) (now c) (now preps) (now inputs) (now coefficients)) f s (roundOf r) (now held) (now scratch)
-        × Placed (f .parties) (now c) (s .point .gate) (now places)
-        × (shapeOf g ≡ shape (gate (now c) (s .point .gate)))
-        × (length (now out) ≡ f .parties * words (gate (now c) (s .point .gate)) (roundOf r)) ⌝ }
-    ensures { λ h. ⌜ EachIs f (step ops (jointOf (f .parties) (now (c .entry)) (now (preps .entry)) (now (inputs .entry)) (now (coefficients .entry))) (stateOf f s (now (held .entry)) (now (scratch .entry))) (roundOf r) .held) (now (held .exit))
-        × (now (out .exit) ≡ said ops (jointOf (f .parties) (now (c .entry)) (now (preps .entry)) (now (inputs .entry)) (now (coefficients .entry))) (stateOf f s (now (held .entry)) (now (scratch .entry))) (roundOf r)) ⌝ }
-{
-    let here = s.point;
-    let t = s.tally;
-    match r {
-        Round::Own => {
-            let x = gates::reading::first_at(c, here.gate);
-            let class = g.class;
-            if circuit::shapes::is_in(class) {
-                input_words(f, t.prep, x, places, preps, inputs, out);
-                return;
-            }
-            let k = g.openings;
-            let z = gates::reading::factor_at(c, here.gate, k);
-            opening_words(f, t.prep, x, z, k, preps, scratch, out);
-        }
-        Round::Open => output_words(f, gates::reading::first_at(c, here.gate), scratch, out),
-        Round::Commit(_) => {
-            put_marks(f.parties, out);
-            let k = circuit::rounds::opened_in(t.unchecked, r);
-            check_shares(f, k, s.used, preps, scratch, coefficients, held);
-        }
-        Round::Reveal(_) => put_held(f.parties, held, out),
     }
 }

@@ -1,0 +1,200 @@
+-- A run from gate to gate, at outputs: their checks and their opening lead to the next gate or stop the run. And its start and its end.
+-- Assumes nothing.
+use Prim.Native.Nat.{ℕ, _+_, _-_, _*_, _<_, _≤_}
+use mathlib.Core.Path.{_≡_, refl, sym, ap, subst}
+use mathlib.Core.List.{List}
+use mathlib.Core.Logic.{inl, inr, ⊎-elim}
+use native.Mathlib.Numerals.{add-one}
+use native.Mathlib.Omega.{arith}
+use lib.ListN.{length, set}
+use Rattle.algebra.specs.Element.{Is}
+use Rattle.field.specs.Words.{size, ops}
+use Rattle.circuit.specs.Gate.{gate, gates}
+use Rattle.circuit.specs.Kind.{Local, Output, shape, isClass}
+use Rattle.circuit.specs.Count.{unchecked, uncheckedAfter}
+use Rattle.circuit.specs.Round.{First, Second, Open, Commit, revealWords}
+use Rattle.circuit.proofs.KindLaws.{class-is, output-no-in}
+use Rattle.circuit.proofs.Gates.{gate-zero}
+use Rattle.protocol.specs.Position.{Point, Aborted, Finished, finished, reach, start, whenSending}
+use Rattle.protocol.specs.Receive.{heardSum}
+use Rattle.protocol.specs.Send.{mark}
+use Rattle.protocol.specs.Scratch.{layout, Value, read}
+use Rattle.protocol.specs.Code.{layoutOf}
+use Rattle.protocol.specs.Holding.{Below, Opened}
+use Rattle.protocol.specs.Ready.{Settles}
+use Rattle.protocol.specs.Ask.{mostParties}
+use Rattle.protocol.specs.Joint.{band}
+use Rattle.protocol.specs.Run.{mostRounds}
+use Rattle.protocol.specs.JointEntry as E
+use Rattle.protocol.proofs.Bands.{band-end}
+use Rattle.protocol.proofs.Runs.{Over}
+use Rattle.joint.specs.declared.JointAnswer.{JointAnswer}
+use Rattle.joint.specs.declared.Frame.{Frame}
+use Rattle.joint.specs.declared.Stop.{Stop}
+use Rattle.joint.specs.Code.{jointAnswerOf, courseOf, dueAt, dueIn, cameTo, Placed, keyIn, Prepared, Banded, EachBand, rebanded, shareIn, each, writtenAt, noneHeld, Moving, Moved, Kept, Runnable, Ran}
+use Rattle.joint.proofs.Later.{waits-stop}
+use Rattle.joint.proofs.Measures.{gates-are}
+use Rattle.joint.proofs.ReceiveTurns.{settledLeft}
+use Rattle.joint.proofs.SendTurns.{lentAll}
+use Rattle.joint.proofs.Stops.{came-own, came-open, came-commit, came-end, stop-within, stop-stands, resume-came}
+use Rattle.joint.proofs.Running.{Running, running-moving, running-again, running-over, running-start}
+use Rattle.joint.proofs.Passing.{turned-quietly, Standing, places-stay}
+use Rattle.joint.proofs.CheckTurns.{check-asked, check-stopped, first-checked, output-room, output-settles, second-checked}
+
+-- nothing is sent once a run is finished
+over-finished : Over Finished
+unfolding whenSending
+over-finished A a g = refl
+
+module _ {f : Frame} {c preps inputs coefficients l₀ t₀ o₀ : List ℕ} (able : Runnable (lentAll f c preps inputs coefficients) f l₀ t₀ o₀) where
+  -- the gates of the frame are those of the circuit
+  pub gates-same : f .layout .gates ≡ gates c
+  gates-same = gates-are (able .lent .valid) (able .lent .framed)
+
+  module _ {s : Stop} {places l t o : List ℕ} (inv : Standing (lentAll f c preps inputs coefficients) f l₀ t₀ o₀ s places l t o)
+      (h : s .gate < gates c) (cl : shape (gate c (s .gate)) .class ≡ Output) where
+    -- entries wait for a check
+    module _ (z : s .waiting ≡ 0 → ⊥) where
+      sealing : Running (lentAll f c preps inputs coefficients) f l₀ t₀ o₀ (courseOf (dueAt (s .gate) (Commit First)) s) noneHeld l t o
+      sealing = subst (λ (x : Point). Running (lentAll f c preps inputs coefficients) f l₀ t₀ o₀ (courseOf x s) noneHeld l t o) (came-commit c (s .gate) (s .waiting) h cl z) (inv .running)
+
+      all-wait : s .waiting ≡ unchecked c (s .gate)
+      all-wait = ⊎-elim (λ w. w) (λ w. absurd (z (w .1))) (inv .waits)
+
+      pub first-few : s .rounds < mostRounds ops (lentAll f c preps inputs coefficients) * gates c
+      first-few = running-moving _ f l₀ t₀ o₀ able sealing (Commit First) refl .rounds-few
+
+      pub first-asked : (f .parties ≤ mostParties)
+          × Prepared f preps 0 1
+          × Banded f l
+          × (s .used + s .waiting ≤ length coefficients)
+          × Below size coefficients
+          × EachBand f l (λ i x. (e : ℕ) → e < s .waiting → Opened size (layoutOf (f .layout)) x e)
+          × (s .written + f .parties + f .parties ≤ length t)
+      first-asked = check-asked able First sealing refl all-wait
+
+      module _ {v : ℕ} (ev : Is size (heardSum ops (f .parties) revealWords 0 (each (f .parties) (shareIn f preps l (s .waiting) (s .used) coefficients))) v)
+          {t₁ : List ℕ} (et : t₁ ≡ writtenAt (s .written + f .parties) (each (f .parties) (shareIn f preps l (s .waiting) (s .used) coefficients)) (writtenAt (s .written) (each (f .parties) (λ i. mark)) t)) where
+        pub first-stopped : (v ≡ 0 → ⊥) → {a : JointAnswer} → jointAnswerOf a ≡ E.ended Aborted (s .gate) (s .rounds + 2)
+            → Ran (lentAll f c preps inputs coefficients) l₀ t₀ o₀ a l t₁ o
+        first-stopped w e = rw et (check-stopped able First sealing refl all-wait ev w e)
+
+        pub first-passed : v ≡ 0
+            → Standing (lentAll f c preps inputs coefficients) f l₀ t₀ o₀
+            (record { gate = s .gate; prep = s .prep; waiting = 0; used = s .used + s .waiting; written = s .written + f .parties + f .parties; released = s .released; rounds = s .rounds + 2 })
+            places l t₁ o
+        first-passed w =
+            rw et
+            (record {
+              within = inv .within;
+              stands = inv .stands;
+              waits = inr (cl, refl);
+              placed = inv .placed;
+              running =
+                  subst
+                  (λ (x : Point). Running (lentAll f c preps inputs coefficients) f l₀ t₀ o₀
+                  (record { point = x; prep = s .prep; used = s .used + s .waiting; written = s .written + f .parties + f .parties; released = s .released; rounds = s .rounds + 2 }) noneHeld l
+                  (writtenAt (s .written + f .parties) (each (f .parties) (shareIn f preps l (s .waiting) (s .used) coefficients)) (writtenAt (s .written) (each (f .parties) (λ i. mark)) t)) o)
+                  (sym (came-open c (s .gate) 0 h cl refl))
+                  (first-checked able sealing refl all-wait ev w);
+            })
+
+    -- none waits: the output is opened
+    module _ (z : s .waiting ≡ 0) where
+      showing : Running (lentAll f c preps inputs coefficients) f l₀ t₀ o₀ (courseOf (dueAt (s .gate) Open) s) noneHeld l t o
+      showing = subst (λ (x : Point). Running (lentAll f c preps inputs coefficients) f l₀ t₀ o₀ (courseOf x s) noneHeld l t o) (came-open c (s .gate) (s .waiting) h cl z) (inv .running)
+
+      pub show-moving : Moving (lentAll f c preps inputs coefficients) f (courseOf (dueAt (s .gate) Open) s) Open noneHeld l t
+      show-moving = running-moving _ f l₀ t₀ o₀ able showing Open refl
+
+      -- and then checked
+      module _ {s₁ : Stop} {l₁ t₁ : List ℕ}
+          (d : Moved (lentAll f c preps inputs coefficients) f (courseOf (dueAt (s .gate) Open) s) Open noneHeld l t (courseOf (dueAt (s .gate) (Commit Second)) s₁) noneHeld l₁ t₁)
+          (k : Kept s s₁) where
+        shown : Running (lentAll f c preps inputs coefficients) f l₀ t₀ o₀ (courseOf (dueAt (s .gate) (Commit Second)) s₁) noneHeld l₁ t₁ o
+        shown = running-again _ f l₀ t₀ o₀ able showing Open refl (turned-quietly _ f (courseOf (dueAt (s .gate) Open) s) noneHeld l Open refl d (k .released))
+
+        pub second-asked : (f .parties ≤ mostParties)
+            × Prepared f preps 0 1
+            × Banded f l₁
+            × (s₁ .used + 1 ≤ length coefficients)
+            × Below size coefficients
+            × EachBand f l₁ (λ i x. (e : ℕ) → e < 1 → Opened size (layoutOf (f .layout)) x e)
+            × (s₁ .written + f .parties + f .parties ≤ length t₁)
+        second-asked = check-asked able Second shown refl refl
+
+        pub shown-long : length t₁ ≡ length t₀
+        shown-long = shown .long-t
+
+        pub second-room : s₁ .released < length o
+        second-room = output-room able shown refl
+
+        pub second-settles : Prepared f preps 0 1
+            × Banded f l₁
+            × (0 < f .parties)
+            × EachBand f l₁ (λ i x. Settles size c (layoutOf (f .layout)) (keyIn f preps i) x (s .gate + 1))
+        second-settles = output-settles able shown refl
+
+        pub second-band : f .scratch ≤ length l₁
+        second-band = omega (arith, band-end (f .parties) (f .scratch) 0 (second-settles .2), second-settles .1 .room)
+
+        module _ {v : ℕ} (ev : Is size (heardSum ops (f .parties) revealWords 0 (each (f .parties) (shareIn f preps l₁ 1 (s₁ .used) coefficients))) v)
+            {t₂ : List ℕ} (et : t₂ ≡ writtenAt (s₁ .written + f .parties) (each (f .parties) (shareIn f preps l₁ 1 (s₁ .used) coefficients)) (writtenAt (s₁ .written) (each (f .parties) (λ i. mark)) t₁)) where
+          pub second-stopped : (v ≡ 0 → ⊥) → {a : JointAnswer} → jointAnswerOf a ≡ E.ended Aborted (s .gate) (s₁ .rounds + 2)
+              → Ran (lentAll f c preps inputs coefficients) l₀ t₀ o₀ a l₁ t₂ o
+          second-stopped w e = rw et (check-stopped able Second shown refl refl ev w e)
+
+          module _ (w : v ≡ 0) {stop : ℕ} (es : stop ≡ reach c (gates c - (s .gate + 1)) (s .gate + 1))
+              {l₂ : List ℕ} (el : l₂ ≡ rebanded f (settledLeft f c preps l₁ (s .gate + 1)) l₁) {x : ℕ} (ex : x ≡ read (layout c) (band (f .scratch) l₁ 0) (Value 0)) where
+            -- nothing waits after an output
+            none-waits : 0 ≡ unchecked c stop
+            unfolding unchecked uncheckedAfter
+            none-waits = rw (es, waits-stop c (s .gate) h, add-one (s .gate), class-is cl)
+
+            pub second-passed : Standing (lentAll f c preps inputs coefficients) f l₀ t₀ o₀
+                (record { gate = stop; prep = s₁ .prep; waiting = 0; used = s₁ .used + 1; written = s₁ .written + f .parties + f .parties; released = s₁ .released + 1; rounds = s₁ .rounds + 2 })
+                places l₂ t₂ (set o (s₁ .released) x)
+            second-passed =
+                rw et
+                (record {
+                  within = stop-within c (s .gate) h es;
+                  stands = stop-stands c (s .gate) h es;
+                  waits = inl none-waits;
+                  placed = places-stay _ f l₀ t₀ o₀ able inv h (output-no-in cl) es;
+                  running =
+                      subst
+                      (λ (y : Point). Running (lentAll f c preps inputs coefficients) f l₀ t₀ o₀
+                      (record { point = y; prep = s₁ .prep; used = s₁ .used + 1; written = s₁ .written + f .parties + f .parties; released = s₁ .released + 1; rounds = s₁ .rounds + 2 }) noneHeld l₂
+                      (writtenAt (s₁ .written + f .parties) (each (f .parties) (shareIn f preps l₁ 1 (s₁ .used) coefficients)) (writtenAt (s₁ .written) (each (f .parties) (λ i. mark)) t₁)) (set o (s₁ .released) x))
+                      (resume-came c (s .gate) h es none-waits)
+                      (second-checked able shown refl ev w el ex);
+                })
+
+  -- no gate is left
+  pub standing-over : {s : Stop} {places l t o : List ℕ} → Standing (lentAll f c preps inputs coefficients) f l₀ t₀ o₀ s places l t o → gates c ≤ s .gate
+      → {a : JointAnswer} → jointAnswerOf a ≡ E.Done (s .rounds) → Ran (lentAll f c preps inputs coefficients) l₀ t₀ o₀ a l t o
+  unfolding finished E.ended
+  standing-over {s} {l = l} {t = t} {o = o} inv h e =
+      running-over (lentAll f c preps inputs coefficients) f l₀ t₀ o₀ able
+      (subst (λ (x : Point). Running (lentAll f c preps inputs coefficients) f l₀ t₀ o₀ (courseOf x s) noneHeld l t o) (came-end c (s .gate) (s .waiting) h) (inv .running))
+      over-finished e
+
+  -- before the first gate
+  first-gate : 0 < gates c
+  first-gate = omega (arith, able .lent .valid .two)
+
+  pub standing-start : {places : List ℕ} → Placed (f .parties) c 0 places
+      → Standing (lentAll f c preps inputs coefficients) f l₀ t₀ o₀
+      (record { gate = 0; prep = 1; waiting = 0; used = 0; written = 0; released = 0; rounds = 0 }) places l₀ t₀ o₀
+  unfolding unchecked isClass dueIn
+  standing-start k =
+      record {
+        within = omega arith;
+        stands = λ h. ap (isClass Local) (gate-zero (able .lent .valid));
+        waits = inl refl;
+        placed = k;
+        running =
+            running-start (lentAll f c preps inputs coefficients) f l₀ t₀ o₀ able
+            (courseOf (cameTo c 0 0) (record { gate = 0; prep = 1; waiting = 0; used = 0; written = 0; released = 0; rounds = 0 }))
+            (record { point = came-own c 0 0 first-gate (gate-zero (able .lent .valid)) refl; prep = refl; used = refl; written = refl; released = refl; rounds = refl });
+      }

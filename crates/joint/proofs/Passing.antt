@@ -1,0 +1,97 @@
+-- A run from gate to gate: what stands at a gate that it comes to, and that the rounds of the gate lead to the next one.
+-- Assumes nothing.
+use Prim.Native.Nat.{ℕ, suc, _+_, _-_, _<_, _≤_}
+use mathlib.Core.Path.{_≡_, refl, sym, subst, _∙_}
+use mathlib.Core.Bool.{false}
+use mathlib.Core.List.{List, []}
+use mathlib.Core.Logic.{_⊎_, inl, ⊎-elim}
+use native.Mathlib.Omega.{arith}
+use lib.ListN.{take, take-append-drop}
+use Rattle.field.specs.Words.{ops}
+use Rattle.circuit.specs.Gate.{gate, gates}
+use Rattle.circuit.specs.Kind.{Class, Owned, Output, shape, isClass, isLinear}
+use Rattle.circuit.specs.Count.{unchecked}
+use Rattle.circuit.specs.Round.{Round, Own}
+use Rattle.circuit.proofs.KindLaws.{class-is}
+use Rattle.circuit.proofs.Tests.{false-no}
+use Rattle.protocol.specs.Position.{Point, reach, resume}
+use Rattle.protocol.specs.Entry.{releases}
+use Rattle.protocol.specs.Joint.{Joint}
+use Rattle.protocol.specs.Run.{released}
+use Rattle.protocol.specs.JointEntry as E
+use Rattle.joint.specs.declared.Frame.{Frame}
+use Rattle.joint.specs.declared.Stop.{Stop}
+use Rattle.joint.specs.Code.{Course, courseOf, dueAt, dueIn, cameTo, Placed, stateOf, noneHeld, Moving, Moved, Turned, Kept, Passed, Runnable}
+use Rattle.joint.proofs.Arrays.{counted-other, placed-small, placed-on}
+use Rattle.joint.proofs.Later.{placed-stop}
+use Rattle.joint.proofs.Stops.{came-own, stop-within, stop-stands, resume-came}
+use Rattle.joint.proofs.Running.{Running, running-moving, running-again}
+
+-- a round that releases nothing leaves the outputs
+module _ (J : Joint) (f : Frame) (s : Course) (held l : List ℕ) (r : Round) (e : releases r ≡ false) where
+  none-released : released ops J (stateOf f s held l) r ≡ []
+  unfolding released
+  none-released = rw e
+
+  pub turned-quietly : {t o : List ℕ} {s′ : Course} {held′ l′ t′ : List ℕ} → Moved J f s r held l t s′ held′ l′ t′ → s′ .released ≡ s .released
+      → Turned J f s r held l t o s′ held′ l′ t′ o
+  turned-quietly {o = o} d k =
+      record {
+        moved = d;
+        outputs = rw none-released (let z : s .released + 0 ≡ s .released = omega arith in rw z (sym (take-append-drop (s .released) o)));
+        given = rw none-released (omega (arith, k));
+      }
+
+module _ (J : Joint) (f : Frame) (l₀ t₀ o₀ : List ℕ) where
+  abbrev c : List ℕ
+  c = J .circuit
+
+  -- the run has come to a gate that has rounds, or to the end
+  pub record Standing (s : Stop) (places l t o : List ℕ) : Type 0 where
+    pub within : s .gate ≤ gates (J .circuit)
+    pub stands : s .gate < gates (J .circuit) → isLinear (gate (J .circuit) (s .gate)) ≡ false
+    pub waits : (s .waiting ≡ unchecked (J .circuit) (s .gate)) ⊎ ((shape (gate (J .circuit) (s .gate)) .class ≡ Output) × (s .waiting ≡ 0))
+    pub placed : Placed (J .parties) (J .circuit) (s .gate) places
+    pub running : Running J f l₀ t₀ o₀ (courseOf (cameTo (J .circuit) (s .gate) (s .waiting)) s) noneHeld l t o
+
+  module _ (able : Runnable J f l₀ t₀ o₀) {s : Stop} {places l t o : List ℕ} (inv : Standing s places l t o) (h : s .gate < gates (J .circuit)) where
+    -- gates that take no input leave the places of inputs
+    pub places-stay : isClass Owned (shape (gate (J .circuit) (s .gate)) .class) ≡ false → {stop : ℕ}
+        → stop ≡ reach (J .circuit) (gates (J .circuit) - (s .gate + 1)) (s .gate + 1)
+        → Placed (J .parties) (J .circuit) stop places
+    places-stay e es =
+        rw es
+        (placed-stop (J .circuit) (s .gate) h
+        (placed-on (inv .placed) (counted-other (placed-small (inv .placed) (able .lent .valid) (inv .within)) e)))
+
+    -- gates whose own round is due
+    module _ {k : Class} (cl : shape (gate (J .circuit) (s .gate)) .class ≡ k) (own : dueIn k (s .waiting) ≡ Own) (quiet : isClass Output k ≡ false) where
+      own-running : Running J f l₀ t₀ o₀ (courseOf (dueAt (s .gate) Own) s) noneHeld l t o
+      own-running =
+          subst (λ (x : Point). Running J f l₀ t₀ o₀ (courseOf x s) noneHeld l t o) (came-own (J .circuit) (s .gate) (s .waiting) h cl own) (inv .running)
+
+      pub own-waits : s .waiting ≡ unchecked (J .circuit) (s .gate)
+      own-waits = ⊎-elim (λ w. w) (λ w. false-no (sym quiet ∙ class-is (sym cl ∙ w .0))) (inv .waits)
+
+      pub own-moving : Moving J f (courseOf (dueAt (s .gate) Own) s) Own noneHeld l t
+      own-moving = running-moving J f l₀ t₀ o₀ able own-running Own refl
+
+      -- they lead to the next gate
+      pub own-passed : {s′ : Stop} {places′ l′ t′ : List ℕ}
+          → Moved J f (courseOf (dueAt (s .gate) Own) s) Own noneHeld l t (courseOf (resume (J .circuit) (suc (s .gate))) s′) noneHeld l′ t′
+          → Kept s s′
+          → Passed (J .circuit) s s′
+          → Placed (J .parties) (J .circuit) (s′ .gate) places′
+          → Standing s′ places′ l′ t′ o
+      own-passed {s′} {places′} {l′} {t′} d k p q =
+          record {
+            within = stop-within (J .circuit) (s .gate) h (p .gate);
+            stands = stop-stands (J .circuit) (s .gate) h (p .gate);
+            waits = inl (p .waiting);
+            placed = q;
+            running =
+                subst (λ (x : Point). Running J f l₀ t₀ o₀ (courseOf x s′) noneHeld l′ t′ o)
+                (resume-came (J .circuit) (s .gate) h (p .gate) (p .waiting))
+                (running-again J f l₀ t₀ o₀ able own-running Own refl
+                (turned-quietly J f (courseOf (dueAt (s .gate) Own) s) noneHeld l Own refl d (k .released)));
+          }
