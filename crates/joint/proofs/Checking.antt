@@ -1,6 +1,6 @@
 -- A check: the marks of all and then their check shares in the transcript, and what both rounds leave.
 -- Assumes nothing.
-use Prim.Native.Nat.{ℕ, zero, suc, _+_, _-_, _*_, _<_, _≤_}
+use Prim.Native.Nat.{ℕ, _+_, _-_, _*_, _<_, _≤_}
 use mathlib.Core.Path.{_≡_, refl, ap, _∙_}
 use mathlib.Core.List.{List, [], _∷_}
 use native.Mathlib.Omega.{arith}
@@ -12,7 +12,7 @@ use Rattle.algebra.proofs.Ring.{sub-lt}
 use Rattle.protocol.specs.Send.{checkShare}
 use Rattle.protocol.specs.Holding.{Below}
 use Rattle.protocol.proofs.Words.{length-joined}
-use Rattle.protocol.proofs.Said.{below-joined}
+use Rattle.protocol.proofs.Said.{below-joined, below-one}
 use Rattle.joint.specs.declared.Frame.{Frame}
 use Rattle.joint.specs.Code.{shareIn, each, writtenAt}
 use Rattle.joint.proofs.Written.{written-length}
@@ -22,12 +22,8 @@ use Rattle.joint.proofs.Rounding.{part-again, put-written, part-long}
 pub length-each : (n : ℕ) (w : ℕ → ℕ) → length (each n w) ≡ n
 length-each n w = length-joined n 1 (λ i. w i ∷ []) (λ i h. refl) ∙ omega arith
 
-one-below : {q x : ℕ} → 0 < q → x < q → Below q (x ∷ [])
-one-below some h zero = h
-one-below some h (suc k) = some
-
 pub below-each : (n : ℕ) (w : ℕ → ℕ) → ((i : ℕ) → w i < size) → Below size (each n w)
-below-each n w h = below-joined (omega arith) n (λ i. w i ∷ []) (λ i l. one-below (omega arith) (h i))
+below-each n w h = below-joined (omega arith) n (λ i. w i ∷ []) (λ i l. below-one (h i))
 
 -- check shares are elements
 pub share-low : (f : Frame) (preps l : List ℕ) (k u : ℕ) (coefficients : List ℕ) (i : ℕ) → shareIn f preps l k u coefficients i < size

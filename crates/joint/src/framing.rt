@@ -13,7 +13,7 @@ ghost use Rattle.protocol.specs.Ask.{mostParties};
 ghost use Rattle.joint.specs.Code.{Small, Counted, CountedOn, Placed, Framed};
 
 // Where gate j is an in gate, the number of its owner goes on.
-pub fn count_input(parties: usize, c: &[Word], j: usize, counts: &mut [usize])
+fn count_input(parties: usize, c: &[Word], j: usize, counts: &mut [usize])
     requires { ⌜ Valid parties size (now c) × (parties ≤ mostParties) × (j < gates (now c)) × Small parties (now counts) ⌝ }
     ensures { λ r. ⌜ CountedOn parties (now (c .entry)) j (now (counts .entry)) (now (counts .exit)) ⌝ }
 {

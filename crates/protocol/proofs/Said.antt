@@ -91,7 +91,7 @@ below-joined some zero f h k = some
 below-joined some (suc n) f h k =
     below-append (joined n f) (f n) (below-joined some n f (λ i l. h i (omega arith))) (h n (omega arith)) k
 
-below-one : {q x : ℕ} → x < q → Below q (x ∷ [])
+pub below-one : {q x : ℕ} → x < q → Below q (x ∷ [])
 below-one h zero = h
 below-one h (suc k) = omega arith
 
