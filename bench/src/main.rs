@@ -7,6 +7,7 @@ mod measure;
 mod plot;
 mod proved;
 mod report;
+mod tuned;
 
 use std::hint::black_box;
 use std::path::PathBuf;

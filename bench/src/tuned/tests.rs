@@ -1,0 +1,1 @@
+//! The entries against the readable implementation.
