@@ -34,6 +34,15 @@ pub fn sub(x: u32, y: u32) -> u32 {
     t.wrapping_add(P & (t as i32 >> 31) as u32)
 }
 
+/// Four numbers that are worked out alike: a share and its MAC share at two parties.
+pub type Quad = [u32; 4];
+
+/// Works out four numbers from those in the same places.
+#[inline(always)]
+pub fn quad(of: impl Fn(usize) -> u32) -> Quad {
+    [of(0), of(1), of(2), of(3)]
+}
+
 pub fn product(x: u32, y: u32) -> u64 {
     u64::from(x) * u64::from(y)
 }

@@ -6,7 +6,7 @@ use reference::circuit::MAX_GATES;
 use reference::{Ending, JointResult, Refusal, P};
 
 use super::field::{
-    add, ask, ask_elements, fold, inner_product, product, reduce, remainder, sub, times,
+    add, ask, ask_elements, fold, inner_product, product, quad, reduce, remainder, sub, times, Quad,
 };
 use super::gates::{Gates, ADD8, IN8, MUL8, PLUS8, SQ8, SUB8, TIMES8};
 
@@ -57,16 +57,17 @@ pub fn joint_run(
         coefficients,
         transcript,
         outputs,
+        width: Width(4 * count.div_ceil(2)),
     };
     let scratch = &mut scratch[..count * band];
     Ok(match parties {
-        2 => run.run::<2>(scratch, band, opened),
-        3 => run.run::<3>(scratch, band, opened),
-        4 => run.run::<4>(scratch, band, opened),
-        5 => run.run::<5>(scratch, band, opened),
-        6 => run.run::<6>(scratch, band, opened),
-        7 => run.run::<7>(scratch, band, opened),
-        _ => run.run::<8>(scratch, band, opened),
+        2 => run.run::<2, 1>(scratch, band, opened),
+        3 => run.run::<3, 2>(scratch, band, opened),
+        4 => run.run::<4, 2>(scratch, band, opened),
+        5 => run.run::<5, 3>(scratch, band, opened),
+        6 => run.run::<6, 3>(scratch, band, opened),
+        7 => run.run::<7, 4>(scratch, band, opened),
+        _ => run.run::<8, 4>(scratch, band, opened),
     })
 }
 
@@ -80,13 +81,77 @@ struct Run<'a> {
     coefficients: &'a [u32],
     transcript: &'a mut [u32],
     outputs: &'a mut [u32],
+    width: Width,
 }
 
-/// A share and its MAC share at each of the parties.
-type Row<const N: usize> = [[u32; 2]; N];
+/// The share and the MAC share of a wire at each of the parties; one more party where their number is odd.
+type Row<const Q: usize> = [Quad; Q];
+
+/// The preprocessing of the two parties of each quad.
+type Preps<'a, const Q: usize> = [[&'a [u32]; 2]; Q];
+
+/// A part of a record, which is a share and its MAC share, at two parties.
+#[inline(always)]
+fn part(preps: &[&[u32]; 2], at: usize) -> Quad {
+    let [one, other] = [&preps[0][at..at + 2], &preps[1][at..at + 2]];
+    [one[0], one[1], other[0], other[1]]
+}
+
+/// Room for the numbers of eight parties in a row.
+const LANES: usize = 16;
+type Lanes = [u32; LANES];
+
+/// Some numbers of a row. That their number is not known beforehand lets the compiler make several products at a time.
+#[derive(Clone, Copy)]
+struct Width(usize);
+
+impl Width {
+    /// Works out the shares and MAC shares of a product from what is opened.
+    #[inline(always)]
+    fn multiply(self, row: &mut Lanes, [a, b, c]: &[Lanes; 3], public: &Lanes, [e, d, ed]: [u32; 3]) {
+        for k in 0..self.0.min(LANES) {
+            let shares = product(b[k], e) + product(a[k], d);
+            row[k] = reduce(u64::from(c[k]) + shares + product(public[k], ed));
+        }
+    }
+
+    /// The same of a square, whose opened number is given twice.
+    #[inline(always)]
+    fn square(self, row: &mut Lanes, [a, c, _]: &[Lanes; 3], public: &Lanes, [twice, ee]: [u32; 2]) {
+        for k in 0..self.0.min(LANES) {
+            row[k] = reduce(u64::from(c[k]) + product(a[k], twice) + product(public[k], ee));
+        }
+    }
+
+    /// Adds a public number.
+    #[inline(always)]
+    fn plus(self, row: &mut Lanes, public: &Lanes, number: u32) {
+        for k in 0..self.0.min(LANES) {
+            row[k] = reduce(u64::from(row[k]) + product(public[k], number));
+        }
+    }
+
+    /// Multiplies by a number, which is given twice.
+    #[inline(always)]
+    fn times(self, row: &mut Lanes, twice: u32) {
+        for x in &mut row[..self.0.min(LANES)] {
+            *x = times(*x, twice);
+        }
+    }
+}
+
+fn quads(lanes: &mut Lanes) -> &mut [Quad] {
+    lanes.as_chunks_mut().0
+}
 
 impl Run<'_> {
-    fn run<const N: usize>(self, scratch: &mut [u32], band: usize, room: usize) -> JointResult {
+    /// Runs N parties, whose numbers lie in Q quads.
+    fn run<const N: usize, const Q: usize>(
+        self,
+        scratch: &mut [u32],
+        band: usize,
+        room: usize,
+    ) -> JointResult {
         let Run {
             gates,
             circuit,
@@ -96,132 +161,138 @@ impl Run<'_> {
             mut coefficients,
             transcript,
             outputs,
+            width,
         } = self;
         let lines = circuit.as_chunks::<4>().0;
-        let keys: [u32; N] = from_fn(|i| preps[i * prep_len]);
+        let prep = |i: usize| &preps[i.min(N - 1) * prep_len..][..prep_len];
+        let lists: Preps<'_, Q> = from_fn(|q| [prep(2 * q), prep(2 * q + 1)]);
+        let keys: [u32; N] = from_fn(|i| prep(i)[0]);
         // A public number counts at party 0 alone, its MAC share at each.
-        let public: [[u32; 2]; N] = from_fn(|i| [u32::from(i == 0), keys[i]]);
+        let mut public = [0; LANES];
+        public[0] = 1;
+        for (i, &key) in keys.iter().enumerate() {
+            public[2 * i + 1] = key;
+        }
         let mut start = 0;
         let mut next_input: [usize; N] = from_fn(|i| {
             let first = start;
             start += gates.owned(i as u8);
             first
         });
-        let mut wires: [Row<N>; MAX_GATES] = [[[0; 2]; N]; MAX_GATES];
+        let mut wires: [Row<Q>; MAX_GATES] = [[[0; 4]; Q]; MAX_GATES];
         let mut opened = [0; ENTRIES];
         let mut opened_macs = [[0; N]; ENTRIES];
-        let (mut record, mut pending, mut used) = (1, 0, 0);
+        // The last entries opened, at all parties.
+        let mut shares: [Row<Q>; 4] = [[[0; 4]; Q]; 4];
+        let mut record = [[0; LANES]; 3];
+        let mut row = [0; LANES];
+        let (mut at_record, mut pending, mut used) = (1, 0, 0);
         let (mut rounds, mut at, mut released) = (0, 0, 0);
         let mut ending = Ending::Finished;
         let mut done = gates.len;
         for (index, (kind, first, second)) in gates.iter().enumerate() {
             let (left, right) = (usize::from(first), usize::from(second));
-            let row = match kind {
+            match kind {
                 IN8 => {
                     let owner = lines[index][1] as usize % N;
                     let words = &mut transcript[at..at + N];
-                    let own = owner * prep_len + record;
-                    let e = sub(inputs[next_input[owner]], preps[own + 2]);
+                    let e = sub(inputs[next_input[owner]], prep(owner)[at_record + 2]);
                     next_input[owner] += 1;
                     words.fill(0);
                     words[owner] = e;
-                    let mut row = [[0; 2]; N];
-                    for (i, (row, prep)) in row.iter_mut().zip(preps.chunks_exact(prep_len)).enumerate() {
-                        for j in 0..2 {
-                            row[j] = reduce(u64::from(prep[record + j]) + product(public[i][j], e));
-                        }
+                    for q in 0..Q {
+                        quads(&mut row)[q] = part(&lists[q], at_record);
                     }
-                    record += 3;
+                    width.plus(&mut row, &public, e);
+                    at_record += 3;
                     rounds += 1;
                     at += N;
-                    row
                 }
                 MUL8 => {
                     let words = &mut transcript[at..at + 2 * N];
                     let entry = pending % ENTRIES;
-                    let (l, r) = (&wires[left], &wires[right]);
-                    let (mut e, mut d) = (0, 0);
-                    for (i, (pair, prep)) in words.as_chunks_mut::<2>().0.iter_mut().zip(preps.chunks_exact(prep_len)).enumerate() {
-                        let a = &prep[record..record + 6];
-                        let x = [l[i][0], l[i][1], r[i][0], r[i][1]];
-                        let y = [sub(x[0], a[0]), sub(x[1], a[1]), sub(x[2], a[2]), sub(x[3], a[3])];
-                        *pair = [y[0], y[2]];
-                        e += u64::from(y[0]);
-                        d += u64::from(y[2]);
-                        opened_macs[entry][i] = y[1];
-                        opened_macs[(entry + 1) % ENTRIES][i] = y[3];
+                    let next = (pending + 1) % ENTRIES;
+                    for q in 0..Q {
+                        let (l, r) = (wires[left][q], wires[right][q]);
+                        let a = part(&lists[q], at_record);
+                        let b = part(&lists[q], at_record + 2);
+                        shares[entry % 4][q] = quad(|k| sub(l[k], a[k]));
+                        shares[next % 4][q] = quad(|k| sub(r[k], b[k]));
                     }
+                    let (e_row, d_row) = (&shares[entry % 4], &shares[next % 4]);
+                    let (mut e, mut d) = (0, 0);
+                    for i in 0..N {
+                        let (x, y) = (e_row[i / 2][i % 2 * 2], d_row[i / 2][i % 2 * 2]);
+                        words[2 * i] = x;
+                        words[2 * i + 1] = y;
+                        e += u64::from(x);
+                        d += u64::from(y);
+                    }
+                    opened_macs[entry] = from_fn(|i| e_row[i / 2][i % 2 * 2 + 1]);
+                    opened_macs[next] = from_fn(|i| d_row[i / 2][i % 2 * 2 + 1]);
                     let (e, d) = (remainder(e), remainder(d));
                     opened[entry] = e;
-                    opened[(entry + 1) % ENTRIES] = d;
+                    opened[next] = d;
                     let ed = fold(product(e, d)) as u32;
-                    let mut row = [[0; 2]; N];
-                    for (i, (row, prep)) in row.iter_mut().zip(preps.chunks_exact(prep_len)).enumerate() {
-                        let a = &prep[record..record + 6];
-                        for j in 0..2 {
-                            row[j] = reduce(
-                                u64::from(a[4 + j])
-                                    + product(a[2 + j], e)
-                                    + product(a[j], d)
-                                    + product(public[i][j], ed),
-                            );
+                    for q in 0..Q {
+                        for (number, record) in record.iter_mut().enumerate() {
+                            quads(record)[q] = part(&lists[q], at_record + 2 * number);
                         }
                     }
-                    record += 6;
+                    width.multiply(&mut row, &record, &public, [e, d, ed]);
+                    at_record += 6;
                     pending += 2;
                     rounds += 1;
                     at += 2 * N;
-                    row
                 }
                 SQ8 => {
                     let words = &mut transcript[at..at + N];
                     let entry = pending % ENTRIES;
-                    let l = &wires[left];
-                    let mut e = 0;
-                    for (i, (word, prep)) in words.iter_mut().zip(preps.chunks_exact(prep_len)).enumerate() {
-                        let a = &prep[record..record + 4];
-                        let y = [sub(l[i][0], a[0]), sub(l[i][1], a[1])];
-                        *word = y[0];
-                        e += u64::from(y[0]);
-                        opened_macs[entry][i] = y[1];
+                    for q in 0..Q {
+                        let (l, a) = (wires[left][q], part(&lists[q], at_record));
+                        shares[entry % 4][q] = quad(|k| sub(l[k], a[k]));
                     }
+                    let e_row = &shares[entry % 4];
+                    let mut e = 0;
+                    for i in 0..N {
+                        let x = e_row[i / 2][i % 2 * 2];
+                        words[i] = x;
+                        e += u64::from(x);
+                    }
+                    opened_macs[entry] = from_fn(|i| e_row[i / 2][i % 2 * 2 + 1]);
                     let e = remainder(e);
                     opened[entry] = e;
                     let ee = fold(product(e, e)) as u32;
-                    let mut row = [[0; 2]; N];
-                    for (i, (row, prep)) in row.iter_mut().zip(preps.chunks_exact(prep_len)).enumerate() {
-                        let a = &prep[record..record + 4];
-                        for j in 0..2 {
-                            row[j] = reduce(
-                                u64::from(a[2 + j])
-                                    + product(a[j], 2 * e)
-                                    + product(public[i][j], ee),
-                            );
+                    for q in 0..Q {
+                        for (number, record) in record[..2].iter_mut().enumerate() {
+                            quads(record)[q] = part(&lists[q], at_record + 2 * number);
                         }
                     }
-                    record += 4;
+                    width.square(&mut row, &record, &public, [2 * e, ee]);
+                    at_record += 4;
                     pending += 1;
                     rounds += 1;
                     at += N;
-                    row
                 }
                 ADD8 => {
-                    let (l, r) = (&wires[left], &wires[right]);
-                    from_fn(|i| from_fn(|j| add(l[i][j], r[i][j])))
+                    for q in 0..Q {
+                        let (l, r) = (wires[left][q], wires[right][q]);
+                        quads(&mut row)[q] = quad(|k| add(l[k], r[k]));
+                    }
                 }
                 SUB8 => {
-                    let (l, r) = (&wires[left], &wires[right]);
-                    from_fn(|i| from_fn(|j| sub(l[i][j], r[i][j])))
+                    for q in 0..Q {
+                        let (l, r) = (wires[left][q], wires[right][q]);
+                        quads(&mut row)[q] = quad(|k| sub(l[k], r[k]));
+                    }
                 }
                 PLUS8 => {
-                    let (l, constant) = (&wires[left], lines[index][3]);
-                    from_fn(|i| {
-                        from_fn(|j| reduce(u64::from(l[i][j]) + product(public[i][j], constant)))
-                    })
+                    quads(&mut row)[..Q].copy_from_slice(&wires[left]);
+                    width.plus(&mut row, &public, lines[index][3]);
                 }
                 TIMES8 => {
-                    let (l, twice) = (&wires[left], lines[index][3].wrapping_mul(2));
-                    from_fn(|i| from_fn(|j| times(l[i][j], twice)))
+                    quads(&mut row)[..Q].copy_from_slice(&wires[left]);
+                    width.times(&mut row, lines[index][3].wrapping_mul(2));
                 }
                 _ => {
                     if pending > 0 {
@@ -245,19 +316,19 @@ impl Run<'_> {
                     rounds += 3;
                     at += 3 * N;
                     used = used.max(1);
-                    let row = &wires[left];
+                    let shown_row: [[u32; 2]; N] = from_fn(|i| pair(&wires[left], i));
                     let mut sum = 0;
                     for i in 0..N {
-                        shown[i] = row[i][0];
-                        sum += u64::from(row[i][0]);
+                        shown[i] = shown_row[i][0];
+                        sum += u64::from(shown_row[i][0]);
                     }
                     let sum = remainder(sum);
                     opened[0] = sum;
-                    opened_macs[0] = row.map(|pair| pair[1]);
+                    opened_macs[0] = shown_row.map(|pair| pair[1]);
                     let now = coefficients[0];
                     coefficients = &coefficients[1..];
                     let v = reduce(product(now, sum));
-                    let sums = row.map(|pair| product(now, pair[1]));
+                    let sums = shown_row.map(|pair| product(now, pair[1]));
                     if !reveal(words, sums, v, &keys) {
                         ending = Ending::Aborted { gate: index as u32 };
                         done = index;
@@ -266,10 +337,14 @@ impl Run<'_> {
                     outputs[released] = sum;
                     released += 1;
                     // An out gate's slots stay as they are.
-                    from_fn(|i| [scratch[i * band + index], scratch[i * band + gates.len + index]])
+                    for i in 0..N {
+                        let slots = i * band + index;
+                        row[2 * i] = scratch[slots];
+                        row[2 * i + 1] = scratch[slots + gates.len];
+                    }
                 }
             };
-            wires[index] = row;
+            wires[index].copy_from_slice(&quads(&mut row)[..Q]);
         }
         used = used.max(pending);
         for (i, band) in scratch.chunks_exact_mut(band).enumerate().take(N) {
@@ -277,7 +352,7 @@ impl Run<'_> {
             let (macs, band) = band.split_at_mut(gates.len);
             let (values, value_macs) = band.split_at_mut(room);
             for ((share, mac), row) in shares.iter_mut().zip(macs).zip(&wires[..done]) {
-                [*share, *mac] = row[i];
+                (*share, *mac) = (row[i / 2][i % 2 * 2], row[i / 2][i % 2 * 2 + 1]);
             }
             values[..used].copy_from_slice(&opened[..used]);
             for (mac, row) in value_macs.iter_mut().zip(&opened_macs[..used]) {
@@ -291,6 +366,14 @@ impl Run<'_> {
             words: at,
         }
     }
+}
+
+/// A party's share and MAC share.
+#[inline(always)]
+fn pair<const Q: usize>(row: &Row<Q>, party: usize) -> [u32; 2] {
+    let quad = row[party / 2];
+    let place = party % 2 * 2;
+    [quad[place], quad[place + 1]]
 }
 
 /// The sums of coefficient times MAC share at each party.
