@@ -56,32 +56,45 @@ pub fn times(x: u32, twice: u32) -> u32 {
 
 const LANES: usize = 16;
 
-/// The numbers and their successors, put together by bits in four lanes.
-type Bits = ([u32; 4], [u32; 4]);
-
-#[inline(always)]
-fn with((mut top, mut next): Bits, numbers: &[u32; LANES]) -> Bits {
-    for (lane, &x) in numbers.iter().enumerate() {
-        top[lane % 4] |= x;
-        next[lane % 4] |= x.wrapping_add(1);
-    }
-    (top, next)
+/// Numbers put together by bits.
+#[derive(Default)]
+struct Bits {
+    numbers: [u32; 4],
+    successors: [u32; 4],
 }
 
-/// Whether all numbers are below `P`: none of them has bit 31, nor gets it when 1 is added. The last lanes of a list may
-/// be asked twice.
-pub fn all_elements(list: &[u32]) -> bool {
-    let mut short = [0; LANES];
-    let last = list.last_chunk().unwrap_or_else(|| {
-        short[..list.len()].copy_from_slice(list);
-        &short
-    });
-    let mut bits = with(Default::default(), last);
-    for numbers in list.as_chunks().0 {
-        bits = with(bits, numbers);
+impl Bits {
+    #[inline(always)]
+    fn add(&mut self, numbers: &[u32; LANES]) {
+        for (lane, &x) in numbers.iter().enumerate() {
+            self.numbers[lane % 4] |= x;
+            self.successors[lane % 4] |= x.wrapping_add(1);
+        }
     }
-    let (top, next) = bits;
-    (0..4).all(|lane| (top[lane] | next[lane]) >> 31 == 0)
+
+    /// Whether no number has bit 31, nor gets it when 1 is added.
+    #[inline(always)]
+    fn elements(&self) -> bool {
+        let both = self.numbers.iter().zip(&self.successors);
+        both.fold(true, |yes, (x, y)| yes & ((x | y) >> 31 == 0))
+    }
+}
+
+/// Whether all numbers are below `P`. The last lanes of a list may be asked twice.
+pub fn all_elements(list: &[u32]) -> bool {
+    let mut bits = Bits::default();
+    for numbers in list.as_chunks().0 {
+        bits.add(numbers);
+    }
+    match list.last_chunk() {
+        Some(last) => bits.add(last),
+        None => {
+            let mut last = [0; LANES];
+            last[..list.len()].copy_from_slice(list);
+            bits.add(&last);
+        }
+    }
+    bits.elements()
 }
 
 /// Asks whether all numbers are below `P`; the refusal has the index of the first no.

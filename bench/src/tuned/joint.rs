@@ -351,9 +351,7 @@ impl Run<'_> {
             let (shares, band) = band.split_at_mut(gates.len);
             let (macs, band) = band.split_at_mut(gates.len);
             let (values, value_macs) = band.split_at_mut(room);
-            for ((share, mac), row) in shares.iter_mut().zip(macs).zip(&wires[..done]) {
-                (*share, *mac) = (row[i / 2][i % 2 * 2], row[i / 2][i % 2 * 2 + 1]);
-            }
+            write_shares(shares, macs, &wires[..done], i);
             values[..used].copy_from_slice(&opened[..used]);
             for (mac, row) in value_macs.iter_mut().zip(&opened_macs[..used]) {
                 *mac = row[i];
@@ -365,6 +363,26 @@ impl Run<'_> {
             outputs: released,
             words: at,
         }
+    }
+}
+
+/// Writes a party's shares and MAC shares.
+fn write_shares<const Q: usize>(
+    shares: &mut [u32],
+    macs: &mut [u32],
+    wires: &[Row<Q>],
+    party: usize,
+) {
+    let (q, place) = (party / 2 % Q, party % 2 * 2);
+    let (four_shares, shares) = shares[..wires.len()].as_chunks_mut::<4>();
+    let (four_macs, macs) = macs[..wires.len()].as_chunks_mut::<4>();
+    let (four_wires, wires) = wires.as_chunks::<4>();
+    for ((shares, macs), rows) in four_shares.iter_mut().zip(four_macs).zip(four_wires) {
+        *shares = quad(|k| rows[k][q][place]);
+        *macs = quad(|k| rows[k][q][place + 1]);
+    }
+    for ((share, mac), row) in shares.iter_mut().zip(macs).zip(wires) {
+        (*share, *mac) = (row[q][place], row[q][place + 1]);
     }
 }
 
