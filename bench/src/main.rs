@@ -1,6 +1,7 @@
-//! Compares the proved entries with the Rust implementation: first that both give equal answers and
-//! leave equal lists on every case, then, unless asked for a smoke test, how long each takes.
+//! Compares the proved entries with the Rust implementation and with Rust written for speed: first that all give equal
+//! answers and leave equal lists on every case, then, unless asked for a smoke test, how long each takes.
 
+mod agreement;
 mod answers;
 mod cases;
 mod measure;
@@ -16,7 +17,7 @@ use reference::random::Random;
 use reference::{field, Round, P};
 
 use cases::{Halves, Lists, Run, Sheet, LONGEST_ROW};
-use measure::{compare, Pair};
+use measure::{compare, Sides};
 use report::{Facts, JointRow, Report, SheetRow, SingleRow, SquareRow};
 
 const PARTIES: [u32; 3] = [2, 5, 8];
@@ -62,33 +63,62 @@ fn rust_joint(run: &Run, lists: &mut Lists) -> answers::Answer {
     ))
 }
 
+fn tuned_joint(run: &Run, lists: &mut Lists) -> answers::Answer {
+    answers::joint(tuned::joint_run(
+        run.parties,
+        &run.circuit,
+        &run.preps,
+        &run.inputs,
+        &mut lists.scratch,
+        &run.coefficients,
+        &mut lists.transcript,
+        &mut lists.outputs,
+    ))
+}
+
 /// Whether the proved entries know squares. If not, question 4 refuses the circuit.
 fn knows_squares() -> bool {
     let run = Run::squares(2, 64);
     proved_joint(&run, &mut run.lists())[..2] != answers::refused(4, 0)[..2]
 }
 
-/// A joint run, on which both must agree.
-fn joint(run: &Run) -> Pair<'_> {
-    let (mut left, mut right) = (run.lists(), run.lists());
+/// A joint run, on which all must agree.
+fn joint(run: &Run) -> Sides<'_> {
+    let (mut left, mut right, mut other) = (run.lists(), run.lists(), run.lists());
     let answer = proved_joint(run, &mut left);
     assert_eq!(answer, rust_joint(run, &mut right), "joint run");
+    assert_eq!(answer, tuned_joint(run, &mut other), "joint run, tuned");
     assert_eq!(answer[0], 1, "the joint run finishes");
     assert_eq!(left, right, "lists of the joint run");
-    left.clear();
-    right.clear();
-    Pair {
+    assert_eq!(left, other, "lists of the joint run, tuned");
+    for lists in [&mut left, &mut right, &mut other] {
+        lists.clear();
+    }
+    Sides {
         proved: Box::new(move || {
             black_box(proved_joint(black_box(run), &mut left));
         }),
         rust: Box::new(move || {
             black_box(rust_joint(black_box(run), &mut right));
         }),
+        tuned: Some(Box::new(move || {
+            black_box(tuned_joint(black_box(run), &mut other));
+        })),
     }
 }
 
 fn rust_send(run: &Run, halves: &Halves, out: &mut [u32]) -> answers::Answer {
     answers::sent(reference::send(
+        &run.party(SINGLE_PARTY),
+        &halves.scratch,
+        halves.send_at,
+        &halves.coefficients,
+        out,
+    ))
+}
+
+fn tuned_send(run: &Run, halves: &Halves, out: &mut [u32]) -> answers::Answer {
+    answers::sent(tuned::send(
         &run.party(SINGLE_PARTY),
         &halves.scratch,
         halves.send_at,
@@ -107,9 +137,19 @@ fn rust_receive(run: &Run, halves: &Halves, scratch: &mut [u32]) -> answers::Ans
     ))
 }
 
-fn send<'a>(run: &'a Run, halves: &'a Halves) -> Pair<'a> {
+fn tuned_receive(run: &Run, halves: &Halves, scratch: &mut [u32]) -> answers::Answer {
     let lent = run.party(SINGLE_PARTY);
-    let (mut left, mut right) = ([0; 2], [0; 2]);
+    answers::received(tuned::receive(
+        &lent,
+        scratch,
+        halves.receive_at,
+        &halves.heard,
+    ))
+}
+
+fn send<'a>(run: &'a Run, halves: &'a Halves) -> Sides<'a> {
+    let lent = run.party(SINGLE_PARTY);
+    let (mut left, mut right, mut other) = ([0; 2], [0; 2], [0; 2]);
     let answer = proved::send(
         &lent,
         &halves.scratch,
@@ -118,9 +158,15 @@ fn send<'a>(run: &'a Run, halves: &'a Halves) -> Pair<'a> {
         &mut left,
     );
     assert_eq!(answer, rust_send(run, halves, &mut right), "sending");
+    assert_eq!(
+        answer,
+        tuned_send(run, halves, &mut other),
+        "sending, tuned"
+    );
     assert_eq!(answer[0], 1, "sending is not refused");
     assert_eq!(left, right, "words sent");
-    Pair {
+    assert_eq!(left, other, "words sent, tuned");
+    Sides {
         proved: Box::new(move || {
             black_box(proved::send(
                 black_box(&lent),
@@ -133,20 +179,27 @@ fn send<'a>(run: &'a Run, halves: &'a Halves) -> Pair<'a> {
         rust: Box::new(move || {
             black_box(rust_send(black_box(run), halves, &mut right));
         }),
+        tuned: Some(Box::new(move || {
+            black_box(tuned_send(black_box(run), halves, &mut other));
+        })),
     }
 }
 
 /// A round received again from the scratch it left gives the same answer and the same scratch.
-fn receive<'a>(run: &'a Run, halves: &'a Halves) -> Pair<'a> {
+fn receive<'a>(run: &'a Run, halves: &'a Halves) -> Sides<'a> {
     let lent = run.party(SINGLE_PARTY);
-    let (mut left, mut right) = (halves.scratch.clone(), halves.scratch.clone());
+    let mut left = halves.scratch.clone();
+    let (mut right, mut other) = (left.clone(), left.clone());
     for _ in 0..2 {
         let answer = proved::receive(&lent, &mut left, halves.receive_at, &halves.heard);
         assert_eq!(answer, rust_receive(run, halves, &mut right), "receiving");
+        let tuned = tuned_receive(run, halves, &mut other);
+        assert_eq!(answer, tuned, "receiving, tuned");
         assert!(answer[0] == 1 || answer[0] == 2, "receiving is not refused");
         assert_eq!(left, right, "scratch");
+        assert_eq!(left, other, "scratch, tuned");
     }
-    Pair {
+    Sides {
         proved: Box::new(move || {
             black_box(proved::receive(
                 black_box(&lent),
@@ -158,6 +211,9 @@ fn receive<'a>(run: &'a Run, halves: &'a Halves) -> Pair<'a> {
         rust: Box::new(move || {
             black_box(rust_receive(black_box(run), halves, &mut right));
         }),
+        tuned: Some(Box::new(move || {
+            black_box(tuned_receive(black_box(run), halves, &mut other));
+        })),
     }
 }
 
@@ -173,30 +229,68 @@ fn rust_scale(values: &mut [u32], by: u32) -> bool {
     true
 }
 
-fn product<'a>() -> Pair<'a> {
+/// The lists that scaling leaves: the same answer and list of all three sides, and nothing written where it is refused.
+fn scaled(values: &[u32], by: u32) -> Vec<u32> {
+    let [mut left, mut right, mut other] = [values.to_vec(), values.to_vec(), values.to_vec()];
+    let answer = proved::scale(&mut left, by);
+    assert_eq!(answer, rust_scale(&mut right, by), "products by {by}");
+    let tuned = tuned::scale(&mut other, by);
+    assert_eq!(answer, tuned, "products by {by}, tuned");
+    assert_eq!(left, right, "products by {by}");
+    assert_eq!(left, other, "products by {by}, tuned");
+    assert!(answer || left == values, "a refusal writes nothing");
+    left
+}
+
+/// Factors and numbers whose products lie about the powers of 2 and the multiples of the prime.
+const EDGES: [u32; 9] = [0, 1, 2, 32768, 46341, 65536, 1 << 30, P - 2, P - 1];
+
+/// Products of numbers at the edges, in lists of every length up to a few lanes, and numbers that are none in every place.
+fn product_edges() {
+    for by in EDGES {
+        for len in 0..4 * EDGES.len() {
+            let mut values: Vec<u32> = EDGES.into_iter().cycle().take(len).collect();
+            let expected = values.iter().map(|&value| {
+                let product = u64::from(value) * u64::from(by);
+                (product % u64::from(P)) as u32
+            });
+            assert_eq!(scaled(&values, by), expected.collect::<Vec<u32>>());
+            for place in 0..len {
+                for none in [P, P + 1, u32::MAX] {
+                    let value = std::mem::replace(&mut values[place], none);
+                    assert_eq!(scaled(&values, by), values, "a number that is none");
+                    values[place] = value;
+                }
+            }
+        }
+    }
+    for by in [P, P + 1, u32::MAX] {
+        assert_eq!(scaled(&EDGES, by), EDGES, "a factor that is none");
+    }
+}
+
+fn product<'a>() -> Sides<'a> {
+    product_edges();
     let random = &mut Random::new(7);
-    let (mut left, by) = (random.elements(PRODUCTS), random.element());
+    let (values, by) = (random.elements(PRODUCTS), random.element());
+    let mut left = scaled(&values, by);
     let mut right = left.clone();
-    assert!(proved::scale(&mut left, by) && rust_scale(&mut right, by));
-    assert_eq!(left, right, "products");
-    left[1] = P;
-    right[1] = P;
-    assert!(!proved::scale(&mut left, by) && !rust_scale(&mut right, by));
-    assert_eq!(left, right, "nothing is written where a number is none");
-    left[1] = 1;
-    right[1] = 1;
-    Pair {
+    let mut other = left.clone();
+    Sides {
         proved: Box::new(move || {
             black_box(proved::scale(black_box(&mut left), black_box(by)));
         }),
         rust: Box::new(move || {
             black_box(rust_scale(black_box(&mut right), black_box(by)));
         }),
+        tuned: Some(Box::new(move || {
+            black_box(tuned::scale(black_box(&mut other), black_box(by)));
+        })),
     }
 }
 
 /// A sheet that is read, on which both must agree, and on every text that begins as it does.
-fn reading(sheet: &Sheet) -> Pair<'_> {
+fn reading(sheet: &Sheet) -> Sides<'_> {
     let (mut left, mut right) = (vec![0; sheet.circuit.len()], vec![0; sheet.circuit.len()]);
     for len in 0..=sheet.text.len() {
         let text = &sheet.text[..len];
@@ -206,7 +300,8 @@ fn reading(sheet: &Sheet) -> Pair<'_> {
         assert_eq!(left, right, "the circuit read");
     }
     assert_eq!(left, sheet.circuit, "the whole sheet is read");
-    Pair {
+    Sides {
+        tuned: None,
         proved: Box::new(move || {
             black_box(proved::read_sheet(
                 sheet.parties,
@@ -222,14 +317,15 @@ fn reading(sheet: &Sheet) -> Pair<'_> {
 }
 
 /// The circuit of a sheet that is written as one.
-fn writing(sheet: &Sheet) -> Pair<'_> {
+fn writing(sheet: &Sheet) -> Sides<'_> {
     let room = LONGEST_ROW * sheet.gates();
     let (mut left, mut right) = (vec![0; room], vec![0; room]);
     let answer = proved::write_sheet(sheet.parties, &sheet.circuit, &mut left);
     let rust = reference::write_sheet(sheet.parties, &sheet.circuit, &mut right);
     assert_eq!(answer, answers::written(rust), "writing");
     assert_eq!(left, right, "the sheet written");
-    Pair {
+    Sides {
+        tuned: None,
         proved: Box::new(move || {
             black_box(proved::write_sheet(
                 sheet.parties,
@@ -275,19 +371,19 @@ fn measured(repetitions: usize) -> Report {
             ]
         })
         .collect();
-    let mut pairs: Vec<Pair<'_>> = runs.iter().map(joint).collect();
-    pairs.extend(squares.iter().map(|(_, run)| joint(run)));
+    let mut sides: Vec<Sides<'_>> = runs.iter().map(joint).collect();
+    sides.extend(squares.iter().map(|(_, run)| joint(run)));
     for (run, halves) in singles() {
-        pairs.push(send(run, halves));
-        pairs.push(receive(run, halves));
+        sides.push(send(run, halves));
+        sides.push(receive(run, halves));
     }
     for sheet in &sheets {
-        pairs.push(reading(sheet));
-        pairs.push(writing(sheet));
+        sides.push(reading(sheet));
+        sides.push(writing(sheet));
     }
-    pairs.push(product());
-    let mut times = compare(repetitions, &mut pairs).into_iter();
-    let mut next = || times.next().expect("one time for each pair");
+    sides.push(product());
+    let mut times = compare(repetitions, &mut sides).into_iter();
+    let mut next = || times.next().expect("times of each case");
     Report {
         joint: runs.iter().map(|run| JointRow::new(run, next())).collect(),
         squares: squares
@@ -323,7 +419,8 @@ fn main() {
         ["--smoke"] => {
             let report = measured(1);
             assert!(!report.squares.is_empty(), "question 4 admits kind 8");
-            println!("bench: equal answers and lists on every case");
+            let requests = agreement::compare();
+            println!("bench: equal answers and lists on every case, and tuned on {requests} requests more");
         }
         ["--measure"] => print!("{}", measured(REPETITIONS).table()),
         ["--write", folder, date, processor, rust, rattle] => {

@@ -1,4 +1,4 @@
-//! Times of two ways to do one thing, taken in turns.
+//! Times of two or three ways to do one thing, taken in turns.
 
 use std::time::{Duration, Instant};
 
@@ -7,11 +7,19 @@ use std::time::{Duration, Instant};
 pub struct Times {
     pub proved: f64,
     pub rust: f64,
+    /// Of the Rust code written for speed, where there is such a side.
+    pub tuned: Option<f64>,
 }
 
 impl Times {
+    /// The time of the proved code over that of the readable Rust code.
     pub fn ratio(self) -> f64 {
         self.proved / self.rust
+    }
+
+    /// The time of the proved code over that of the Rust code written for speed.
+    pub fn tuned_ratio(self) -> Option<f64> {
+        self.tuned.map(|tuned| self.proved / tuned)
     }
 
     /// The times of one of `parts` equal parts.
@@ -19,14 +27,25 @@ impl Times {
         Times {
             proved: self.proved / parts,
             rust: self.rust / parts,
+            tuned: self.tuned.map(|tuned| tuned / parts),
         }
     }
 }
 
-/// One thing done in two ways, each a call that is repeated.
-pub struct Pair<'a> {
-    pub proved: Box<dyn FnMut() + 'a>,
-    pub rust: Box<dyn FnMut() + 'a>,
+type Call<'a> = Box<dyn FnMut() + 'a>;
+
+/// One thing done in two or three ways, each a call that is repeated.
+pub struct Sides<'a> {
+    pub proved: Call<'a>,
+    pub rust: Call<'a>,
+    pub tuned: Option<Call<'a>>,
+}
+
+impl<'a> Sides<'a> {
+    fn calls(&mut self) -> Vec<&mut Call<'a>> {
+        let both = [&mut self.proved, &mut self.rust].into_iter();
+        both.chain(self.tuned.as_mut()).collect()
+    }
 }
 
 const BATCH: Duration = Duration::from_micros(500);
@@ -54,29 +73,29 @@ fn calls_of(call: &mut dyn FnMut()) -> u32 {
     calls
 }
 
-/// Repeats one batch of every call after another, so that all see the machine at the same times; the two of a pair stand side by side,
-/// first one and then the other in front.
-pub fn compare(repetitions: usize, pairs: &mut [Pair<'_>]) -> Vec<Times> {
-    let calls: Vec<u32> = pairs
+/// Repeats one batch of every call after another, so that all see the machine at the same times; the sides of a case stand
+/// side by side, each in front in its turn.
+pub fn compare(repetitions: usize, cases: &mut [Sides<'_>]) -> Vec<Times> {
+    let calls: Vec<u32> = cases
         .iter_mut()
-        .map(|pair| calls_of(&mut *pair.proved))
+        .map(|sides| calls_of(&mut *sides.proved))
         .collect();
-    let mut times = vec![(Vec::new(), Vec::new()); pairs.len()];
+    let mut times = vec![[const { Vec::new() }; 3]; cases.len()];
     for repetition in 0..repetitions {
-        for ((pair, &calls), (proved, rust)) in pairs.iter_mut().zip(&calls).zip(&mut times) {
-            let each = |time: Duration| time.as_nanos() as f64 / f64::from(calls);
-            if repetition % 2 == 0 {
-                proved.push(each(batch(calls, &mut *pair.proved)));
-                rust.push(each(batch(calls, &mut *pair.rust)));
-            } else {
-                rust.push(each(batch(calls, &mut *pair.rust)));
-                proved.push(each(batch(calls, &mut *pair.proved)));
+        for ((sides, &count), times) in cases.iter_mut().zip(&calls).zip(&mut times) {
+            let mut sides = sides.calls();
+            let len = sides.len();
+            for turn in 0..len {
+                let side = (repetition + turn) % len;
+                let time = batch(count, &mut *sides[side]);
+                times[side].push(time.as_nanos() as f64 / f64::from(count));
             }
         }
     }
-    let medians = |(proved, rust)| Times {
+    let medians = |[proved, rust, tuned]: [Vec<f64>; 3]| Times {
         proved: median(proved),
         rust: median(rust),
+        tuned: (!tuned.is_empty()).then(|| median(tuned)),
     };
     times.into_iter().map(medians).collect()
 }

@@ -48,19 +48,24 @@ impl Axis {
 struct Series {
     name: &'static str,
     color: &'static str,
-    of: fn(Times) -> f64,
+    of: fn(Times) -> Option<f64>,
 }
 
-const SERIES: [Series; 2] = [
+const SERIES: [Series; 3] = [
     Series {
         name: "proved",
         color: "#b03060",
-        of: |times| times.proved,
+        of: |times| Some(times.proved),
     },
     Series {
         name: "Rust",
         color: "#2060b0",
-        of: |times| times.rust,
+        of: |times| Some(times.rust),
+    },
+    Series {
+        name: "tuned",
+        color: "#30803a",
+        of: |times| times.tuned,
     },
 ];
 
@@ -147,9 +152,9 @@ pub fn joint(rows: &[JointRow]) -> String {
             let points: Vec<(f64, f64)> = rows
                 .iter()
                 .filter(|row| row.parties == parties)
-                .map(|row| {
-                    let time = (series.of)(row.times) / MICRO;
-                    (x.at(row.size()), y.at(time))
+                .filter_map(|row| {
+                    let time = (series.of)(row.times)? / MICRO;
+                    Some((x.at(row.size()), y.at(time)))
                 })
                 .collect();
             let line: Vec<String> = points

@@ -103,13 +103,35 @@ pub struct Facts<'a> {
     pub repetitions: usize,
 }
 
+/// The times of the sides, and those of the proved code over each other's.
 fn cells(times: Times, unit: f64, digits: usize) -> String {
-    format!(
-        "{:.digits$} | {:.digits$} | {:.2}",
-        times.proved / unit,
-        times.rust / unit,
-        times.ratio()
-    )
+    let sides = [Some(times.proved), Some(times.rust), times.tuned];
+    let sides = sides.into_iter().flatten();
+    let ratios = [Some(times.ratio()), times.tuned_ratio()];
+    let ratios = ratios.into_iter().flatten();
+    let cells: Vec<String> = sides
+        .map(|time| format!("{:.digits$}", time / unit))
+        .chain(ratios.map(|ratio| format!("{ratio:.2}")))
+        .collect();
+    cells.join(" | ")
+}
+
+/// The times of the sides alone.
+fn plain_cells(times: Times, digits: usize) -> String {
+    let sides = [Some(times.proved), Some(times.rust), times.tuned];
+    let sides = sides.into_iter().flatten();
+    let cells: Vec<String> = sides.map(|time| format!("{time:.digits$}")).collect();
+    cells.join(" | ")
+}
+
+/// The heads of the columns of `cells`, with a unit.
+fn heads(unit: &str) -> String {
+    format!("proved {unit} | Rust {unit} | tuned {unit} | proved / Rust | proved / tuned")
+}
+
+/// The line below the heads of so many columns.
+fn rule(columns: usize) -> String {
+    "|---".repeat(columns) + "|"
 }
 
 /// The smallest and the largest of some numbers.
@@ -125,28 +147,25 @@ impl Report {
         let mut text = String::new();
         let out = &mut text;
         let _ = writeln!(out, "### Joint run\n");
-        let _ = writeln!(out, "| parties | gates | mul gates | proved µs | Rust µs | ratio | proved ns a multiplication and party | Rust ns | proved ns a gate and party | Rust ns |");
-        let _ = writeln!(out, "|---|---|---|---|---|---|---|---|---|---|");
+        let _ = writeln!(out, "| parties | gates | mul gates | {} | proved ns a multiplication and party | Rust ns | tuned ns | proved ns a gate and party | Rust ns | tuned ns |", heads("µs"));
+        let _ = writeln!(out, "{}", rule(14));
         for row in &self.joint {
-            let (product, gate) = (row.per_product(), row.per_gate());
             let _ = writeln!(
                 out,
-                "| {} | {} | {} | {} | {:.1} | {:.1} | {:.1} | {:.1} |",
+                "| {} | {} | {} | {} | {} | {} |",
                 row.parties,
                 row.gates,
                 row.products,
                 cells(row.times, MICRO, 2),
-                product.proved,
-                product.rust,
-                gate.proved,
-                gate.rust
+                plain_cells(row.per_product(), 1),
+                plain_cells(row.per_gate(), 1)
             );
         }
         let _ = writeln!(out, "\n{}\n", self.linear());
         if !self.squares.is_empty() {
             let _ = writeln!(out, "### Joint run of a circuit of squares, by sq gates and by mul gates of a wire with itself\n");
-            let _ = writeln!(out, "| parties | gates | squares | by | rounds | words of a party | preprocessing of a party | proved µs | Rust µs | ratio |");
-            let _ = writeln!(out, "|---|---|---|---|---|---|---|---|---|---|");
+            let _ = writeln!(out, "| parties | gates | squares | by | rounds | words of a party | preprocessing of a party | {} |", heads("µs"));
+            let _ = writeln!(out, "{}", rule(12));
         }
         for row in &self.squares {
             let _ = writeln!(
@@ -166,8 +185,13 @@ impl Report {
             let _ = writeln!(out);
         }
         let _ = writeln!(out, "### One send, one receive, with all questions\n");
-        let _ = writeln!(out, "| round | gates | send proved µs | Rust µs | ratio | receive proved µs | Rust µs | ratio |");
-        let _ = writeln!(out, "|---|---|---|---|---|---|---|---|");
+        let _ = writeln!(
+            out,
+            "| round | gates | send {} | receive {} |",
+            heads("µs"),
+            heads("µs")
+        );
+        let _ = writeln!(out, "{}", rule(12));
         for row in &self.single {
             let _ = writeln!(
                 out,
@@ -180,7 +204,7 @@ impl Report {
         }
         let _ = writeln!(
             out,
-            "\n### A sheet read, and its circuit written, with all questions\n"
+            "\n### A sheet read, and its circuit written, with all questions (no tuned side)\n"
         );
         let _ = writeln!(out, "| sheet | gates | bytes | read proved µs | Rust µs | ratio | read proved ns a byte | Rust ns | write proved µs | Rust µs | ratio |");
         let _ = writeln!(out, "|---|---|---|---|---|---|---|---|---|---|---|");
@@ -199,28 +223,38 @@ impl Report {
             );
         }
         let _ = writeln!(out, "\n### Field product\n");
-        let _ = writeln!(out, "| proved ns | Rust ns | ratio |\n|---|---|---|");
+        let _ = writeln!(out, "| {} |\n{}", heads("ns"), rule(5));
         let _ = writeln!(out, "| {} |", cells(self.product, 1.0, 3));
         text
     }
 
     /// Whether the cost is linear in gates times parties.
     fn linear(&self) -> String {
-        let proved = span(self.joint.iter().map(|row| row.per_gate().proved));
-        let rust = span(self.joint.iter().map(|row| row.per_gate().rust));
+        let sides: [(&str, fn(Times) -> Option<f64>); 3] = [
+            ("proved", |times| Some(times.proved)),
+            ("Rust", |times| Some(times.rust)),
+            ("tuned", |times| times.tuned),
+        ];
+        let costs = sides.map(|(name, of)| {
+            let (low, high) = span(self.joint.iter().filter_map(|row| of(row.per_gate())));
+            format!("{low:.1} to {high:.1} ns ({name})")
+        });
+        let growths = sides.map(|(name, of)| {
+            let growth = self.growth(|row| of(row.times).unwrap_or(f64::NAN));
+            format!("{growth:.1}-fold ({name})")
+        });
         let ratio = span(self.joint.iter().map(|row| row.times.ratio()));
+        let tuned = span(self.joint.iter().filter_map(|row| row.times.tuned_ratio()));
         format!(
-            "Over all sizes a gate and party costs {:.1} to {:.1} ns proved and {:.1} to {:.1} ns in Rust; the ratio lies between {:.2} and {:.2}. \
-             From the smallest size to the largest, gates times parties grow {:.0}-fold and the time {:.1}-fold (proved) and {:.1}-fold (Rust).",
-            proved.0,
-            proved.1,
-            rust.0,
-            rust.1,
+            "Over all sizes a gate and party costs {}; proved / Rust lies between {:.2} and {:.2}, proved / tuned between {:.2} and {:.2}. \
+             From the smallest size to the largest, gates times parties grow {:.0}-fold and the time {}.",
+            costs.join(", "),
             ratio.0,
             ratio.1,
+            tuned.0,
+            tuned.1,
             self.growth(JointRow::size),
-            self.growth(|row| row.times.proved),
-            self.growth(|row| row.times.rust),
+            growths.join(", "),
         )
     }
 
@@ -233,11 +267,14 @@ impl Report {
         let text = format!(
             "# Benchmarks\n\n\
              Written by `bench/run`; do not edit.\n\n\
-             The proved code, called through its C entry points (`crates/capi`; the field product through `crates/scaling`), beside the Rust implementation (`reference/`), in one program.\n\n\
+             The proved code, called through its C entry points (`crates/capi`; the field product through `crates/scaling`), beside two Rust implementations, in one program:\n\n\
+             - *proved*: the proved code.\n\
+             - *Rust*: written to be read (`reference/`).\n\
+             - *tuned*: Rust written for speed (`bench/src/tuned/`), safe, without dependencies and for any x86-64, with the same questions. It has no reader or writer of sheets.\n\n\
              - Date: {}\n- Processor: {}\n- Rust: {}, opt-level 3, one codegen unit\n- Rattle: {}, whose compiler builds the archive with LLVM at -O3\n\n\
              Repeat: `bench/run`. Compare answers only, in seconds: `bench/run --smoke`.\n\n\
              ## What is measured\n\n\
-             Both sides get the same requests and their own lists of equal length, cleared alike; before a case is timed, both must give equal answers and leave equal\n\
+             All sides get the same requests and their own lists of equal length, cleared alike; before a case is timed, all must give equal answers and leave equal\n\
              lists. Batches of at least half a millisecond are timed in turns, all cases one after another and {} times over, and the medians are told. Five of eight gates of each circuit multiply; the\n\
              others are linear, in and out gates, with an out gate every 32 gates. A circuit of squares is of the same shape, with squares for its products. Single halves are those of the last round of each sort, at party 1 of 5.\n\
              Sheets are for 5 parties; each is read, and the circuit that it is read as is written, a gate a line.\n\

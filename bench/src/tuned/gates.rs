@@ -136,7 +136,8 @@ impl Gates {
         let mut bytes = [[0; BLOCK]; 4 * MAX_GATES / BLOCK];
         let narrow = narrow(circuit, &mut bytes);
         self.part(&bytes);
-        let yes = narrow && self.fields_fit(parties as u8)
+        let yes = narrow
+            && self.fields_fit(parties as u8)
             && self.values_named()
             && lines[self.len - 1][0] == OUT;
         if yes {
@@ -150,9 +151,16 @@ impl Gates {
     fn part(&mut self, bytes: &Bytes) {
         let names = blocks_of(&mut self.firsts).zip(blocks_of(&mut self.seconds));
         let others = blocks_of(&mut self.kinds).zip(blocks_of(&mut self.constants));
-        let words = bytes.as_flattened().as_chunks::<4>().0.as_chunks::<BLOCK>().0;
+        let words = bytes
+            .as_flattened()
+            .as_chunks::<4>()
+            .0
+            .as_chunks::<BLOCK>()
+            .0;
         let blocks = words.iter().zip(names.zip(others));
-        for (words, ((firsts, seconds), (kinds, constants))) in blocks.take(self.len.div_ceil(BLOCK)) {
+        for (words, ((firsts, seconds), (kinds, constants))) in
+            blocks.take(self.len.div_ceil(BLOCK))
+        {
             let words = words.map(u32::from_le_bytes);
             *kinds = words.map(|word| word as u8);
             *firsts = words.map(|word| (word >> 8) as u8);
@@ -186,8 +194,14 @@ impl Gates {
     /// Whether no gate names an out gate.
     fn values_named(&self) -> bool {
         let out = self.kinds.map(|kind| mask(kind == OUT8));
-        let (firsts, seconds) = (&self.firsts[..self.padded()], &self.seconds[..self.padded()]);
-        let (firsts, seconds) = (firsts.as_chunks::<BLOCK>().0, seconds.as_chunks::<BLOCK>().0);
+        let (firsts, seconds) = (
+            &self.firsts[..self.padded()],
+            &self.seconds[..self.padded()],
+        );
+        let (firsts, seconds) = (
+            firsts.as_chunks::<BLOCK>().0,
+            seconds.as_chunks::<BLOCK>().0,
+        );
         let mut named = 0;
         for (firsts, seconds) in firsts.iter().zip(seconds) {
             for (&first, &second) in firsts.iter().zip(seconds) {
@@ -271,8 +285,7 @@ impl Gates {
 fn first_no(parties: u32, lines: &[[u32; 4]]) -> Refusal {
     for (index, &[kind, first, second, constant]) in lines.iter().enumerate() {
         let no = |number| Refusal { number, index };
-        let is_wire =
-            |name: u32| (name as usize) < index && lines[name as usize][0] != OUT;
+        let is_wire = |name: u32| (name as usize) < index && lines[name as usize][0] != OUT;
         let two = [ADD, SUB, MUL].contains(&kind);
         if !(IN..=SQ).contains(&kind) {
             return no(4);

@@ -45,8 +45,7 @@ pub fn joint_run(
     let fits = |checked: usize| transcript.len() >= count * (words + 2 * checked);
     ask(
         18,
-        (fits(counts.outputs) || fits(gates.checked_outputs()))
-            && outputs.len() >= counts.outputs,
+        (fits(counts.outputs) || fits(gates.checked_outputs())) && outputs.len() >= counts.outputs,
     )?;
     let run = Run {
         gates: &gates,
@@ -108,7 +107,13 @@ struct Width(usize);
 impl Width {
     /// Works out the shares and MAC shares of a product from what is opened.
     #[inline(always)]
-    fn multiply(self, row: &mut Lanes, [a, b, c]: &[Lanes; 3], public: &Lanes, [e, d, ed]: [u32; 3]) {
+    fn multiply(
+        self,
+        row: &mut Lanes,
+        [a, b, c]: &[Lanes; 3],
+        public: &Lanes,
+        [e, d, ed]: [u32; 3],
+    ) {
         for k in 0..self.0.min(LANES) {
             let shares = product(b[k], e) + product(a[k], d);
             row[k] = reduce(u64::from(c[k]) + shares + product(public[k], ed));
@@ -117,7 +122,13 @@ impl Width {
 
     /// The same of a square, whose opened number is given twice.
     #[inline(always)]
-    fn square(self, row: &mut Lanes, [a, c, _]: &[Lanes; 3], public: &Lanes, [twice, ee]: [u32; 2]) {
+    fn square(
+        self,
+        row: &mut Lanes,
+        [a, c, _]: &[Lanes; 3],
+        public: &Lanes,
+        [twice, ee]: [u32; 2],
+    ) {
         for k in 0..self.0.min(LANES) {
             row[k] = reduce(u64::from(c[k]) + product(a[k], twice) + product(public[k], ee));
         }

@@ -163,7 +163,11 @@ pub fn send(
     };
     let mut gates = Gates::new();
     let step = ask_step(&mut gates, lent, scratch, position, called)?;
-    let wanted = if step.is_commit() { step.unchecked() } else { 0 };
+    let wanted = if step.is_commit() {
+        step.unchecked()
+    } else {
+        0
+    };
     ask(16, coefficients.len() == wanted)?;
     ask_elements(17, coefficients)?;
     ask(18, out.len() >= step.words())?;
