@@ -56,7 +56,7 @@ pub fn joint_run(
         coefficients,
         transcript,
         outputs,
-        width: Width(4 * count.div_ceil(2)),
+        width: Width(count),
     };
     let scratch = &mut scratch[..count * band];
     Ok(match parties {
@@ -100,11 +100,16 @@ fn part(preps: &[&[u32]; 2], at: usize) -> Quad {
 const LANES: usize = 16;
 type Lanes = [u32; LANES];
 
-/// Some numbers of a row. That their number is not known beforehand lets the compiler make several products at a time.
+/// The number of parties. That it is not known beforehand lets the compiler work out several lanes at a time.
 #[derive(Clone, Copy)]
 struct Width(usize);
 
 impl Width {
+    #[inline(always)]
+    fn lanes(self) -> usize {
+        (4 * self.0.div_ceil(2)).min(LANES)
+    }
+
     /// Works out the shares and MAC shares of a product from what is opened.
     #[inline(always)]
     fn multiply(
@@ -114,7 +119,7 @@ impl Width {
         public: &Lanes,
         [e, d, ed]: [u32; 3],
     ) {
-        for k in 0..self.0.min(LANES) {
+        for k in 0..self.lanes() {
             let shares = product(b[k], e) + product(a[k], d);
             row[k] = reduce(u64::from(c[k]) + shares + product(public[k], ed));
         }
@@ -129,7 +134,7 @@ impl Width {
         public: &Lanes,
         [twice, ee]: [u32; 2],
     ) {
-        for k in 0..self.0.min(LANES) {
+        for k in 0..self.lanes() {
             row[k] = reduce(u64::from(c[k]) + product(a[k], twice) + product(public[k], ee));
         }
     }
@@ -137,7 +142,7 @@ impl Width {
     /// Adds a public number.
     #[inline(always)]
     fn plus(self, row: &mut Lanes, public: &Lanes, number: u32) {
-        for k in 0..self.0.min(LANES) {
+        for k in 0..self.lanes() {
             row[k] = reduce(u64::from(row[k]) + product(public[k], number));
         }
     }
@@ -145,7 +150,7 @@ impl Width {
     /// Multiplies by a number, which is given twice.
     #[inline(always)]
     fn times(self, row: &mut Lanes, twice: u32) {
-        for x in &mut row[..self.0.min(LANES)] {
+        for x in &mut row[..self.lanes()] {
             *x = times(*x, twice);
         }
     }
@@ -193,26 +198,27 @@ impl Run<'_> {
         let mut wires: [Row<Q>; MAX_GATES] = [[[0; 4]; Q]; MAX_GATES];
         let mut opened = [0; ENTRIES];
         let mut opened_macs = [[0; N]; ENTRIES];
-        // The last entries opened, at all parties.
-        let mut shares: [Row<Q>; 4] = [[[0; 4]; Q]; 4];
+        // Parties' shares of what a gate opens. That the place changes keeps four of them together.
+        let mut shares: [[Row<Q>; 2]; 2] = [[[[0; 4]; Q]; 2]; 2];
         let mut record = [[0; LANES]; 3];
         let mut row = [0; LANES];
-        let (mut at_record, mut pending, mut used) = (1, 0, 0);
+        let (mut at_record, mut pending, mut used) = (1u32, 0, 0);
         let (mut rounds, mut at, mut released) = (0, 0, 0);
         let mut ending = Ending::Finished;
         let mut done = gates.len;
         for (index, (kind, first, second)) in gates.iter().enumerate() {
             let (left, right) = (usize::from(first), usize::from(second));
+            let from = at_record as usize;
             match kind {
                 IN8 => {
                     let owner = lines[index][1] as usize % N;
                     let words = &mut transcript[at..at + N];
-                    let e = sub(inputs[next_input[owner]], prep(owner)[at_record + 2]);
+                    let e = sub(inputs[next_input[owner]], prep(owner)[from + 2]);
                     next_input[owner] += 1;
                     words.fill(0);
                     words[owner] = e;
                     for q in 0..Q {
-                        quads(&mut row)[q] = part(&lists[q], at_record);
+                        quads(&mut row)[q] = part(&lists[q], from);
                     }
                     width.plus(&mut row, &public, e);
                     at_record += 3;
@@ -225,29 +231,29 @@ impl Run<'_> {
                     let next = (pending + 1) % ENTRIES;
                     for q in 0..Q {
                         let (l, r) = (wires[left][q], wires[right][q]);
-                        let a = part(&lists[q], at_record);
-                        let b = part(&lists[q], at_record + 2);
-                        shares[entry % 4][q] = quad(|k| sub(l[k], a[k]));
-                        shares[next % 4][q] = quad(|k| sub(r[k], b[k]));
+                        let a = part(&lists[q], from);
+                        let b = part(&lists[q], from + 2);
+                        shares[pending % 2][0][q] = quad(|k| sub(l[k], a[k]));
+                        shares[pending % 2][1][q] = quad(|k| sub(r[k], b[k]));
                     }
-                    let (e_row, d_row) = (&shares[entry % 4], &shares[next % 4]);
+                    let [e_row, d_row] = &shares[pending % 2];
                     let (mut e, mut d) = (0, 0);
                     for i in 0..N {
-                        let (x, y) = (e_row[i / 2][i % 2 * 2], d_row[i / 2][i % 2 * 2]);
-                        words[2 * i] = x;
-                        words[2 * i + 1] = y;
-                        e += u64::from(x);
-                        d += u64::from(y);
+                        let (x, y) = (pair(e_row, i), pair(d_row, i));
+                        words[2 * i] = x[0];
+                        words[2 * i + 1] = y[0];
+                        e += u64::from(x[0]);
+                        d += u64::from(y[0]);
+                        opened_macs[entry][i] = x[1];
+                        opened_macs[next][i] = y[1];
                     }
-                    opened_macs[entry] = from_fn(|i| e_row[i / 2][i % 2 * 2 + 1]);
-                    opened_macs[next] = from_fn(|i| d_row[i / 2][i % 2 * 2 + 1]);
                     let (e, d) = (remainder(e), remainder(d));
                     opened[entry] = e;
                     opened[next] = d;
                     let ed = fold(product(e, d)) as u32;
                     for q in 0..Q {
                         for (number, record) in record.iter_mut().enumerate() {
-                            quads(record)[q] = part(&lists[q], at_record + 2 * number);
+                            quads(record)[q] = part(&lists[q], from + 2 * number);
                         }
                     }
                     width.multiply(&mut row, &record, &public, [e, d, ed]);
@@ -260,23 +266,23 @@ impl Run<'_> {
                     let words = &mut transcript[at..at + N];
                     let entry = pending % ENTRIES;
                     for q in 0..Q {
-                        let (l, a) = (wires[left][q], part(&lists[q], at_record));
-                        shares[entry % 4][q] = quad(|k| sub(l[k], a[k]));
+                        let (l, a) = (wires[left][q], part(&lists[q], from));
+                        shares[pending % 2][0][q] = quad(|k| sub(l[k], a[k]));
                     }
-                    let e_row = &shares[entry % 4];
+                    let [e_row, _] = &shares[pending % 2];
                     let mut e = 0;
                     for i in 0..N {
-                        let x = e_row[i / 2][i % 2 * 2];
-                        words[i] = x;
-                        e += u64::from(x);
+                        let x = pair(e_row, i);
+                        words[i] = x[0];
+                        e += u64::from(x[0]);
+                        opened_macs[entry][i] = x[1];
                     }
-                    opened_macs[entry] = from_fn(|i| e_row[i / 2][i % 2 * 2 + 1]);
                     let e = remainder(e);
                     opened[entry] = e;
                     let ee = fold(product(e, e)) as u32;
                     for q in 0..Q {
                         for (number, record) in record[..2].iter_mut().enumerate() {
-                            quads(record)[q] = part(&lists[q], at_record + 2 * number);
+                            quads(record)[q] = part(&lists[q], from + 2 * number);
                         }
                     }
                     width.square(&mut row, &record, &public, [2 * e, ee]);
