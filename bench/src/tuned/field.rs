@@ -59,24 +59,27 @@ const LANES: usize = 16;
 /// Numbers put together by bits.
 #[derive(Default)]
 struct Bits {
-    numbers: [u32; 4],
-    successors: [u32; 4],
+    numbers: [u32; LANES],
+    successors: [u32; LANES],
 }
 
 impl Bits {
     #[inline(always)]
     fn add(&mut self, numbers: &[u32; LANES]) {
         for (lane, &x) in numbers.iter().enumerate() {
-            self.numbers[lane % 4] |= x;
-            self.successors[lane % 4] |= x.wrapping_add(1);
+            self.numbers[lane] |= x;
+            self.successors[lane] |= x.wrapping_add(1);
         }
     }
 
     /// Whether no number has bit 31, nor gets it when 1 is added.
     #[inline(always)]
     fn elements(&self) -> bool {
-        let both = self.numbers.iter().zip(&self.successors);
-        both.fold(true, |yes, (x, y)| yes & ((x | y) >> 31 == 0))
+        let mut top = self.numbers;
+        for (top, next) in top.iter_mut().zip(self.successors) {
+            *top = (*top | next) >> 31;
+        }
+        top == [0; LANES]
     }
 }
 
