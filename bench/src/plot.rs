@@ -45,13 +45,14 @@ impl Axis {
     }
 }
 
-struct Series {
-    name: &'static str,
+/// One side of the comparison, and how it is drawn.
+pub struct Series {
+    pub name: &'static str,
     color: &'static str,
-    of: fn(Times) -> Option<f64>,
+    pub of: fn(Times) -> Option<f64>,
 }
 
-const SERIES: [Series; 3] = [
+pub const SERIES: [Series; 3] = [
     Series {
         name: "proved",
         color: "#b03060",

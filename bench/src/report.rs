@@ -8,7 +8,7 @@ use reference::{plain, Round};
 
 use crate::cases::Run;
 use crate::measure::Times;
-use crate::plot;
+use crate::plot::{self, Series};
 
 pub struct JointRow {
     pub parties: u32,
@@ -230,16 +230,11 @@ impl Report {
 
     /// Whether the cost is linear in gates times parties.
     fn linear(&self) -> String {
-        let sides: [(&str, fn(Times) -> Option<f64>); 3] = [
-            ("proved", |times| Some(times.proved)),
-            ("Rust", |times| Some(times.rust)),
-            ("tuned", |times| times.tuned),
-        ];
-        let costs = sides.map(|(name, of)| {
+        let costs = plot::SERIES.map(|Series { name, of, .. }| {
             let (low, high) = span(self.joint.iter().filter_map(|row| of(row.per_gate())));
             format!("{low:.1} to {high:.1} ns ({name})")
         });
-        let growths = sides.map(|(name, of)| {
+        let growths = plot::SERIES.map(|Series { name, of, .. }| {
             let growth = self.growth(|row| of(row.times).unwrap_or(f64::NAN));
             format!("{growth:.1}-fold ({name})")
         });
@@ -270,7 +265,8 @@ impl Report {
              The proved code, called through its C entry points (`crates/capi`; the field product through `crates/scaling`), beside two Rust implementations, in one program:\n\n\
              - *proved*: the proved code.\n\
              - *Rust*: written to be read (`reference/`).\n\
-             - *tuned*: Rust written for speed (`bench/src/tuned/`), safe, without dependencies and for any x86-64, with the same questions. It has no reader or writer of sheets.\n\n\
+             - *tuned*: Rust written for speed (`bench/src/tuned/`), safe, without dependencies and for any x86-64, with the same questions. Sheets have no tuned side.\n\n\
+             Measured:\n\n\
              - Date: {}\n- Processor: {}\n- Rust: {}, opt-level 3, one codegen unit\n- Rattle: {}, whose compiler builds the archive with LLVM at -O3\n\n\
              Repeat: `bench/run`. Compare answers only, in seconds: `bench/run --smoke`.\n\n\
              ## What is measured\n\n\

@@ -2,9 +2,9 @@
 
 use reference::{Refusal, P};
 
-pub const P64: u64 = P as u64;
+const P64: u64 = P as u64;
 
-/// The remainder of a number below 2^40: `t + q` with the quotient `q` is the remainder and `q` times 2^31.
+/// The remainder of a number below 2^60: `t + q` with the quotient `q` is the remainder and `q` times 2^31.
 pub fn remainder(t: u64) -> u32 {
     let q = (t + (t >> 31) + 1) >> 31;
     (t + q) as u32 & P

@@ -96,7 +96,7 @@ fn part(preps: &[&[u32]; 2], at: usize) -> Quad {
     [one[0], one[1], other[0], other[1]]
 }
 
-/// Room for the numbers of eight parties in a row.
+/// Room for the numbers of eight parties.
 const LANES: usize = 16;
 type Lanes = [u32; LANES];
 
@@ -105,6 +105,7 @@ type Lanes = [u32; LANES];
 struct Width(usize);
 
 impl Width {
+    /// Numbers of all quads.
     #[inline(always)]
     fn lanes(self) -> usize {
         (4 * self.0.div_ceil(2)).min(LANES)
@@ -119,6 +120,7 @@ impl Width {
         public: &Lanes,
         [e, d, ed]: [u32; 3],
     ) {
+        // `ed` may be above P: the sum is below 2^64 all the same.
         for k in 0..self.lanes() {
             let shares = product(b[k], e) + product(a[k], d);
             row[k] = reduce(u64::from(c[k]) + shares + product(public[k], ed));
@@ -161,7 +163,8 @@ fn quads(lanes: &mut Lanes) -> &mut [Quad] {
 }
 
 impl Run<'_> {
-    /// Runs N parties, whose numbers lie in Q quads.
+    /// Runs N parties, whose numbers lie in Q quads. Rows of several lists are gone through side by side.
+    #[allow(clippy::needless_range_loop)]
     fn run<const N: usize, const Q: usize>(
         self,
         scratch: &mut [u32],
@@ -200,6 +203,7 @@ impl Run<'_> {
         let mut opened_macs = [[0; N]; ENTRIES];
         // Parties' shares of what a gate opens. That the place changes keeps four of them together.
         let mut shares: [[Row<Q>; 2]; 2] = [[[[0; 4]; Q]; 2]; 2];
+        // The record of a gate, and what the gate's row becomes.
         let mut record = [[0; LANES]; 3];
         let mut row = [0; LANES];
         let (mut at_record, mut pending, mut used) = (1u32, 0, 0);
@@ -411,7 +415,8 @@ fn pair<const Q: usize>(row: &Row<Q>, party: usize) -> [u32; 2] {
     [quad[place], quad[place + 1]]
 }
 
-/// The sums of coefficient times MAC share at each party.
+/// The sums of coefficient times MAC share at each party, below 2^44.
+#[allow(clippy::needless_range_loop)]
 fn inner_products<const N: usize>(coefficients: &[u32], rows: &[[u32; N]]) -> [u64; N] {
     let (coefficients, coefficients_rest) = coefficients.as_chunks::<4>();
     let (rows, rows_rest) = rows.as_chunks::<4>();
