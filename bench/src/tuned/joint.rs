@@ -10,8 +10,8 @@ use super::field::{
 };
 use super::gates::{Gates, ADD8, IN8, MUL8, PLUS8, SQ8, SUB8, TIMES8};
 
-/// Room for the opened entries of a circuit, as a power of 2.
-const ENTRIES: usize = 512;
+/// Opened entries that are held on the stack, as a power of 2.
+const ENTRIES: usize = 64;
 
 /// Runs all parties. The lists are joined in party order; the coefficients are in order of use.
 #[allow(clippy::too_many_arguments)]
@@ -199,20 +199,37 @@ impl Run<'_> {
             first
         });
         let mut wires: [Row<Q>; MAX_GATES] = [[[0; 4]; Q]; MAX_GATES];
-        let mut opened = [0; ENTRIES];
-        let mut opened_macs = [[0; N]; ENTRIES];
+        let mut window = Window {
+            values: [0; ENTRIES],
+            macs: [[0; N]; ENTRIES],
+        };
+        let mut sums = Sums::<N>::ZERO;
+        let places = Places {
+            band,
+            values: 2 * gates.len,
+            macs: 2 * gates.len + room,
+        };
         // Parties' shares of what a gate opens. That the place changes keeps four of them together.
         let mut shares: [[Row<Q>; 2]; 2] = [[[[0; 4]; Q]; 2]; 2];
         // The record of a gate, and what the gate's row becomes.
         let mut record = [[0; LANES]; 3];
         let mut row = [0; LANES];
-        let (mut at_record, mut pending, mut used) = (1u32, 0, 0);
+        let mut at_record = 1u32;
+        // Entries opened and unchecked, where the window starts among them, and how many of the window's entries, from the
+        // first one on, are still to be written.
+        let (mut pending, mut start, mut held) = (0, 0, 0);
         let (mut rounds, mut at, mut released) = (0, 0, 0);
         let mut ending = Ending::Finished;
         let mut done = gates.len;
         for (index, (kind, first, second)) in gates.iter().enumerate() {
             let (left, right) = (usize::from(first), usize::from(second));
             let from = at_record as usize;
+            if pending - start > ENTRIES - 2 {
+                sums.add(&coefficients[start..pending], &window);
+                window.write(scratch, &places, start, held.max(pending - start));
+                (start, held) = (pending, 0);
+            }
+            let entry = (pending - start) % ENTRIES;
             match kind {
                 IN8 => {
                     let owner = lines[index][1] as usize % N;
@@ -231,8 +248,7 @@ impl Run<'_> {
                 }
                 MUL8 => {
                     let words = &mut transcript[at..at + 2 * N];
-                    let entry = pending % ENTRIES;
-                    let next = (pending + 1) % ENTRIES;
+                    let next = (entry + 1) % ENTRIES;
                     for q in 0..Q {
                         let (l, r) = (wires[left][q], wires[right][q]);
                         let a = part(&lists[q], from);
@@ -248,12 +264,12 @@ impl Run<'_> {
                         words[2 * i + 1] = y[0];
                         e += u64::from(x[0]);
                         d += u64::from(y[0]);
-                        opened_macs[entry][i] = x[1];
-                        opened_macs[next][i] = y[1];
+                        window.macs[entry][i] = x[1];
+                        window.macs[next][i] = y[1];
                     }
                     let (e, d) = (remainder(e), remainder(d));
-                    opened[entry] = e;
-                    opened[next] = d;
+                    window.values[entry] = e;
+                    window.values[next] = d;
                     let ed = fold(product(e, d)) as u32;
                     for q in 0..Q {
                         for (number, record) in record.iter_mut().enumerate() {
@@ -268,7 +284,6 @@ impl Run<'_> {
                 }
                 SQ8 => {
                     let words = &mut transcript[at..at + N];
-                    let entry = pending % ENTRIES;
                     for q in 0..Q {
                         let (l, a) = (wires[left][q], part(&lists[q], from));
                         shares[pending % 2][0][q] = quad(|k| sub(l[k], a[k]));
@@ -279,10 +294,10 @@ impl Run<'_> {
                         let x = pair(e_row, i);
                         words[i] = x[0];
                         e += u64::from(x[0]);
-                        opened_macs[entry][i] = x[1];
+                        window.macs[entry][i] = x[1];
                     }
                     let e = remainder(e);
-                    opened[entry] = e;
+                    window.values[entry] = e;
                     let ee = fold(product(e, e)) as u32;
                     for q in 0..Q {
                         for (number, record) in record[..2].iter_mut().enumerate() {
@@ -317,16 +332,19 @@ impl Run<'_> {
                 }
                 _ => {
                     if pending > 0 {
-                        let (now, later) = coefficients.split_at(pending);
-                        coefficients = later;
+                        sums.add(&coefficients[start..pending], &window);
+                        coefficients = &coefficients[pending..];
+                        if start > 0 {
+                            window.write(scratch, &places, start, pending - start);
+                        } else {
+                            held = held.max(pending);
+                        }
+                        (pending, start) = (0, 0);
                         let words = &mut transcript[at..at + 2 * N];
                         rounds += 2;
                         at += 2 * N;
-                        used = used.max(pending);
-                        let v = remainder(inner_product(now, &opened[..pending]));
-                        let sums = inner_products(now, &opened_macs[..pending]);
-                        pending = 0;
-                        if !reveal(words, sums, v, &keys) {
+                        let Sums { values, macs } = std::mem::replace(&mut sums, Sums::ZERO);
+                        if !reveal(words, macs, remainder(values), &keys) {
                             ending = Ending::Aborted { gate: index as u32 };
                             done = index;
                             break;
@@ -336,7 +354,7 @@ impl Run<'_> {
                     let (shown, words) = words.split_at_mut(N);
                     rounds += 3;
                     at += 3 * N;
-                    used = used.max(1);
+                    held = held.max(1);
                     let shown_row: [[u32; 2]; N] = from_fn(|i| pair(&wires[left], i));
                     let mut sum = 0;
                     for i in 0..N {
@@ -344,8 +362,8 @@ impl Run<'_> {
                         sum += u64::from(shown_row[i][0]);
                     }
                     let sum = remainder(sum);
-                    opened[0] = sum;
-                    opened_macs[0] = shown_row.map(|pair| pair[1]);
+                    window.values[0] = sum;
+                    window.macs[0] = shown_row.map(|pair| pair[1]);
                     let now = coefficients[0];
                     coefficients = &coefficients[1..];
                     let v = reduce(product(now, sum));
@@ -367,22 +385,67 @@ impl Run<'_> {
             };
             wires[index].copy_from_slice(&quads(&mut row)[..Q]);
         }
-        used = used.max(pending);
+        window.write(scratch, &places, 0, held);
         for (i, band) in scratch.chunks_exact_mut(band).enumerate().take(N) {
-            let (shares, band) = band.split_at_mut(gates.len);
-            let (macs, band) = band.split_at_mut(gates.len);
-            let (values, value_macs) = band.split_at_mut(room);
+            let (shares, macs) = band[..2 * gates.len].split_at_mut(gates.len);
             write_shares(shares, macs, &wires[..done], i);
-            values[..used].copy_from_slice(&opened[..used]);
-            for (mac, row) in value_macs.iter_mut().zip(&opened_macs[..used]) {
-                *mac = row[i];
-            }
         }
         JointResult {
             ending,
             rounds,
             outputs: released,
             words: at,
+        }
+    }
+}
+
+/// Some entries opened since the last output, in order: the value, and its MAC share at each party.
+struct Window<const N: usize> {
+    values: [u32; ENTRIES],
+    macs: [[u32; N]; ENTRIES],
+}
+
+/// Where the opened values and their MAC shares start in each party's band of the scratch.
+struct Places {
+    band: usize,
+    values: usize,
+    macs: usize,
+}
+
+impl<const N: usize> Window<N> {
+    /// Writes the first `len` entries, which are those from `start` on.
+    fn write(&self, scratch: &mut [u32], places: &Places, start: usize, len: usize) {
+        for (i, band) in scratch.chunks_exact_mut(places.band).enumerate().take(N) {
+            let values = &mut band[places.values + start..][..len];
+            values.copy_from_slice(&self.values[..len]);
+            let macs = &mut band[places.macs + start..][..len];
+            for (mac, row) in macs.iter_mut().zip(&self.macs) {
+                *mac = row[i];
+            }
+        }
+    }
+}
+
+/// The sums of coefficient times value, and of coefficient times MAC share at each party, of the entries of a check.
+struct Sums<const N: usize> {
+    values: u64,
+    macs: [u64; N],
+}
+
+impl<const N: usize> Sums<N> {
+    const ZERO: Sums<N> = Sums {
+        values: 0,
+        macs: [0; N],
+    };
+
+    /// Adds up the window's first entries, one for each coefficient.
+    #[inline(never)]
+    fn add(&mut self, coefficients: &[u32], window: &Window<N>) {
+        let len = coefficients.len();
+        self.values += inner_product(coefficients, &window.values[..len]);
+        let sums = inner_products(coefficients, &window.macs[..len]);
+        for (total, sum) in self.macs.iter_mut().zip(sums) {
+            *total += sum;
         }
     }
 }
