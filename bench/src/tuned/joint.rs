@@ -59,14 +59,11 @@ pub fn joint_run(
         width: Width(count),
     };
     let scratch = &mut scratch[..count * band];
-    Ok(match parties {
-        2 => run.run::<2, 1>(scratch, band, opened),
-        3 => run.run::<3, 2>(scratch, band, opened),
-        4 => run.run::<4, 2>(scratch, band, opened),
-        5 => run.run::<5, 3>(scratch, band, opened),
-        6 => run.run::<6, 3>(scratch, band, opened),
-        7 => run.run::<7, 4>(scratch, band, opened),
-        _ => run.run::<8, 4>(scratch, band, opened),
+    // Less room on the stack is less to fill with zeros.
+    Ok(match gates.len {
+        ..=64 => run.with_room::<64>(parties, scratch, band, opened),
+        ..=128 => run.with_room::<128>(parties, scratch, band, opened),
+        _ => run.with_room::<MAX_GATES>(parties, scratch, band, opened),
     })
 }
 
@@ -163,9 +160,28 @@ fn quads(lanes: &mut Lanes) -> &mut [Quad] {
 }
 
 impl Run<'_> {
+    /// Runs the parties, with room for G gates.
+    fn with_room<const G: usize>(
+        self,
+        parties: u32,
+        scratch: &mut [u32],
+        band: usize,
+        room: usize,
+    ) -> JointResult {
+        match parties {
+            2 => self.run::<2, 1, G>(scratch, band, room),
+            3 => self.run::<3, 2, G>(scratch, band, room),
+            4 => self.run::<4, 2, G>(scratch, band, room),
+            5 => self.run::<5, 3, G>(scratch, band, room),
+            6 => self.run::<6, 3, G>(scratch, band, room),
+            7 => self.run::<7, 4, G>(scratch, band, room),
+            _ => self.run::<8, 4, G>(scratch, band, room),
+        }
+    }
+
     /// Runs N parties, whose numbers lie in Q quads. Rows of several lists are gone through side by side.
     #[allow(clippy::needless_range_loop)]
-    fn run<const N: usize, const Q: usize>(
+    fn run<const N: usize, const Q: usize, const G: usize>(
         self,
         scratch: &mut [u32],
         band: usize,
@@ -198,7 +214,7 @@ impl Run<'_> {
             start += gates.owned(i as u8);
             first
         });
-        let mut wires: [Row<Q>; MAX_GATES] = [[[0; 4]; Q]; MAX_GATES];
+        let mut wires: [Row<Q>; G] = [[[0; 4]; Q]; G];
         let mut window = Window {
             values: [0; ENTRIES],
             macs: [[0; N]; ENTRIES],
@@ -222,7 +238,7 @@ impl Run<'_> {
         let mut ending = Ending::Finished;
         let mut done = gates.len;
         for (index, (kind, first, second)) in gates.iter().enumerate() {
-            let (left, right) = (usize::from(first), usize::from(second));
+            let (left, right) = (usize::from(first) % G, usize::from(second) % G);
             let from = at_record as usize;
             if pending - start > ENTRIES - 2 {
                 sums.add(&coefficients[start..pending], &window);
@@ -383,7 +399,7 @@ impl Run<'_> {
                     }
                 }
             };
-            wires[index].copy_from_slice(&quads(&mut row)[..Q]);
+            wires[index % G].copy_from_slice(&quads(&mut row)[..Q]);
         }
         window.write(scratch, &places, 0, held);
         for (i, band) in scratch.chunks_exact_mut(band).enumerate().take(N) {
