@@ -25,11 +25,13 @@ pub struct Gates {
     firsts: Plane,
     /// The second named wires; 0 for gates that name one.
     seconds: Plane,
-    /// The owners of in gates; 255 for others.
+    /// The owners of in gates; 255 for others and after the last gate.
     owners: Plane,
+    /// The constants, of which only those are told apart that are 0 and that are not.
     constants: Plane,
 }
 
+/// The index of each gate.
 const INDICES: Plane = {
     let mut indices = [0; MAX_GATES];
     let mut index = 0;
@@ -40,6 +42,7 @@ const INDICES: Plane = {
     indices
 };
 
+/// Numbers or gates that are gone through at once.
 const BLOCK: usize = 16;
 
 fn blocks_of(plane: &mut Plane) -> impl Iterator<Item = &mut [u8; BLOCK]> {
@@ -147,7 +150,7 @@ impl Gates {
         }
     }
 
-    /// Parts the bytes of all fields.
+    /// Parts the bytes by fields.
     fn part(&mut self, bytes: &Bytes) {
         let names = blocks_of(&mut self.firsts).zip(blocks_of(&mut self.seconds));
         let others = blocks_of(&mut self.kinds).zip(blocks_of(&mut self.constants));
@@ -178,13 +181,13 @@ impl Gates {
         for (((((&kind, first), &second), owner), &constant), &index) in fields {
             let input = mask(kind == IN8);
             let two = mask(kind & !1 == ADD8) | mask(kind == MUL8);
-            let scaled = mask(kind & !1 == PLUS8);
+            let has_constant = mask(kind & !1 == PLUS8);
             let first_end = (parties & input) | (index & !input);
             let second_end = (index & two) | (1 & !two);
             bad |= (kind.wrapping_sub(1) & !7)
                 | mask(*first >= first_end)
                 | mask(second >= second_end)
-                | (constant & !scaled);
+                | (constant & !has_constant);
             *owner = *first | !input;
             *first &= !input;
         }
@@ -194,16 +197,11 @@ impl Gates {
     /// Whether no gate names an out gate.
     fn values_named(&self) -> bool {
         let out = self.kinds.map(|kind| mask(kind == OUT8));
-        let (firsts, seconds) = (
-            &self.firsts[..self.padded()],
-            &self.seconds[..self.padded()],
-        );
-        let (firsts, seconds) = (
-            firsts.as_chunks::<BLOCK>().0,
-            seconds.as_chunks::<BLOCK>().0,
-        );
+        let blocks = |plane| <[u8]>::as_chunks::<BLOCK>(plane).0.iter();
+        let firsts = blocks(&self.firsts[..self.padded()]);
+        let seconds = blocks(&self.seconds[..self.padded()]);
         let mut named = 0;
-        for (firsts, seconds) in firsts.iter().zip(seconds) {
+        for (firsts, seconds) in firsts.zip(seconds) {
             for (&first, &second) in firsts.iter().zip(seconds) {
                 named |= out[usize::from(first)] | out[usize::from(second)];
             }
@@ -241,7 +239,7 @@ impl Gates {
         count(kinds.map(|(&kind, &index)| kind & mask(index < end)))
     }
 
-    /// How many in gates the party has, before a gate if it is not 0.
+    /// How many in gates the party has.
     pub fn owned(&self, party: u8) -> usize {
         let mut owned = 0u8;
         for &owner in &self.owners[..self.padded()] {

@@ -181,6 +181,7 @@ impl Run<'_> {
 
     /// Runs N parties, whose numbers lie in Q quads. Rows of several lists are gone through side by side.
     #[allow(clippy::needless_range_loop)]
+    #[inline(never)]
     fn run<const N: usize, const Q: usize, const G: usize>(
         self,
         scratch: &mut [u32],
