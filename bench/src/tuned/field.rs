@@ -83,20 +83,16 @@ impl Bits {
     }
 }
 
-/// Whether all numbers are below `P`. The last lanes of a list may be asked twice.
+/// Whether all numbers are below `P`. The last ones of a long list may be asked twice.
 pub fn all_elements(list: &[u32]) -> bool {
+    let Some(last) = list.last_chunk() else {
+        return list.iter().all(|&x| x < P);
+    };
     let mut bits = Bits::default();
     for numbers in list.as_chunks().0 {
         bits.add(numbers);
     }
-    match list.last_chunk() {
-        Some(last) => bits.add(last),
-        None => {
-            let mut last = [0; LANES];
-            last[..list.len()].copy_from_slice(list);
-            bits.add(&last);
-        }
-    }
+    bits.add(last);
     bits.elements()
 }
 

@@ -61,8 +61,8 @@ pub fn joint_run(
     let scratch = &mut scratch[..count * band];
     // Less room on the stack is less to fill with zeros.
     Ok(match gates.len {
-        ..=64 => run.with_room::<64>(parties, scratch, band, opened),
-        ..=128 => run.with_room::<128>(parties, scratch, band, opened),
+        0..=64 => run.with_room::<64>(parties, scratch, band, opened),
+        65..=128 => run.with_room::<128>(parties, scratch, band, opened),
         _ => run.with_room::<MAX_GATES>(parties, scratch, band, opened),
     })
 }
