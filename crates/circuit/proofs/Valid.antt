@@ -99,7 +99,7 @@ module _ (n q : ℕ) (c : List ℕ) (j : ℕ) where
   unfolding RestOk role gate
   rests-ok v = three _ (fits-rest _ _ (v .first)) (fits-rest _ _ (v .second)) (fits-rest _ _ (v .constant))
 
-  gate-accepted : ValidGate n q c j → askGate n q c j ≡ Accepted
+  pub gate-accepted : ValidGate n q c j → askGate n q c j ≡ Accepted
   unfolding askGate isKind askName askRest NameOk RestOk
   gate-accepted v =
       then-both (ask-yes 4 j (both-true (le-leb firstKind (entry c j 0) (v .low)) (le-leb (entry c j 0) lastKind (v .high))))

@@ -25,12 +25,12 @@ returns-3 : tie.Need-returns-3
 unfolding verdictOf askCircuit askSize gates ask _then_
 returns-3 c = search tests
 
-scan-requires : tie.Need-scan-requires
-scan-requires c κs = search needs
+ask-gates-requires : tie.Need-ask-gates-requires
+ask-gates-requires c κs = search needs
 
 returns-4 : tie.Need-returns-4
 unfolding verdictOf gates
-returns-4 c = circuit-gates _ _ _ (c .before .before .before .before .before .before .if1 .left) (c .before .before .before .before .before .if2 .left) (c .before .before .before .before .if3 .left) (rw (c .before .number .given .1) at (c .before .before .before .scan .ensures))
+returns-4 c = circuit-gates _ _ _ (c .before .before .before .before .before .before .if1 .left) (c .before .before .before .before .before .if2 .left) (c .before .before .before .before .if3 .left) (rw (c .before .number .given .1) at (c .before .before .before .ask-gates .ensures))
 
 class-at-requires : tie.Need-class-at-requires
 class-at-requires c κs = search needs
@@ -40,14 +40,14 @@ is-out-requires c κs = search needs
 
 returns-5 : tie.Need-returns-5
 unfolding verdictOf gates
-returns-5 c = circuit-last _ _ _ (c .before .before .before .before .before .before .before .before .if1 .left) (c .before .before .before .before .before .before .before .if2 .left) (c .before .before .before .before .before .before .if3 .left) (rw (c .before .before .before .enum-told .given .1) at (c .before .before .before .before .before .scan .ensures)) (c .before .is-out .ensures ∙ ap (isClass Output) (c .before .before .class-at .ensures)) (c .if4 .taken)
+returns-5 c = circuit-last _ _ _ (c .before .before .before .before .before .before .before .before .if1 .left) (c .before .before .before .before .before .before .before .if2 .left) (c .before .before .before .before .before .before .if3 .left) (rw (c .before .before .before .enum-told .given .1) at (c .before .before .before .before .before .ask-gates .ensures)) (c .before .is-out .ensures ∙ ap (isClass Output) (c .before .before .class-at .ensures)) (c .if4 .taken)
 
 returns-6 : tie.Need-returns-6
 unfolding verdictOf gates
-returns-6 c = circuit-ok _ _ _ (c .before .before .before .before .before .before .before .before .if1 .left) (c .before .before .before .before .before .before .before .if2 .left) (c .before .before .before .before .before .before .if3 .left) (rw (c .before .before .before .enum-told .given .1) at (c .before .before .before .before .before .scan .ensures)) (c .before .is-out .ensures ∙ ap (isClass Output) (c .before .before .class-at .ensures)) (c .if4 .left)
+returns-6 c = circuit-ok _ _ _ (c .before .before .before .before .before .before .before .before .if1 .left) (c .before .before .before .before .before .before .before .if2 .left) (c .before .before .before .before .before .before .if3 .left) (rw (c .before .before .before .enum-told .given .1) at (c .before .before .before .before .before .ask-gates .ensures)) (c .before .is-out .ensures ∙ ap (isClass Output) (c .before .before .class-at .ensures)) (c .if4 .left)
 
 pub accept-spec : {M : Type 1} → statement M
 accept-spec =
     tie.close
-    (tie.spec returns returns-2 returns-3 scan-requires (λ c. search needs) returns-4 (λ c. search needs) (λ c. search needs) class-at-requires
+    (tie.spec returns returns-2 returns-3 ask-gates-requires (λ c. search needs) returns-4 (λ c. search needs) (λ c. search needs) class-at-requires
     is-out-requires returns-5 returns-6)
