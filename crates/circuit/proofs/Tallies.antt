@@ -2,19 +2,20 @@
 -- Assumes nothing.
 use Prim.Native.Nat.{ℕ, _+_, _*_, _≤_}
 use mathlib.Core.Path.{_≡_, ap, sym, _∙_}
-use mathlib.Core.Bool.{Bool, true, cond}
+use mathlib.Core.Bool.{Bool, true, false, cond}
 use mathlib.Core.List.{List}
 use native.Mathlib.Omega.{arith}
+use lib.Dec.{eqb}
 use Rattle.circuit.specs.Gate.{gate}
-use Rattle.circuit.specs.Kind.{Local, Owned, Output, shape, isClass, isIn, isOut, ownedBy}
+use Rattle.circuit.specs.Kind.{Class, Local, Owned, Opens, Output, shape, isClass, isIn, isOut, ownedBy}
 use Rattle.circuit.specs.Count as N
 use Rattle.circuit.specs.Round.{classRounds, shapeWords, coefficientsIn, overRounds}
 use Rattle.circuit.specs.Code.{classOf, shapeOf, Tallied, Totalled}
 use Rattle.circuit.specs.declared.Shape.{Shape}
 use Rattle.circuit.specs.declared.Tally.{Tally}
 use Rattle.circuit.specs.declared.Totals.{Totals}
-use Rattle.circuit.proofs.KindLaws.{is-class, Idle, idle, shape-class, shape-prep, shape-openings}
-use Rattle.circuit.proofs.Counts.{prep-more, prep-le, openings-more, openings-le, unchecked-valued, unchecked-more, unchecked-few, input-more, input-le, count-more, count-le}
+use Rattle.circuit.proofs.KindLaws.{is-class, class-is, local-no-in, local-no-out, owned-no-out, opens-no-in, opens-no-out, output-no-in, local-facts, owned-facts, output-facts, Idle, idle, shape-class, shape-prep, shape-openings}
+use Rattle.circuit.proofs.Counts.{prep-more, prep-le, openings-more, openings-le, unchecked-valued, unchecked-out, unchecked-more, unchecked-few, input-more, input-le, count-more, count-le}
 use Rattle.circuit.proofs.RoundLaws.{words-local, words-more, words-run-le, coefficients-local, coefficients-more, coefficients-run-le}
 
 idle-shape : (c : List ℕ) (j : ℕ) (s : Shape) → shapeOf s ≡ shape (gate c j) → isClass Local (classOf (s .class)) ≡ true → Idle (gate c j)
@@ -24,32 +25,68 @@ module _ {c : List ℕ} {i j : ℕ} {t : Tally} (was : Tallied c i j t) where
   pub tally-low : (t .prep ≤ 1 + 6 * j) × (t .openings ≤ 2 * j) × (t .unchecked ≤ 2 * j) × (t .inputs ≤ j)
   tally-low = (rw (was .prep) (prep-le c j), rw (was .openings) (openings-le c j), rw (was .unchecked) (unchecked-few c j), rw (was .inputs) (input-le c i j))
 
-  pub tally-more :
-      (s : Shape) {u k : ℕ} {b : Bool} →
-      shapeOf s ≡ shape (gate c j) →
-      u ≡ N.uncheckedAfter (shapeOf s) (t .unchecked) →
-      b ≡ ownedBy i (gate c j) →
-      k ≡ cond b 1 0 →
-      Tallied c i (j + 1) (record { prep = t .prep + s .prep; openings = t .openings + s .openings; unchecked = u; inputs = t .inputs + k })
-  tally-more s said after own one =
-      record {
-        prep = cc (was .prep, shape-prep s (gate c j .kind) said, prep-more c j);
-        openings = cc (was .openings, shape-openings s (gate c j .kind) said, openings-more c j);
-        unchecked = cc (was .unchecked, unchecked-more c j);
-        inputs = cc (was .inputs, input-more c i j);
-      }
+  -- what a gate of each class counts; the code found its shape to be s
+  module _ (s : Shape) (said : shapeOf s ≡ shape (gate c j)) where
+    told : {k : Class} → classOf (s .class) ≡ k → shape (gate c j) .class ≡ k
+    told e = sym (shape-class s (gate c j .kind) said) ∙ e
 
-  -- a linear gate counts nothing
-  pub tally-kept : (s : Shape) → shapeOf s ≡ shape (gate c j) → isClass Local (classOf (s .class)) ≡ true → Tallied c i (j + 1) t
-  tally-kept s said e =
-      let q = idle-shape c j s said e in
-      let nobody : _≡_ {A = ℕ} (cond (ownedBy i (gate c j)) 1 0) 0 = rw (q .nobody i) in
-      record {
-        prep = omega (arith, was .prep, prep-more c j, q .prep);
-        openings = omega (arith, was .openings, openings-more c j, q .openings);
-        unchecked = omega (arith, was .unchecked, unchecked-more c j, unchecked-valued (shape (gate c j)) (N.unchecked c j) (q .no-out), q .openings);
-        inputs = omega (arith, was .inputs, input-more c i j, nobody);
-      }
+    nobody : isIn (gate c j) ≡ false → _≡_ {A = ℕ} (cond (ownedBy i (gate c j)) 1 0) 0
+    unfolding ownedBy
+    nobody e = rw e
+
+    -- a linear gate counts nothing
+    pub tally-local : classOf (s .class) ≡ Local → Tallied c i (j + 1) t
+    tally-local e =
+        let h = told e in
+        let none = local-facts (gate c j) h in
+        record {
+          prep = omega (arith, was .prep, prep-more c j, none .prep);
+          openings = omega (arith, was .openings, openings-more c j, none .openings);
+          unchecked = omega (arith, was .unchecked, unchecked-more c j, unchecked-valued (shape (gate c j)) (N.unchecked c j) (local-no-out h), none .openings);
+          inputs = omega (arith, was .inputs, input-more c i j, nobody (local-no-in h));
+        }
+
+    pub tally-owned :
+        classOf (s .class) ≡ Owned →
+        {x k : ℕ} →
+        x ≡ gate c j .first →
+        k ≡ cond (eqb x i) 1 0 →
+        Tallied c i (j + 1) (record { prep = t .prep + s .prep; openings = t .openings; unchecked = t .unchecked; inputs = t .inputs + k })
+    unfolding ownedBy
+    tally-owned e first one =
+        let h = told e in
+        let mine : _≡_ {A = ℕ} (cond (ownedBy i (gate c j)) 1 0) (cond (eqb (gate c j .first) i) 1 0) = rw (class-is h) in
+        let none = owned-facts (gate c j) h .openings in
+        record {
+          prep = omega (arith, was .prep, shape-prep s (gate c j .kind) said, prep-more c j);
+          openings = omega (arith, was .openings, openings-more c j, none);
+          unchecked = omega (arith, was .unchecked, unchecked-more c j, unchecked-valued (shape (gate c j)) (N.unchecked c j) (owned-no-out h), none);
+          inputs = cc (was .inputs, input-more c i j, mine, one, first);
+        }
+
+    pub tally-opens :
+        classOf (s .class) ≡ Opens →
+        Tallied c i (j + 1) (record { prep = t .prep + s .prep; openings = t .openings + s .openings; unchecked = t .unchecked + s .openings; inputs = t .inputs })
+    tally-opens e =
+        let h = told e in
+        let opened = shape-openings s (gate c j .kind) said in
+        record {
+          prep = omega (arith, was .prep, shape-prep s (gate c j .kind) said, prep-more c j);
+          openings = omega (arith, was .openings, openings-more c j, opened);
+          unchecked = omega (arith, was .unchecked, unchecked-more c j, unchecked-valued (shape (gate c j)) (N.unchecked c j) (opens-no-out h), opened);
+          inputs = omega (arith, was .inputs, input-more c i j, nobody (opens-no-in h));
+        }
+
+    pub tally-output : classOf (s .class) ≡ Output → Tallied c i (j + 1) (record { prep = t .prep; openings = t .openings; unchecked = 0; inputs = t .inputs })
+    tally-output e =
+        let h = told e in
+        let none = output-facts (gate c j) h in
+        record {
+          prep = omega (arith, was .prep, prep-more c j, none .prep);
+          openings = omega (arith, was .openings, openings-more c j, none .openings);
+          unchecked = omega (arith, unchecked-more c j, unchecked-out (shape (gate c j)) (N.unchecked c j) (class-is h));
+          inputs = omega (arith, was .inputs, input-more c i j, nobody (output-no-in h));
+        }
 
 module _ {c : List ℕ} {j : ℕ} {t : Totals} (was : Totalled c j t) where
   pub totals-low : (t .prep ≤ 1 + 6 * j) × (t .openings ≤ 2 * j) × (t .ins ≤ j) × (t .outs ≤ j) × (t .words ≤ 6 * j) × (t .coefficients + N.unchecked c j ≤ 2 * j)

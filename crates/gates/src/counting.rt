@@ -1,5 +1,6 @@
 // What is counted along a circuit.
 use crate::reading;
+use circuit::Class;
 use circuit::Shape;
 use circuit::Tally;
 use circuit::Totals;
@@ -10,38 +11,38 @@ ghost use mathlib.Core.Path.{_≡_};
 ghost use Prim.Native.Nat.{_+_, _*_, _<_, _≤_};
 ghost use lib.ListN.{length};
 ghost use Rattle.circuit.specs.Gate.{gateSize, gate};
-ghost use Rattle.circuit.specs.Kind.{shape, ownedBy};
+ghost use Rattle.circuit.specs.Kind.{shape};
 ghost use Rattle.circuit.specs.Count.{unchecked};
 ghost use Rattle.circuit.specs.Accept.{mostGates};
 ghost use Rattle.circuit.specs.Code.{shapeOf, Tallied, Totalled};
 
-// Is gate j, of that shape, an in gate of party i?
-fn owned_by(s: Shape, c: &[Word], i: usize, j: usize) -> bool
-    requires { ⌜ (gateSize * j + gateSize ≤ length (now c)) × (shapeOf s ≡ shape (gate (now c) j)) ⌝ }
-    ensures { λ r. ⌜ r ≡ ownedBy i (gate (now (c .entry)) j) ⌝ }
-{
-    let class = s.class;
-    if shapes::is_in(class) {
-        return reading::first_at(c, j) == i;
-    }
-    false
-}
-
-// The count of party i goes on by gate j. A linear gate counts nothing.
+// The count of party i goes on by gate j: what changes is told by its class. A linear gate counts nothing.
 pub fn tally_gate(c: &[Word], i: usize, j: usize, t: Tally) -> Tally
     requires { ⌜ (gateSize * j + gateSize ≤ length (now c)) × (j < mostGates) × Tallied (now c) i j t ⌝ }
     ensures { λ r. ⌜ Tallied (now (c .entry)) i (j + 1) r ⌝ }
 {
     let s = reading::shape_at(c, j);
     let class = s.class;
-    if shapes::is_linear(class) {
-        return t;
-    }
-    Tally {
-        prep: t.prep + s.prep,
-        openings: t.openings + s.openings,
-        unchecked: counting::unchecked_after(s, t.unchecked),
-        inputs: t.inputs + counting::one_if(owned_by(s, c, i, j)),
+    match class {
+        Class::Local => t,
+        Class::Owned => Tally {
+            prep: t.prep + s.prep,
+            openings: t.openings,
+            unchecked: t.unchecked,
+            inputs: t.inputs + counting::one_if(reading::first_at(c, j) == i),
+        },
+        Class::Opens => Tally {
+            prep: t.prep + s.prep,
+            openings: t.openings + s.openings,
+            unchecked: t.unchecked + s.openings,
+            inputs: t.inputs,
+        },
+        Class::Output => Tally {
+            prep: t.prep,
+            openings: t.openings,
+            unchecked: 0,
+            inputs: t.inputs,
+        },
     }
 }
 
