@@ -31,11 +31,11 @@ use Rattle.protocol.proofs.Bands.{band-joined}
 use Rattle.protocol.proofs.Following.{next-follows, next-stops, passes-zero, passes-not, passes-other}
 use Rattle.joint.specs.declared.JointAnswer.{JointAnswer}
 use Rattle.joint.specs.declared.Frame.{Frame}
-use Rattle.joint.specs.Code.{jointAnswerOf, Course, dueAt, stateOf, keyIn, Prepared, Banded, EachBand, rebanded, shareIn, each, writtenAt, noneHeld, Moving, Moved, Turned, Runnable, Ran}
+use Rattle.joint.specs.Code.{jointAnswerOf, Course, dueAt, stateOf, keyIn, Prepared, Banded, EachBand, rebanded, shareIn, each, writtenAt, noneHeld, Moving, Moved, Turned, Runnable, Ran, Common}
 use Rattle.joint.proofs.Parties.{lent-undrawn}
 use Rattle.joint.proofs.Going.{within, occurs}
 use Rattle.joint.proofs.Later.{resumed-prep}
-use Rattle.joint.proofs.Releasing.{freed-one}
+use Rattle.joint.proofs.Releasing.{entry-zero, freed-one}
 use Rattle.joint.proofs.SendTurns.{lentAll, check-asks, taken, checked-is, said-by}
 use Rattle.joint.proofs.ReceiveTurns.{settledLeft, commit-left, first-left, stopped-left, reveal-settles, reveal-received}
 use Rattle.joint.proofs.Rounding.{said-received, round-moved}
@@ -145,16 +145,20 @@ module _ {f : Frame} {c preps inputs coefficients l₀ t₀ o₀ : List ℕ} (ab
   revealing = running-moving J f l₀ t₀ o₀ able sealed-running (Reveal k) refl
 
   -- what the check asks
-  pub check-asked : (f .parties ≤ mostParties)
+  pub check-asked : Common f l m
+      → (f .parties ≤ mostParties)
       × Prepared f preps 0 1
       × Banded f l
       × (s .used + m ≤ length coefficients)
       × Below size coefficients
       × EachBand f l (λ i x. (e : ℕ) → e < m → Opened size (layoutOf (f .layout)) x e)
+      × (0 < f .parties)
+      × (0 < layoutOf (f .layout) .capacity)
+      × Common f l m
       × (s .written + f .parties + f .parties ≤ length t)
-  check-asked =
+  check-asked h =
       let a = check-asks (moving .going) refl opened-is in
-      (a .0, a .1, a .2, a .3, a .4, a .5, omega (arith, revealing .words-fit, ap (λ (x : ℕ). f .parties * x) (one-word c (s .point .gate) k .1), inv .long-t, sealed-running .long-t))
+      (a .0, a .1, a .2, a .3, a .4, a .5, omega (arith, moving .going .lent .some), entry-zero c (f .layout) (moving .going .lent .framed .lay), h, omega (arith, revealing .words-fit, ap (λ (x : ℕ). f .parties * x) (one-word c (s .point .gate) k .1), inv .long-t, sealed-running .long-t))
 
   -- the check shares are revealed
   shares-said : each (f .parties) share ≡ said ops J (stateOf f sealed (heldOf (f .parties) share) l) (Reveal k)

@@ -1,6 +1,6 @@
 -- A run from gate to gate, at outputs: their checks and their opening lead to the next gate or stop the run. And its start and its end.
 -- Assumes nothing.
-use Prim.Native.Nat.{ℕ, _+_, _-_, _*_, _<_, _≤_}
+use Prim.Native.Nat.{ℕ, suc, _+_, _-_, _*_, _<_, _≤_}
 use mathlib.Core.Path.{_≡_, refl, sym, ap, subst}
 use mathlib.Core.List.{List}
 use mathlib.Core.Logic.{inl, inr, ⊎-elim}
@@ -10,12 +10,12 @@ use lib.ListN.{length, set}
 use Rattle.algebra.specs.Element.{Is}
 use Rattle.field.specs.Words.{size, ops}
 use Rattle.circuit.specs.Gate.{gate, gates}
-use Rattle.circuit.specs.Kind.{Local, Output, shape, isClass}
+use Rattle.circuit.specs.Kind.{Local, Owned, Opens, Output, shape, isClass}
 use Rattle.circuit.specs.Count.{unchecked, uncheckedAfter}
-use Rattle.circuit.specs.Round.{First, Second, Open, Commit, revealWords}
-use Rattle.circuit.proofs.KindLaws.{class-is, output-no-in}
+use Rattle.circuit.specs.Round.{Own, First, Second, Open, Commit, revealWords}
+use Rattle.circuit.proofs.KindLaws.{class-is, owned-no-out, opens-no-out, output-no-in, owned-facts}
 use Rattle.circuit.proofs.Gates.{gate-zero}
-use Rattle.protocol.specs.Position.{Point, Aborted, Finished, finished, reach, start, whenSending}
+use Rattle.protocol.specs.Position.{Point, Aborted, Finished, finished, reach, start, whenSending, resume}
 use Rattle.protocol.specs.Receive.{heardSum}
 use Rattle.protocol.specs.Send.{mark}
 use Rattle.protocol.specs.Scratch.{layout, Value, read}
@@ -31,14 +31,16 @@ use Rattle.protocol.proofs.Runs.{Over}
 use Rattle.joint.specs.declared.JointAnswer.{JointAnswer}
 use Rattle.joint.specs.declared.Frame.{Frame}
 use Rattle.joint.specs.declared.Stop.{Stop}
-use Rattle.joint.specs.Code.{jointAnswerOf, courseOf, dueAt, dueIn, cameTo, Placed, keyIn, Prepared, Banded, EachBand, rebanded, shareIn, each, writtenAt, noneHeld, Moving, Moved, Kept, Runnable, Ran}
+use Rattle.joint.specs.Code.{jointAnswerOf, courseOf, dueAt, dueIn, cameTo, Placed, keyIn, Prepared, Banded, EachBand, rebanded, shareIn, each, writtenAt, noneHeld, Moving, Moved, Kept, Runnable, Ran, Common, Passed}
+use Rattle.joint.proofs.Common.{input-common, opening-common, show-common}
 use Rattle.joint.proofs.Later.{waits-stop}
 use Rattle.joint.proofs.Measures.{gates-are}
 use Rattle.joint.proofs.ReceiveTurns.{settledLeft}
 use Rattle.joint.proofs.SendTurns.{lentAll}
-use Rattle.joint.proofs.Stops.{came-own, came-open, came-commit, came-end, stop-within, stop-stands, resume-came}
+use Rattle.joint.proofs.Stops.{own-in, own-opens, came-own, came-open, came-commit, came-end, stop-within, stop-stands, resume-came}
 use Rattle.joint.proofs.Running.{Running, running-moving, running-again, running-over, running-start}
-use Rattle.joint.proofs.Passing.{turned-quietly, Standing, places-stay}
+use Rattle.joint.proofs.Passing.{turned-quietly, Standing, places-stay, own-waits, own-moving}
+use Rattle.joint.proofs.Turns.{next-waits}
 use Rattle.joint.proofs.CheckTurns.{check-asked, check-stopped, first-checked, output-room, output-settles, second-checked}
 
 -- nothing is sent once a run is finished
@@ -50,6 +52,25 @@ module _ {f : Frame} {c preps inputs coefficients l₀ t₀ o₀ : List ℕ} (ab
   -- the gates of the frame are those of the circuit
   pub gates-same : f .layout .gates ≡ gates c
   gates-same = gates-are (able .lent .valid) (able .lent .framed)
+
+  -- own rounds leave opened values that are the same to all
+  module _ {s : Stop} {places l t o : List ℕ} (inv : Standing (lentAll f c preps inputs coefficients) f l₀ t₀ o₀ s places l t o) (h : s .gate < gates c)
+      {s′ : Stop} {l′ t′ : List ℕ}
+      (d : Moved (lentAll f c preps inputs coefficients) f (courseOf (dueAt (s .gate) Own) s) Own noneHeld l t (courseOf (resume c (suc (s .gate))) s′) noneHeld l′ t′)
+      (p : Passed c s s′) where
+    pub in-common : shape (gate c (s .gate)) .class ≡ Owned → Common f l′ (s′ .waiting)
+    in-common cl =
+        let u = own-moving _ f l₀ t₀ o₀ able inv h cl (own-in (s .waiting)) (owned-no-out refl) in
+        let w = own-waits _ f l₀ t₀ o₀ able inv h cl (own-in (s .waiting)) (owned-no-out refl) in
+        let e : s .waiting ≡ s′ .waiting = omega (arith, next-waits u (owned-no-out cl) w (sym (owned-facts (gate c (s .gate)) cl .openings)) (p .gate), p .waiting) in
+        subst (Common f l′) e (input-common (u .going) d cl w (inv .common))
+
+    pub opens-common : shape (gate c (s .gate)) .class ≡ Opens → Common f l′ (s′ .waiting)
+    opens-common cl =
+        let u = own-moving _ f l₀ t₀ o₀ able inv h cl (own-opens (s .waiting)) (opens-no-out refl) in
+        let w = own-waits _ f l₀ t₀ o₀ able inv h cl (own-opens (s .waiting)) (opens-no-out refl) in
+        let e : s .waiting + shape (gate c (s .gate)) .openings ≡ s′ .waiting = omega (arith, next-waits u (opens-no-out cl) w refl (p .gate), p .waiting) in
+        subst (Common f l′) e (opening-common (u .going) d cl w refl (inv .common))
 
   module _ {s : Stop} {places l t o : List ℕ} (inv : Standing (lentAll f c preps inputs coefficients) f l₀ t₀ o₀ s places l t o)
       (h : s .gate < gates c) (cl : shape (gate c (s .gate)) .class ≡ Output) where
@@ -70,8 +91,11 @@ module _ {f : Frame} {c preps inputs coefficients l₀ t₀ o₀ : List ℕ} (ab
           × (s .used + s .waiting ≤ length coefficients)
           × Below size coefficients
           × EachBand f l (λ i x. (e : ℕ) → e < s .waiting → Opened size (layoutOf (f .layout)) x e)
+          × (0 < f .parties)
+          × (0 < layoutOf (f .layout) .capacity)
+          × Common f l (s .waiting)
           × (s .written + f .parties + f .parties ≤ length t)
-      first-asked = check-asked able First sealing refl all-wait
+      first-asked = check-asked able First sealing refl all-wait (inv .common)
 
       module _ {v : ℕ} (ev : Is size (heardSum ops (f .parties) revealWords 0 (each (f .parties) (shareIn f preps l (s .waiting) (s .used) coefficients))) v)
           {t₁ : List ℕ} (et : t₁ ≡ writtenAt (s .written + f .parties) (each (f .parties) (shareIn f preps l (s .waiting) (s .used) coefficients)) (writtenAt (s .written) (each (f .parties) (λ i. mark)) t)) where
@@ -90,6 +114,7 @@ module _ {f : Frame} {c preps inputs coefficients l₀ t₀ o₀ : List ℕ} (ab
               stands = inv .stands;
               waits = inr (cl, refl);
               placed = inv .placed;
+              common = λ i q k w. absurd (omega arith);
               running =
                   subst
                   (λ (x : Point). Running (lentAll f c preps inputs coefficients) f l₀ t₀ o₀
@@ -120,8 +145,11 @@ module _ {f : Frame} {c preps inputs coefficients l₀ t₀ o₀ : List ℕ} (ab
             × (s₁ .used + 1 ≤ length coefficients)
             × Below size coefficients
             × EachBand f l₁ (λ i x. (e : ℕ) → e < 1 → Opened size (layoutOf (f .layout)) x e)
+            × (0 < f .parties)
+            × (0 < layoutOf (f .layout) .capacity)
+            × Common f l₁ 1
             × (s₁ .written + f .parties + f .parties ≤ length t₁)
-        second-asked = check-asked able Second shown refl refl
+        second-asked = check-asked able Second shown refl refl (show-common (show-moving .going) d)
 
         pub shown-long : length t₁ ≡ length t₀
         shown-long = shown .long-t
@@ -161,6 +189,7 @@ module _ {f : Frame} {c preps inputs coefficients l₀ t₀ o₀ : List ℕ} (ab
                   stands = stop-stands c (s .gate) h es;
                   waits = inl none-waits;
                   placed = places-stay _ f l₀ t₀ o₀ able inv h (output-no-in cl) es;
+                  common = λ i q k w. absurd (omega arith);
                   running =
                       subst
                       (λ (y : Point). Running (lentAll f c preps inputs coefficients) f l₀ t₀ o₀
@@ -193,6 +222,7 @@ module _ {f : Frame} {c preps inputs coefficients l₀ t₀ o₀ : List ℕ} (ab
         stands = λ h. ap (isClass Local) (gate-zero (able .lent .valid));
         waits = inl refl;
         placed = k;
+        common = λ i q e w. absurd (omega arith);
         running =
             running-start (lentAll f c preps inputs coefficients) f l₀ t₀ o₀ able
             (courseOf (cameTo c 0 0) (record { gate = 0; prep = 1; waiting = 0; used = 0; written = 0; released = 0; rounds = 0 }))

@@ -14,6 +14,7 @@ pub mod Measures
 pub mod Later
 pub mod Rounding
 pub mod Checking
+pub mod Common
 pub mod Turns
 pub mod Stops
 pub mod Passing

@@ -21,7 +21,7 @@ use Rattle.protocol.specs.Run.{released}
 use Rattle.protocol.specs.JointEntry as E
 use Rattle.joint.specs.declared.Frame.{Frame}
 use Rattle.joint.specs.declared.Stop.{Stop}
-use Rattle.joint.specs.Code.{Course, courseOf, dueAt, dueIn, cameTo, Placed, stateOf, noneHeld, Moving, Moved, Turned, Kept, Passed, Runnable}
+use Rattle.joint.specs.Code.{Course, courseOf, dueAt, dueIn, cameTo, Placed, stateOf, noneHeld, Moving, Moved, Turned, Kept, Passed, Runnable, Common}
 use Rattle.joint.proofs.Arrays.{counted-other, placed-small, placed-on}
 use Rattle.joint.proofs.Later.{placed-stop}
 use Rattle.joint.proofs.Stops.{came-own, stop-within, stop-stands, resume-came}
@@ -52,6 +52,7 @@ module _ (J : Joint) (f : Frame) (l₀ t₀ o₀ : List ℕ) where
     pub stands : s .gate < gates (J .circuit) → isLinear (gate (J .circuit) (s .gate)) ≡ false
     pub waits : (s .waiting ≡ unchecked (J .circuit) (s .gate)) ⊎ ((shape (gate (J .circuit) (s .gate)) .class ≡ Output) × (s .waiting ≡ 0))
     pub placed : Placed (J .parties) (J .circuit) (s .gate) places
+    pub common : Common f l (s .waiting)
     pub running : Running J f l₀ t₀ o₀ (courseOf (cameTo (J .circuit) (s .gate) (s .waiting)) s) noneHeld l t o
 
   module _ (able : Runnable J f l₀ t₀ o₀) {s : Stop} {places l t o : List ℕ} (inv : Standing s places l t o) (h : s .gate < gates (J .circuit)) where
@@ -82,13 +83,15 @@ module _ (J : Joint) (f : Frame) (l₀ t₀ o₀ : List ℕ) where
           → Kept s s′
           → Passed (J .circuit) s s′
           → Placed (J .parties) (J .circuit) (s′ .gate) places′
+          → Common f l′ (s′ .waiting)
           → Standing s′ places′ l′ t′ o
-      own-passed {s′} {places′} {l′} {t′} d k p q =
+      own-passed {s′} {places′} {l′} {t′} d k p q e =
           record {
             within = stop-within (J .circuit) (s .gate) h (p .gate);
             stands = stop-stands (J .circuit) (s .gate) h (p .gate);
             waits = inl (p .waiting);
             placed = q;
+            common = e;
             running =
                 subst (λ (x : Point). Running J f l₀ t₀ o₀ (courseOf x s′) noneHeld l′ t′ o)
                 (resume-came (J .circuit) (s .gate) h (p .gate) (p .waiting))

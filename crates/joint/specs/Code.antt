@@ -173,6 +173,12 @@ EachBand f l P = (i : ℕ) → i < f .parties → P i (band (f .scratch) l i)
 abbrev pub rebanded : Frame → (ℕ → List ℕ) → List ℕ → List ℕ
 rebanded f F l = joined (f .parties) F ++ drop (f .parties * f .scratch) l
 
+-- the first u opened values are the same to all parties
+abbrev pub Common : Frame → List ℕ → ℕ → Type 0
+Common f l u =
+    (i : ℕ) → i < f .parties → (t : ℕ) → t < u
+    → read (layoutOf (f .layout)) (band (f .scratch) l i) (Value t) ≡ read (layoutOf (f .layout)) (band (f .scratch) l 0) (Value t)
+
 -- the check share of party i over the first k opened entries, whose coefficients start at u
 abbrev pub shareIn : Frame → List ℕ → List ℕ → ℕ → ℕ → List ℕ → ℕ → ℕ
 shareIn f preps l k u coefficients i =

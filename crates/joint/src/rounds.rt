@@ -24,7 +24,7 @@ ghost use Rattle.protocol.specs.Send.{mark};
 ghost use Rattle.protocol.specs.Holding.{Below, Opened};
 ghost use Rattle.protocol.specs.Code.{layoutOf};
 ghost use Rattle.protocol.specs.Ask.{mostParties};
-ghost use Rattle.joint.specs.Code.{jointOf, Placed, courseOf, dueAt, Prepared, Banded, EachBand, shareIn, each, writtenAt, Moving, Moved, noneHeld, Passed, Kept, Runnable, Ran};
+ghost use Rattle.joint.specs.Code.{jointOf, Placed, courseOf, dueAt, Prepared, Banded, EachBand, Common, shareIn, each, writtenAt, Moving, Moved, noneHeld, Passed, Kept, Runnable, Ran};
 
 // The round of an in gate, which has the shape g; each party's next input is at its place.
 fn input_round(
@@ -182,6 +182,9 @@ fn check(
         × (u + k ≤ length (now coefficients))
         × Below size (now coefficients)
         × EachBand f (now scratch) (λ i l. (t : ℕ) → t < k → Opened size (layoutOf (f .layout)) l t)
+        × (0 < f .parties)
+        × (0 < layoutOf (f .layout) .capacity)
+        × Common f (now scratch) k
         × (start + f .parties + f .parties ≤ length (now transcript)) ⌝ }
     ensures { λ e. ⌜ (now (transcript .exit)
         ≡ writtenAt (start + f .parties) (each (f .parties) (shareIn f (now (preps .entry)) (now (scratch .entry)) k u (now (coefficients .entry))))

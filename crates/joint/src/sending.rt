@@ -13,7 +13,7 @@ ghost use Rattle.protocol.specs.Holding.{Below, Held, Opened};
 ghost use Rattle.protocol.specs.Code.{layoutOf};
 ghost use Rattle.protocol.specs.Ask.{mostParties};
 ghost use Rattle.protocol.specs.Joint.{joined, band};
-ghost use Rattle.joint.specs.Code.{prepFrom, Prepared, Banded, EachBand, shareIn};
+ghost use Rattle.joint.specs.Code.{prepFrom, Prepared, Banded, EachBand, Common, shareIn};
 
 // Each party's word of an in gate into out. Its record stands at number at of each party's preprocessing, and each party's next input at its
 // place.
@@ -116,7 +116,8 @@ pub fn put_marks(parties: usize, out: &mut [Word])
     }
 }
 
-// Each party's check share over the first k opened entries, whose coefficients start at u, into out.
+// Each party's check share over the first k opened entries, whose coefficients start at u, into out. The opened values are the same to all, so
+// that their sum is made once.
 pub fn check_shares(
     f: Frame,
     k: usize,
@@ -132,16 +133,22 @@ pub fn check_shares(
         × (u + k ≤ length (now coefficients))
         × Below size (now coefficients)
         × EachBand f (now scratch) (λ i l. (t : ℕ) → t < k → Opened size (layoutOf (f .layout)) l t)
+        × (0 < f .parties)
+        × (0 < layoutOf (f .layout) .capacity)
+        × Common f (now scratch) k
         × (length (now out) ≡ f .parties) ⌝ }
     ensures { λ r. ⌜ now (out .exit) ≡ joined (f .parties) (λ i. shareIn f (now (preps .entry)) (now (scratch .entry)) k u (now (coefficients .entry)) i ∷ []) ⌝ }
 {
     let v = u + k;
+    let w = f.scratch;
+    let sum = steps::sending::weigh_values(&scratch[..w], f.layout, k, &coefficients[u..v]);
     let mut i = 0;
     while i < f.parties {
         let key = i * f.prep;
         let start = i * f.scratch;
         let end = start + f.scratch;
-        let h = steps::sending::check_share(
+        let h = steps::sending::check_share_of(
+            sum,
             &scratch[start..end],
             f.layout,
             k,

@@ -1,6 +1,6 @@
 -- How the sums over words heard and over opened entries go on by one term.
 -- Assumes nothing.
-use Prim.Native.Nat.{ℕ, suc, _+_, _*_, _<_, _≤_}
+use Prim.Native.Nat.{ℕ, zero, suc, _+_, _*_, _<_, _≤_}
 use mathlib.Core.Path.{_≡_, refl, ap, _∙_, subst}
 use mathlib.Core.List.{List}
 use native.Mathlib.Omega.{arith}
@@ -11,8 +11,10 @@ use Rattle.algebra.specs.Element.{Is}
 use Rattle.algebra.specs.Ops.{Ops}
 use Rattle.algebra.specs.Field.{Field}
 use Rattle.algebra.proofs.Ring.{add-lt}
+use Rattle.algebra.proofs.Sums.{sum-ext}
 use Rattle.algebra.specs.Sum.{sum}
-use Rattle.protocol.specs.Scratch.{Layout, Slot, Value, ValueMac, read}
+use Rattle.protocol.specs.Scratch.{Layout, Value, ValueMac, offset, scratchSize, read}
+use Rattle.protocol.specs.Holding.{Opened}
 use Rattle.protocol.specs.Send.{checkShare}
 use Rattle.protocol.specs.Receive.{heardSum}
 
@@ -43,22 +45,44 @@ module _ {O : Ops} (F : Field O) {most : ℕ} (f : ℕ → ℕ) where
       → Running O most f (i + 1) r
   running-more i acc a e (b, d) = record { added = added-more F f i (O .norm acc) (a .added) e d; below = b }
 
--- a coefficient times what is in the slot of an opened entry
-abbrev pub weighed : Ops → Layout → List ℕ → List ℕ → (ℕ → Slot) → ℕ → ℕ
-weighed O y l coefficients slot t = O .mul (getD coefficients t 0) (read y l (slot t))
+-- k opened values, or MAC shares of them, stand side by side
+module _ {O : Ops} (F : Field O) (y : Layout) (l : List ℕ) (k : ℕ) (coefficients : List ℕ) {at : ℕ} where
+  pub values-weighed : at ≡ offset y (Value 0)
+      → sum O k (λ t. O .mul (getD coefficients t 0) (getD l (at + t) 0)) ≡ sum O k (λ t. O .mul (getD coefficients t 0) (read y l (Value t)))
+  unfolding read offset
+  values-weighed e = sum-ext F k _ _ (λ t h. ap (λ (i : ℕ). O .mul (getD coefficients t 0) (getD l i 0)) (omega (arith, e)))
+
+  pub macs-weighed : at ≡ offset y (ValueMac 0)
+      → sum O k (λ t. O .mul (getD coefficients t 0) (getD l (at + t) 0)) ≡ sum O k (λ t. O .mul (getD coefficients t 0) (read y l (ValueMac t)))
+  unfolding read offset
+  macs-weighed e = sum-ext F k _ _ (λ t h. ap (λ (i : ℕ). O .mul (getD coefficients t 0) (getD l i 0)) (omega (arith, e)))
+
+-- and the list holds them
+module _ {q : ℕ} (y : Layout) (l : List ℕ) (k : ℕ) (some : 0 < y .capacity) (room : scratchSize y ≤ length l) (h : (t : ℕ) → t < k → Opened q y l t) where
+  few : k ≤ y .capacity
+  few = go k h
+    where
+      go : (k : ℕ) → ((t : ℕ) → t < k → Opened q y l t) → k ≤ y .capacity
+      go zero h = omega arith
+      go (suc k) h = h k (omega arith) .within
+
+  pub values-there : {at : ℕ} → at ≡ offset y (Value 0) → (at + k ≤ length l) × ((t : ℕ) → t < k → getD l (at + t) 0 < q)
+  unfolding read offset scratchSize
+  values-there {at} e = (omega (arith, few, e), λ t l′. let z : at + t ≡ y .gates + y .gates + t = omega (arith, e) in rw z (h t l′ .value))
+
+  pub macs-there : {at : ℕ} → at ≡ offset y (ValueMac 0) → (at + k ≤ length l) × ((t : ℕ) → t < k → getD l (at + t) 0 < q)
+  unfolding read offset scratchSize
+  macs-there {at} e = (omega (arith, few, e), λ t l′. let z : at + t ≡ y .gates + y .gates + y .capacity + t = omega (arith, e) in rw z (h t l′ .mac))
 
 -- the check share from its two sums
-pub check-made : {O : Ops} {most : ℕ} (y : Layout) (l : List ℕ) (k key : ℕ) (coefficients : List ℕ) {t values macs v m w r : ℕ}
-    → t ≡ k
-    → Running O most (weighed O y l coefficients Value) t values
-    → Running O most (weighed O y l coefficients ValueMac) t macs
-    → m ≡ O .norm macs
-    → v ≡ O .norm values
+pub check-made : (O : Ops) (y : Layout) (l : List ℕ) (k key : ℕ) (coefficients : List ℕ) {v m w r : ℕ}
+    → m ≡ sum O k (λ t. O .mul (getD coefficients t 0) (read y l (ValueMac t)))
+    → v ≡ sum O k (λ t. O .mul (getD coefficients t 0) (read y l (Value t)))
     → w ≡ O .mul key v
     → r ≡ O .sub m w
     → r ≡ checkShare O y l k key coefficients
 unfolding checkShare
-check-made y l k key coefficients e a b g h d f = rw (f, d, g, h, a .added .is, b .added .is, e)
+check-made O y l k key coefficients g h d f = rw (f, d, g, h)
 
 -- n parties sent k words each: those of party i end before the list does
 pub words-fit : (n k i : ℕ) {len : ℕ} → i < n → n * k ≤ len → i * k + k ≤ len

@@ -1,10 +1,18 @@
 -- What the code's parts stand for.
 -- Assumes nothing.
-use Prim.Native.Nat.{_<_}
+use Prim.Native.Nat.{ℕ, _<_}
 use mathlib.Core.Path.{_≡_}
-use Rattle.field.specs.Words.{size}
+use mathlib.Core.List.{List}
+use lib.ListN.{getD}
+use Rattle.algebra.specs.Sum.{sum}
+use Rattle.field.specs.Words.{size, ops}
 use Rattle.protocol.specs.Part as A
+use Rattle.protocol.specs.Scratch.{Layout, Value, read}
 use Rattle.steps.specs.declared.Part.{Part}
+
+-- the first k opened values, each times its coefficient
+abbrev pub valueSum : Layout → List ℕ → ℕ → List ℕ → ℕ
+valueSum y l k coefficients = sum ops k (λ t. ops .mul (getD coefficients t 0) (read y l (Value t)))
 
 unfoldable pub partOf : Part → A.Part
 partOf x = record { share = x .share; mac = x .mac }

@@ -11,20 +11,21 @@ use protocol::Slot;
 ghost use mathlib.Core.Path.{_≡_};
 ghost use mathlib.Core.List.{[], _∷_};
 ghost use Prim.Native.Nat.{ℕ, _+_, _*_, _<_, _≤_};
-ghost use lib.ListN.{length, getD, drop};
+ghost use lib.ListN.{length, getD};
 ghost use Rattle.algebra.specs.Element.{Is};
+ghost use Rattle.algebra.specs.Sum.{sum};
 ghost use Rattle.field.specs.Words.{size, ops};
 ghost use Rattle.circuit.specs.Gate.{gateSize, gate};
 ghost use Rattle.circuit.specs.Kind.{shape};
 ghost use Rattle.circuit.specs.Round.{Own, words};
 ghost use Rattle.circuit.specs.Code.{roundOf};
-ghost use Rattle.protocol.specs.Scratch.{Value, ValueMac, scratchSize, read, wire};
+ghost use Rattle.protocol.specs.Scratch.{scratchSize, wire};
 ghost use Rattle.protocol.specs.Party.{partyOf};
 ghost use Rattle.protocol.specs.Send.{inputWord, masked, openingWords, checkShare, ownWords, sent, holds, overwrite};
 ghost use Rattle.protocol.specs.Holding.{Below, Held, Opened};
 ghost use Rattle.protocol.specs.Code.{layoutOf};
 ghost use Rattle.protocol.specs.Ready.{Ready, Sends};
-ghost use Rattle.steps.specs.Code.{IsPart};
+ghost use Rattle.steps.specs.Code.{valueSum, IsPart};
 
 // The mark that a commitment sends.
 pub const MARK: Word = 1;
@@ -66,40 +67,80 @@ pub fn masked(l: &[Word], y: Layout, x: usize, m: &[Word], k: usize) -> Part
     parts::sub(scratch::wire_at(l, y, x), parts::part_at(m, k))
 }
 
-// The value of an opened entry, and the MAC share of it.
-fn opened_value(l: &[Word], y: Layout, t: usize) -> Word
-    requires { ⌜ (scratchSize (layoutOf y) ≤ length (now l)) × Opened size (layoutOf y) (now l) t ⌝ }
-    ensures { λ r. ⌜ Is size (read (layoutOf y) (now (l .entry)) (Value t)) r ⌝ }
+// The first k coefficients, each times the number that stands as far behind at, summed up and reduced once.
+fn weigh(l: &[Word], at: usize, k: usize, coefficients: &[Word]) -> Word
+    requires { ⌜ (at + k ≤ length (now l))
+        × (k ≤ length (now coefficients))
+        × Below size (now coefficients)
+        × ((t : ℕ) → t < k → getD (now l) (at + t) 0 < size) ⌝ }
+    ensures { λ r. ⌜ Is size (sum ops k (λ t. ops .mul (getD (now (coefficients .entry)) t 0) (getD (now (l .entry)) (at + t) 0))) r ⌝ }
 {
-    scratch::read_slot(l, y, Slot::Value(t))
+    let mut acc: Sum = 0;
+    let mut t = 0;
+    while t < k {
+        acc = field::add_product(acc, coefficients[t], l[at + t]);
+        t += 1;
+    }
+    field::reduce(acc)
 }
 
-fn opened_mac(l: &[Word], y: Layout, t: usize) -> Word
-    requires { ⌜ (scratchSize (layoutOf y) ≤ length (now l)) × Opened size (layoutOf y) (now l) t ⌝ }
-    ensures { λ r. ⌜ Is size (read (layoutOf y) (now (l .entry)) (ValueMac t)) r ⌝ }
-{
-    scratch::read_slot(l, y, Slot::ValueMac(t))
-}
-
-// The check share over the first k opened entries. Its two sums are reduced once, at the end.
-pub fn check_share(l: &[Word], y: Layout, k: usize, key: Word, coefficients: &[Word]) -> Word
+// The first k opened values, each times its coefficient.
+pub fn weigh_values(l: &[Word], y: Layout, k: usize, coefficients: &[Word]) -> Word
     requires { ⌜ (scratchSize (layoutOf y) ≤ length (now l))
+        × (0 < layoutOf y .capacity)
+        × (k ≤ length (now coefficients))
+        × Below size (now coefficients)
+        × ((t : ℕ) → t < k → Opened size (layoutOf y) (now l) t) ⌝ }
+    ensures { λ r. ⌜ Is size (valueSum (layoutOf y) (now (l .entry)) k (now (coefficients .entry))) r ⌝ }
+{
+    weigh(l, protocol::offset_of(y, Slot::Value(0)), k, coefficients)
+}
+
+// The check share over the first k opened entries, whose values come to v.
+pub fn check_share_of(
+    v: Word,
+    l: &[Word],
+    y: Layout,
+    k: usize,
+    key: Word,
+    coefficients: &[Word],
+) -> Word
+    requires { ⌜ Is size (valueSum (layoutOf y) (now l) k (now coefficients)) v
+        × (scratchSize (layoutOf y) ≤ length (now l))
+        × (0 < layoutOf y .capacity)
         × (key < size)
         × (k ≤ length (now coefficients))
         × Below size (now coefficients)
         × ((t : ℕ) → t < k → Opened size (layoutOf y) (now l) t) ⌝ }
     ensures { λ r. ⌜ Is size (checkShare ops (layoutOf y) (now (l .entry)) k key (now (coefficients .entry))) r ⌝ }
 {
-    let mut values: Sum = 0;
-    let mut macs: Sum = 0;
-    let mut t = 0;
-    while t < k {
-        let w = coefficients[t];
-        values = field::add_product(values, w, opened_value(l, y, t));
-        macs = field::add_product(macs, w, opened_mac(l, y, t));
-        t += 1;
-    }
-    field::sub(field::reduce(macs), field::mul(key, field::reduce(values)))
+    let macs = weigh(
+        l,
+        protocol::offset_of(y, Slot::ValueMac(0)),
+        k,
+        coefficients,
+    );
+    field::sub(macs, field::mul(key, v))
+}
+
+// The check share over the first k opened entries.
+pub fn check_share(l: &[Word], y: Layout, k: usize, key: Word, coefficients: &[Word]) -> Word
+    requires { ⌜ (scratchSize (layoutOf y) ≤ length (now l))
+        × (0 < layoutOf y .capacity)
+        × (key < size)
+        × (k ≤ length (now coefficients))
+        × Below size (now coefficients)
+        × ((t : ℕ) → t < k → Opened size (layoutOf y) (now l) t) ⌝ }
+    ensures { λ r. ⌜ Is size (checkShare ops (layoutOf y) (now (l .entry)) k key (now (coefficients .entry))) r ⌝ }
+{
+    check_share_of(
+        weigh_values(l, y, k, coefficients),
+        l,
+        y,
+        k,
+        key,
+        coefficients,
+    )
 }
 
 // The words of a gate that opens k values and names x and z; m starts at its record.

@@ -43,10 +43,10 @@ part-check-shares-end : tie.Need-part-check-shares-end
 part-check-shares-end c = search needs
 
 check-shares-requires : tie.Need-check-shares-requires
-check-shares-requires c κs = (c .before .before .before .before .before .before .before .before .before .before .before .pre .0, c .before .before .before .before .before .before .before .before .before .before .before .pre .1, c .before .before .before .before .before .before .before .before .before .before .before .pre .2, c .before .before .before .before .before .before .before .before .before .before .before .pre .3, c .before .before .before .before .before .before .before .before .before .before .before .pre .4, c .before .before .before .before .before .before .before .before .before .before .before .pre .5, once-room (now (c .before .before .before .before .before .before .before .before .before .before .before .args .transcript)) (c .before .before .before .before .before .before .before .before .before .before .before .args .start) (c .before .before .before .before .before .before .before .before .before .before .before .args .f .parties) (c .before .before .before .before .before .before .before .before .before .before .before .pre .6) (λ i. mark) (shareIn (c .before .before .before .before .before .before .before .before .before .before .before .args .f) (now (c .before .before .before .before .before .before .before .before .before .before .before .args .preps)) (now (c .before .before .before .before .before .before .before .before .before .before .before .args .scratch)) (c .before .before .before .before .before .before .before .before .before .before .before .args .k) (c .before .before .before .before .before .before .before .before .before .before .before .args .u) (now (c .before .before .before .before .before .before .before .before .before .before .before .args .coefficients))) (c .before .before .before .put-marks .ensures))
+check-shares-requires c κs = (c .before .before .before .before .before .before .before .before .before .before .before .pre .0, c .before .before .before .before .before .before .before .before .before .before .before .pre .1, c .before .before .before .before .before .before .before .before .before .before .before .pre .2, c .before .before .before .before .before .before .before .before .before .before .before .pre .3, c .before .before .before .before .before .before .before .before .before .before .before .pre .4, c .before .before .before .before .before .before .before .before .before .before .before .pre .5, c .before .before .before .before .before .before .before .before .before .before .before .pre .6, c .before .before .before .before .before .before .before .before .before .before .before .pre .7, c .before .before .before .before .before .before .before .before .before .before .before .pre .8, once-room (now (c .before .before .before .before .before .before .before .before .before .before .before .args .transcript)) (c .before .before .before .before .before .before .before .before .before .before .before .args .start) (c .before .before .before .before .before .before .before .before .before .before .before .args .f .parties) (c .before .before .before .before .before .before .before .before .before .before .before .pre .9) (λ i. mark) (shareIn (c .before .before .before .before .before .before .before .before .before .before .before .args .f) (now (c .before .before .before .before .before .before .before .before .before .before .before .args .preps)) (now (c .before .before .before .before .before .before .before .before .before .before .before .args .scratch)) (c .before .before .before .before .before .before .before .before .before .before .before .args .k) (c .before .before .before .before .before .before .before .before .before .before .before .args .u) (now (c .before .before .before .before .before .before .before .before .before .before .before .args .coefficients))) (c .before .before .before .put-marks .ensures))
 
 mul-heard-sum : tie.Need-mul-heard-sum
-mul-heard-sum c = omega (arith, c .before .before .before .before .before .before .before .before .before .before .before .before .before .before .good, c .before .before .before .before .before .before .before .before .before .before .before .before .before .before .pre .6)
+mul-heard-sum c = omega (arith, c .before .before .before .before .before .before .before .before .before .before .before .before .before .before .good, c .before .before .before .before .before .before .before .before .before .before .before .before .before .before .pre .9)
 
 sub-heard-sum : tie.Need-sub-heard-sum
 sub-heard-sum c = search needs
@@ -58,13 +58,13 @@ part-heard-sum-end : tie.Need-part-heard-sum-end
 part-heard-sum-end c = search needs
 
 heard-sum-requires : tie.Need-heard-sum-requires
-heard-sum-requires c κs = twice-sums (now (c .before .before .before .before .before .before .before .before .before .before .before .before .before .before .before .before .args .transcript)) (c .before .before .before .before .before .before .before .before .before .before .before .before .before .before .before .before .args .start) (c .before .before .before .before .before .before .before .before .before .before .before .before .before .before .before .before .args .f .parties) (c .before .before .before .before .before .before .before .before .before .before .before .before .before .before .before .before .pre .6) (λ i. mark) (shareIn (c .before .before .before .before .before .before .before .before .before .before .before .before .before .before .before .before .args .f) (now (c .before .before .before .before .before .before .before .before .before .before .before .before .before .before .before .before .args .preps)) (now (c .before .before .before .before .before .before .before .before .before .before .before .before .before .before .before .before .args .scratch)) (c .before .before .before .before .before .before .before .before .before .before .before .before .before .before .before .before .args .k) (c .before .before .before .before .before .before .before .before .before .before .before .before .before .before .before .before .args .u) (now (c .before .before .before .before .before .before .before .before .before .before .before .before .before .before .before .before .args .coefficients))) (c .before .before .before .before .before .before .before .before .put-marks .ensures) (c .before .before .before .before .check-shares .ensures) (share-low (c .before .before .before .before .before .before .before .before .before .before .before .before .before .before .before .before .args .f) (now (c .before .before .before .before .before .before .before .before .before .before .before .before .before .before .before .before .args .preps)) (now (c .before .before .before .before .before .before .before .before .before .before .before .before .before .before .before .before .args .scratch)) (c .before .before .before .before .before .before .before .before .before .before .before .before .before .before .before .before .args .k) (c .before .before .before .before .before .before .before .before .before .before .before .before .before .before .before .before .args .u) (now (c .before .before .before .before .before .before .before .before .before .before .before .before .before .before .before .before .args .coefficients)))
+heard-sum-requires c κs = twice-sums (now (c .before .before .before .before .before .before .before .before .before .before .before .before .before .before .before .before .args .transcript)) (c .before .before .before .before .before .before .before .before .before .before .before .before .before .before .before .before .args .start) (c .before .before .before .before .before .before .before .before .before .before .before .before .before .before .before .before .args .f .parties) (c .before .before .before .before .before .before .before .before .before .before .before .before .before .before .before .before .pre .9) (λ i. mark) (shareIn (c .before .before .before .before .before .before .before .before .before .before .before .before .before .before .before .before .args .f) (now (c .before .before .before .before .before .before .before .before .before .before .before .before .before .before .before .before .args .preps)) (now (c .before .before .before .before .before .before .before .before .before .before .before .before .before .before .before .before .args .scratch)) (c .before .before .before .before .before .before .before .before .before .before .before .before .before .before .before .before .args .k) (c .before .before .before .before .before .before .before .before .before .before .before .before .before .before .before .before .args .u) (now (c .before .before .before .before .before .before .before .before .before .before .before .before .before .before .before .before .args .coefficients))) (c .before .before .before .before .before .before .before .before .put-marks .ensures) (c .before .before .before .before .check-shares .ensures) (share-low (c .before .before .before .before .before .before .before .before .before .before .before .before .before .before .before .before .args .f) (now (c .before .before .before .before .before .before .before .before .before .before .before .before .before .before .before .before .args .preps)) (now (c .before .before .before .before .before .before .before .before .before .before .before .before .before .before .before .before .args .scratch)) (c .before .before .before .before .before .before .before .before .before .before .before .before .before .before .before .before .args .k) (c .before .before .before .before .before .before .before .before .before .before .before .before .before .before .before .before .args .u) (now (c .before .before .before .before .before .before .before .before .before .before .before .before .before .before .before .before .args .coefficients)))
 
 same-length : tie.Need-same-length
 same-length c = search needs
 
 returns : tie.Need-returns
-returns c = (twice-to (now (c .before .before .before .before .before .before .before .before .before .before .before .before .before .before .before .before .before .args .transcript)) (c .before .before .before .before .before .before .before .before .before .before .before .before .before .before .before .before .before .args .start) (c .before .before .before .before .before .before .before .before .before .before .before .before .before .before .before .before .before .args .f .parties) (c .before .before .before .before .before .before .before .before .before .before .before .before .before .before .before .before .before .pre .6) (λ i. mark) (shareIn (c .before .before .before .before .before .before .before .before .before .before .before .before .before .before .before .before .before .args .f) (now (c .before .before .before .before .before .before .before .before .before .before .before .before .before .before .before .before .before .args .preps)) (now (c .before .before .before .before .before .before .before .before .before .before .before .before .before .before .before .before .before .args .scratch)) (c .before .before .before .before .before .before .before .before .before .before .before .before .before .before .before .before .before .args .k) (c .before .before .before .before .before .before .before .before .before .before .before .before .before .before .before .before .before .args .u) (now (c .before .before .before .before .before .before .before .before .before .before .before .before .before .before .before .before .before .args .coefficients))) (c .before .before .before .before .before .before .before .before .before .put-marks .ensures) (c .before .before .before .before .before .check-shares .ensures), rw (twice-heard (now (c .before .before .before .before .before .before .before .before .before .before .before .before .before .before .before .before .before .args .transcript)) (c .before .before .before .before .before .before .before .before .before .before .before .before .before .before .before .before .before .args .start) (c .before .before .before .before .before .before .before .before .before .before .before .before .before .before .before .before .before .args .f .parties) (c .before .before .before .before .before .before .before .before .before .before .before .before .before .before .before .before .before .pre .6) (λ i. mark) (shareIn (c .before .before .before .before .before .before .before .before .before .before .before .before .before .before .before .before .before .args .f) (now (c .before .before .before .before .before .before .before .before .before .before .before .before .before .before .before .before .before .args .preps)) (now (c .before .before .before .before .before .before .before .before .before .before .before .before .before .before .before .before .before .args .scratch)) (c .before .before .before .before .before .before .before .before .before .before .before .before .before .before .before .before .before .args .k) (c .before .before .before .before .before .before .before .before .before .before .before .before .before .before .before .before .before .args .u) (now (c .before .before .before .before .before .before .before .before .before .before .before .before .before .before .before .before .before .args .coefficients))) (c .before .before .before .before .before .before .before .before .before .put-marks .ensures) (c .before .before .before .before .before .check-shares .ensures)) at (c .heard-sum .ensures))
+returns c = (twice-to (now (c .before .before .before .before .before .before .before .before .before .before .before .before .before .before .before .before .before .args .transcript)) (c .before .before .before .before .before .before .before .before .before .before .before .before .before .before .before .before .before .args .start) (c .before .before .before .before .before .before .before .before .before .before .before .before .before .before .before .before .before .args .f .parties) (c .before .before .before .before .before .before .before .before .before .before .before .before .before .before .before .before .before .pre .9) (λ i. mark) (shareIn (c .before .before .before .before .before .before .before .before .before .before .before .before .before .before .before .before .before .args .f) (now (c .before .before .before .before .before .before .before .before .before .before .before .before .before .before .before .before .before .args .preps)) (now (c .before .before .before .before .before .before .before .before .before .before .before .before .before .before .before .before .before .args .scratch)) (c .before .before .before .before .before .before .before .before .before .before .before .before .before .before .before .before .before .args .k) (c .before .before .before .before .before .before .before .before .before .before .before .before .before .before .before .before .before .args .u) (now (c .before .before .before .before .before .before .before .before .before .before .before .before .before .before .before .before .before .args .coefficients))) (c .before .before .before .before .before .before .before .before .before .put-marks .ensures) (c .before .before .before .before .before .check-shares .ensures), rw (twice-heard (now (c .before .before .before .before .before .before .before .before .before .before .before .before .before .before .before .before .before .args .transcript)) (c .before .before .before .before .before .before .before .before .before .before .before .before .before .before .before .before .before .args .start) (c .before .before .before .before .before .before .before .before .before .before .before .before .before .before .before .before .before .args .f .parties) (c .before .before .before .before .before .before .before .before .before .before .before .before .before .before .before .before .before .pre .9) (λ i. mark) (shareIn (c .before .before .before .before .before .before .before .before .before .before .before .before .before .before .before .before .before .args .f) (now (c .before .before .before .before .before .before .before .before .before .before .before .before .before .before .before .before .before .args .preps)) (now (c .before .before .before .before .before .before .before .before .before .before .before .before .before .before .before .before .before .args .scratch)) (c .before .before .before .before .before .before .before .before .before .before .before .before .before .before .before .before .before .args .k) (c .before .before .before .before .before .before .before .before .before .before .before .before .before .before .before .before .before .args .u) (now (c .before .before .before .before .before .before .before .before .before .before .before .before .before .before .before .before .before .args .coefficients))) (c .before .before .before .before .before .before .before .before .before .put-marks .ensures) (c .before .before .before .before .before .check-shares .ensures)) at (c .heard-sum .ensures))
 
 pub check-spec : {M : Type 1} → statement M
 check-spec =

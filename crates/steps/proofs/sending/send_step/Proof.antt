@@ -6,7 +6,8 @@ use Rattle.field.specs.Words.{ops}
 use Rattle.circuit.specs.Round.{Own, Open, Commit, Reveal, shapeWords}
 use Rattle.protocol.specs.Send.{sent}
 use Rattle.protocol.proofs.Sent.{overwrite-one, sends-output, sends-check, holds-check, holds-none, sent-output}
-use Rattle.protocol.proofs.Readiness.{prep-some}
+use Rattle.protocol.specs.Code.{layoutOf}
+use Rattle.protocol.proofs.Readiness.{prep-some, capacity-some}
 use Rattle.steps.proofs.sending.send_step.Statement.{statement}
 use Rattle.steps.proofs.sending.send_step.Tie as tie
 
@@ -27,7 +28,8 @@ shared-slice-read-check-share : tie.Need-shared-slice-read-check-share
 shared-slice-read-check-share c = prep-some _ _ _ _ _ (c .before .before .before .before .before .before .before .before .before .before .pre .ready)
 
 check-share-requires : tie.Need-check-share-requires
-check-share-requires c κs = sends-check _ _ _ _ _ _ _ _ (c .before .before .before .before .before .before .before .before .before .before .pre) (rw (c .before .before .enum-told3 .given .1)) (c .before .opened-in .ensures ∙ rw (c .before .before .before .before .before .before .before .before .before .before .pre .ready .sited .unchecked))
+unfolding layoutOf
+check-share-requires c κs = let q = sends-check _ _ _ _ _ _ _ _ (c .before .before .before .before .before .before .before .before .before .before .pre) (rw (c .before .before .enum-told3 .given .1)) (c .before .opened-in .ensures ∙ rw (c .before .before .before .before .before .before .before .before .before .before .pre .ready .sited .unchecked)) in (q .0, capacity-some _ _ _ _ _ (c .before .before .before .before .before .before .before .before .before .before .pre .ready), q .1, q .2, q .3, q .4)
 
 slice-write-out-2 : tie.Need-slice-write-out-2
 unfolding shapeWords
