@@ -5,7 +5,7 @@ use mathlib.Core.Path.{_≡_, refl, sym, ap, _∙_}
 use mathlib.Core.Bool.{Bool, true, false, cond, _&&_}
 use mathlib.Core.List.{List, [], _∷_, _++_}
 use native.Mathlib.Omega.{arith}
-use lib.ListN.{length, getD, set, drop, replicate, length-append, length-replicate, take-append-drop, List·getD-append}
+use lib.ListN.{length, getD, set, drop, replicate, length-append, length-replicate, List·getD-append}
 use lib.Seq.{getD-take, getD-drop}
 use Rattle.algebra.specs.Element.{Is}
 use Rattle.field.specs.Words.{size, ops}
@@ -31,7 +31,7 @@ use Rattle.protocol.proofs.Bands.{band-joined}
 use Rattle.protocol.proofs.Following.{next-follows, next-stops, passes-zero, passes-not, passes-other}
 use Rattle.joint.specs.declared.JointAnswer.{JointAnswer}
 use Rattle.joint.specs.declared.Frame.{Frame}
-use Rattle.joint.specs.Code.{jointAnswerOf, Course, dueAt, stateOf, keyIn, Prepared, Banded, EachBand, rebanded, shareIn, each, writtenAt, noneHeld, Moving, Moved, Turned, Runnable, Ran, Common}
+use Rattle.joint.specs.Code.{jointAnswerOf, Course, dueAt, stateOf, keyIn, Prepared, Banded, EachBand, rebanded, shareIn, each, writtenAt, noneHeld, Moving, Moved, Runnable, Ran, Common}
 use Rattle.joint.proofs.Parties.{lent-undrawn}
 use Rattle.joint.proofs.Going.{within, occurs}
 use Rattle.joint.proofs.Later.{resumed-prep}
@@ -42,7 +42,7 @@ use Rattle.joint.proofs.Rounding.{said-received, round-moved}
 use Rattle.joint.proofs.Running.{Running, running-moving, running-again, running-over, outputs-left}
 use Rattle.joint.proofs.Checking.{length-each, share-low}
 use Rattle.joint.proofs.Turns.{none-held, none-taken}
-use Rattle.joint.proofs.Passing.{turned-quietly}
+use Rattle.joint.proofs.Passing.{turned-none, turned-quietly}
 
 -- what each of n parties holds, in an array for the most
 abbrev heldOf : ℕ → (ℕ → ℕ) → List ℕ
@@ -77,15 +77,6 @@ module _ (J : Joint) (f : Frame) (s : Course) (held l : List ℕ) (r : Round) (e
       both-no : (b : Bool) → cond (b && false) (read (layout (J .circuit)) (stateOf f s held l .scratch 0) (Value 0) ∷ []) [] ≡ []
       both-no true = refl
       both-no false = refl
-
-  turned-stopped : {t o : List ℕ} {s′ : Course} {held′ l′ t′ : List ℕ} → Moved J f s r held l t s′ held′ l′ t′ → s′ .released ≡ s .released
-      → Turned J f s r held l t o s′ held′ l′ t′ o
-  turned-stopped {o = o} d k =
-      record {
-        moved = d;
-        outputs = rw none-released (let z : s .released + 0 ≡ s .released = omega arith in rw z (sym (take-append-drop (s .released) o)));
-        given = rw none-released (omega (arith, k));
-      }
 
 module _ {f : Frame} {c preps inputs coefficients l₀ t₀ o₀ : List ℕ} (able : Runnable (lentAll f c preps inputs coefficients) f l₀ t₀ o₀)
     {s : Course} {l t o : List ℕ} (k : Check) (inv : Running (lentAll f c preps inputs coefficients) f l₀ t₀ o₀ s noneHeld l t o)
@@ -207,7 +198,7 @@ module _ {f : Frame} {c preps inputs coefficients l₀ t₀ o₀ : List ℕ} (ab
       check-stopped e =
           running-over J f l₀ t₀ o₀ able
           (running-again J f l₀ t₀ o₀ able sealed-running (Reveal k) refl
-          (turned-stopped J f sealed (heldOf (f .parties) share) l (Reveal k) stops stopped-moved refl))
+          (turned-none J f sealed (heldOf (f .parties) share) l (Reveal k) (none-released J f sealed (heldOf (f .parties) share) l (Reveal k) stops) stopped-moved refl))
           over-aborted e
 
     -- the sum is zero: the run goes on

@@ -27,20 +27,25 @@ use Rattle.joint.proofs.Later.{placed-stop}
 use Rattle.joint.proofs.Stops.{came-own, stop-within, stop-stands, resume-came}
 use Rattle.joint.proofs.Running.{Running, running-moving, running-again}
 
--- a round that releases nothing leaves the outputs
-module _ (J : Joint) (f : Frame) (s : Course) (held l : List ℕ) (r : Round) (e : releases r ≡ false) where
-  none-released : released ops J (stateOf f s held l) r ≡ []
-  unfolding released
-  none-released = rw e
-
-  pub turned-quietly : {t o : List ℕ} {s′ : Course} {held′ l′ t′ : List ℕ} → Moved J f s r held l t s′ held′ l′ t′ → s′ .released ≡ s .released
+-- a round in which nothing is released leaves the outputs
+module _ (J : Joint) (f : Frame) (s : Course) (held l : List ℕ) (r : Round) where
+  pub turned-none : released ops J (stateOf f s held l) r ≡ [] → {t o : List ℕ} {s′ : Course} {held′ l′ t′ : List ℕ} → Moved J f s r held l t s′ held′ l′ t′
+      → s′ .released ≡ s .released
       → Turned J f s r held l t o s′ held′ l′ t′ o
-  turned-quietly {o = o} d k =
+  turned-none e {o = o} d k =
       record {
         moved = d;
-        outputs = rw none-released (let z : s .released + 0 ≡ s .released = omega arith in rw z (sym (take-append-drop (s .released) o)));
-        given = rw none-released (omega (arith, k));
+        outputs = rw e (let z : s .released + 0 ≡ s .released = omega arith in rw z (sym (take-append-drop (s .released) o)));
+        given = rw e (omega (arith, k));
       }
+
+  none-released : releases r ≡ false → released ops J (stateOf f s held l) r ≡ []
+  unfolding released
+  none-released e = rw e
+
+  pub turned-quietly : releases r ≡ false → {t o : List ℕ} {s′ : Course} {held′ l′ t′ : List ℕ} → Moved J f s r held l t s′ held′ l′ t′ → s′ .released ≡ s .released
+      → Turned J f s r held l t o s′ held′ l′ t′ o
+  turned-quietly e = turned-none (none-released e)
 
 module _ (J : Joint) (f : Frame) (l₀ t₀ o₀ : List ℕ) where
   abbrev c : List ℕ

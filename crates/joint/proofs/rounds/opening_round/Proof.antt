@@ -23,12 +23,6 @@ factor-at-requires c κs = opening-gate (c .before .before .before .before .befo
 mul-opening-words : tie.Need-mul-opening-words
 mul-opening-words c = omega (arith, c .before .before .before .before .before .before .before .before .before .before .good, opening-end (c .before .before .before .before .before .before .before .before .before .before .pre .0) (c .before .before .before .before .before .before .before .before .before .before .args .g) (c .before .before .before .before .before .before .before .before .before .before .pre .1) (c .before .before .before .before .before .before .before .before .before .before .pre .2) (c .before .before .before .before .before .before .before .before .before .before .pre .3))
 
-sub-opening-words : tie.Need-sub-opening-words
-sub-opening-words c = search needs
-
-part-opening-words-start : tie.Need-part-opening-words-start
-part-opening-words-start c = search needs
-
 part-opening-words-end : tie.Need-part-opening-words-end
 part-opening-words-end c = opening-end (c .before .before .before .before .before .before .before .before .before .before .pre .0) (c .before .before .before .before .before .before .before .before .before .before .args .g) (c .before .before .before .before .before .before .before .before .before .before .pre .1) (c .before .before .before .before .before .before .before .before .before .before .pre .2) (c .before .before .before .before .before .before .before .before .before .before .pre .3)
 
@@ -38,12 +32,6 @@ opening-words-requires c κs = opening-sends (c .before .before .before .before 
 mul-heard-first : tie.Need-mul-heard-first
 mul-heard-first c = omega (arith, c .before .before .before .before .before .before .before .before .before .before .before .before .before .before .good, opening-end (c .before .before .before .before .before .before .before .before .before .before .before .before .before .before .pre .0) (c .before .before .before .before .before .before .before .before .before .before .before .before .before .before .args .g) (c .before .before .before .before .before .before .before .before .before .before .before .before .before .before .pre .1) (c .before .before .before .before .before .before .before .before .before .before .before .before .before .before .pre .2) (c .before .before .before .before .before .before .before .before .before .before .before .before .before .before .pre .3), opening-long (c .before .before .before .before .before .before .before .before .before .before .before .before .before .before .pre .0) (c .before .before .before .before .before .before .before .before .before .before .before .before .before .before .args .g) (c .before .before .before .before .before .before .before .before .before .before .before .before .before .before .pre .1) (c .before .before .before .before .before .before .before .before .before .before .before .before .before .before .pre .2) (c .before .before .before .before .before .before .before .before .before .before .before .before .before .before .pre .3) (c .before .before .before .before .before .before .first-at .ensures) (c .before .before .before .before .before .factor-at .ensures) (c .before .before .opening-words .ensures))
 
-sub-heard-first : tie.Need-sub-heard-first
-sub-heard-first c = search needs
-
-part-heard-first-start : tie.Need-part-heard-first-start
-part-heard-first-start c = search needs
-
 part-heard-first-end : tie.Need-part-heard-first-end
 part-heard-first-end c = omega (arith, opening-end (c .before .before .before .before .before .before .before .before .before .before .before .before .before .before .before .pre .0) (c .before .before .before .before .before .before .before .before .before .before .before .before .before .before .before .args .g) (c .before .before .before .before .before .before .before .before .before .before .before .before .before .before .before .pre .1) (c .before .before .before .before .before .before .before .before .before .before .before .before .before .before .before .pre .2) (c .before .before .before .before .before .before .before .before .before .before .before .before .before .before .before .pre .3), opening-long (c .before .before .before .before .before .before .before .before .before .before .before .before .before .before .before .pre .0) (c .before .before .before .before .before .before .before .before .before .before .before .before .before .before .before .args .g) (c .before .before .before .before .before .before .before .before .before .before .before .before .before .before .before .pre .1) (c .before .before .before .before .before .before .before .before .before .before .before .before .before .before .before .pre .2) (c .before .before .before .before .before .before .before .before .before .before .before .before .before .before .before .pre .3) (c .before .before .before .before .before .before .before .first-at .ensures) (c .before .before .before .before .before .before .factor-at .ensures) (c .before .before .before .opening-words .ensures))
 
@@ -52,12 +40,6 @@ heard-first-requires c κs = opening-hears (c .before .before .before .before .b
 
 mul-heard-second : tie.Need-mul-heard-second
 mul-heard-second c = omega (arith, c .before .before .before .before .before .before .before .before .before .before .before .before .before .before .before .before .before .good, opening-end (c .before .before .before .before .before .before .before .before .before .before .before .before .before .before .before .before .before .pre .0) (c .before .before .before .before .before .before .before .before .before .before .before .before .before .before .before .before .before .args .g) (c .before .before .before .before .before .before .before .before .before .before .before .before .before .before .before .before .before .pre .1) (c .before .before .before .before .before .before .before .before .before .before .before .before .before .before .before .before .before .pre .2) (c .before .before .before .before .before .before .before .before .before .before .before .before .before .before .before .before .before .pre .3), opening-long (c .before .before .before .before .before .before .before .before .before .before .before .before .before .before .before .before .before .pre .0) (c .before .before .before .before .before .before .before .before .before .before .before .before .before .before .before .before .before .args .g) (c .before .before .before .before .before .before .before .before .before .before .before .before .before .before .before .before .before .pre .1) (c .before .before .before .before .before .before .before .before .before .before .before .before .before .before .before .before .before .pre .2) (c .before .before .before .before .before .before .before .before .before .before .before .before .before .before .before .before .before .pre .3) (c .before .before .before .before .before .before .before .before .before .first-at .ensures) (c .before .before .before .before .before .before .before .before .factor-at .ensures) (c .before .before .before .before .before .opening-words .ensures))
-
-sub-heard-second : tie.Need-sub-heard-second
-sub-heard-second c = search needs
-
-part-heard-second-start : tie.Need-part-heard-second-start
-part-heard-second-start c = search needs
 
 part-heard-second-end : tie.Need-part-heard-second-end
 part-heard-second-end c = omega (arith, opening-end (c .before .before .before .before .before .before .before .before .before .before .before .before .before .before .before .before .before .before .pre .0) (c .before .before .before .before .before .before .before .before .before .before .before .before .before .before .before .before .before .before .args .g) (c .before .before .before .before .before .before .before .before .before .before .before .before .before .before .before .before .before .before .pre .1) (c .before .before .before .before .before .before .before .before .before .before .before .before .before .before .before .before .before .before .pre .2) (c .before .before .before .before .before .before .before .before .before .before .before .before .before .before .before .before .before .before .pre .3), opening-long (c .before .before .before .before .before .before .before .before .before .before .before .before .before .before .before .before .before .before .pre .0) (c .before .before .before .before .before .before .before .before .before .before .before .before .before .before .before .before .before .before .args .g) (c .before .before .before .before .before .before .before .before .before .before .before .before .before .before .before .before .before .before .pre .1) (c .before .before .before .before .before .before .before .before .before .before .before .before .before .before .before .before .before .before .pre .2) (c .before .before .before .before .before .before .before .before .before .before .before .before .before .before .before .before .before .before .pre .3) (c .before .before .before .before .before .before .before .before .before .before .first-at .ensures) (c .before .before .before .before .before .before .before .before .before .factor-at .ensures) (c .before .before .before .before .before .before .opening-words .ensures))
@@ -83,9 +65,6 @@ add-t25 c = omega (arith, opening-few (c .before .before .before .before .before
 add-t38 : tie.Need-add-t38
 add-t38 c = omega (arith, c .before .before .before .before .before .before .before .before .before .before .before .before .before .before .before .before .before .before .before .before .before .before .before .before .before .before .before .before .before .before .before .before .pre .0 .rounds-few, c .before .before .before .before .before .before .before .before .before .before .before .before .before .before .before .before .before .before .before .before .before .before .before .before .before .before .before .before .before .before .before .before .pre .0 .going .lent .valid .few)
 
-same-length : tie.Need-same-length
-same-length c = search needs
-
 same-length-2 : tie.Need-same-length-2
 same-length-2 c = opening-long (c .before .before .before .before .before .before .before .before .before .before .before .before .before .before .before .before .before .before .before .before .before .before .before .before .before .before .before .before .before .before .before .before .pre .0) (c .before .before .before .before .before .before .before .before .before .before .before .before .before .before .before .before .before .before .before .before .before .before .before .before .before .before .before .before .before .before .before .before .args .g) (c .before .before .before .before .before .before .before .before .before .before .before .before .before .before .before .before .before .before .before .before .before .before .before .before .before .before .before .before .before .before .before .before .pre .1) (c .before .before .before .before .before .before .before .before .before .before .before .before .before .before .before .before .before .before .before .before .before .before .before .before .before .before .before .before .before .before .before .before .pre .2) (c .before .before .before .before .before .before .before .before .before .before .before .before .before .before .before .before .before .before .before .before .before .before .before .before .before .before .before .before .before .before .before .before .pre .3) (c .before .before .before .before .before .before .before .before .before .before .before .before .before .before .before .before .before .before .before .before .before .before .before .before .first-at .ensures) (c .before .before .before .before .before .before .before .before .before .before .before .before .before .before .before .before .before .before .before .before .before .before .before .factor-at .ensures) (c .before .before .before .before .before .before .before .before .before .before .before .before .before .before .before .before .before .before .before .before .opening-words .ensures)
 
@@ -101,18 +80,18 @@ opening-round-spec =
     first-at-requires
     factor-at-requires
     mul-opening-words
-    sub-opening-words
-    part-opening-words-start
+    (λ c. search needs)
+    (λ c. search needs)
     part-opening-words-end
     opening-words-requires
     mul-heard-first
-    sub-heard-first
-    part-heard-first-start
+    (λ c. search needs)
+    (λ c. search needs)
     part-heard-first-end
     heard-first-requires
     mul-heard-second
-    sub-heard-second
-    part-heard-second-start
+    (λ c. search needs)
+    (λ c. search needs)
     part-heard-second-end
     heard-second-requires
     receive-openings-requires
@@ -121,6 +100,6 @@ opening-round-spec =
     add-t20
     add-t25
     add-t38
-    same-length
+    (λ c. search needs)
     same-length-2
     returns)

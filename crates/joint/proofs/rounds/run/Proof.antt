@@ -34,9 +34,6 @@ loop-holds c = standing-start (c .before .before .before .before .before .before
 shape-at-requires : tie.Need-shape-at-requires Inv-loop μ-loop
 shape-at-requires c κs = omega (arith, gates-same (c .before .before .before .before .before .before .before .before .before .before .before .before .pre .0), c .if1 .taken, c .before .before .before .before .before .before .before .before .before .before .before .before .pre .0 .lent .valid .whole)
 
-is-in-requires : tie.Need-is-in-requires Inv-loop μ-loop
-is-in-requires c κs = search needs
-
 input-round-requires : tie.Need-input-round-requires Inv-loop μ-loop
 input-round-requires c κs = (own-moving _ _ _ _ _ (c .before .before .before .before .before .before .before .before .before .before .before .before .before .before .before .before .before .before .pre .0) (c .before .before .before .before .before .before .before .before .before .loop .inv) (omega (arith, gates-same (c .before .before .before .before .before .before .before .before .before .before .before .before .before .before .before .before .before .before .pre .0), c .before .before .before .before .before .before .if1 .taken)) (sym (shape-class _ _ (c .before .before .before .before .before .shape-at .ensures)) ∙ is-class Owned (sym (c .before .before .before .before .is-in .ensures) ∙ c .before .before .before .if2 .taken)) (own-in _) (owned-no-out refl), c .before .before .before .before .before .shape-at .ensures, (sym (shape-class _ _ (c .before .before .before .before .before .shape-at .ensures)) ∙ is-class Owned (sym (c .before .before .before .before .is-in .ensures) ∙ c .before .before .before .if2 .taken)), own-waits _ _ _ _ _ (c .before .before .before .before .before .before .before .before .before .before .before .before .before .before .before .before .before .before .pre .0) (c .before .before .before .before .before .before .before .before .before .loop .inv) (omega (arith, gates-same (c .before .before .before .before .before .before .before .before .before .before .before .before .before .before .before .before .before .before .pre .0), c .before .before .before .before .before .before .if1 .taken)) (sym (shape-class _ _ (c .before .before .before .before .before .shape-at .ensures)) ∙ is-class Owned (sym (c .before .before .before .before .is-in .ensures) ∙ c .before .before .before .if2 .taken)) (own-in _) (owned-no-out refl), c .before .before .before .before .before .before .before .before .before .loop .inv .placed)
 
@@ -45,9 +42,6 @@ loop-less c = omega (arith, c .before .before .before .before .before .before .i
 
 loop-again : tie.Need-loop-again Inv-loop μ-loop
 loop-again c = own-passed _ _ _ _ _ (c .before .before .before .before .before .before .before .before .before .before .before .before .before .before .before .before .before .before .before .before .before .before .before .before .before .pre .0) (c .before .before .before .before .before .before .before .before .before .before .before .before .before .before .before .before .loop .inv) (omega (arith, gates-same (c .before .before .before .before .before .before .before .before .before .before .before .before .before .before .before .before .before .before .before .before .before .before .before .before .before .pre .0), c .before .before .before .before .before .before .before .before .before .before .before .before .before .if1 .taken)) (sym (shape-class _ _ (c .before .before .before .before .before .before .before .before .before .before .before .before .shape-at .ensures)) ∙ is-class Owned (sym (c .before .before .before .before .before .before .before .before .before .before .before .is-in .ensures) ∙ c .before .before .before .before .before .before .before .before .before .before .if2 .taken)) (own-in _) (owned-no-out refl) (c .before .before .before .before .before .before .input-round .ensures .0) (c .before .before .before .before .before .before .input-round .ensures .1) (c .before .before .before .before .before .before .input-round .ensures .2) (c .before .before .before .before .before .before .input-round .ensures .3) (in-common (c .before .before .before .before .before .before .before .before .before .before .before .before .before .before .before .before .before .before .before .before .before .before .before .before .before .pre .0) (c .before .before .before .before .before .before .before .before .before .before .before .before .before .before .before .before .loop .inv) (omega (arith, gates-same (c .before .before .before .before .before .before .before .before .before .before .before .before .before .before .before .before .before .before .before .before .before .before .before .before .before .pre .0), c .before .before .before .before .before .before .before .before .before .before .before .before .before .if1 .taken)) (c .before .before .before .before .before .before .input-round .ensures .0) (c .before .before .before .before .before .before .input-round .ensures .2) (sym (shape-class _ _ (c .before .before .before .before .before .before .before .before .before .before .before .before .shape-at .ensures)) ∙ is-class Owned (sym (c .before .before .before .before .before .before .before .before .before .before .before .is-in .ensures) ∙ c .before .before .before .before .before .before .before .before .before .before .if2 .taken)))
-
-opens-requires : tie.Need-opens-requires Inv-loop μ-loop
-opens-requires c κs = search needs
 
 opening-round-requires : tie.Need-opening-round-requires Inv-loop μ-loop
 opening-round-requires c κs = (own-moving _ _ _ _ _ (c .before .before .before .before .before .before .before .before .before .before .before .before .before .before .before .before .before .before .before .pre .0) (c .before .before .before .before .before .before .before .before .before .before .loop .inv) (omega (arith, gates-same (c .before .before .before .before .before .before .before .before .before .before .before .before .before .before .before .before .before .before .before .pre .0), c .before .before .before .before .before .before .before .if1 .taken)) (sym (shape-class _ _ (c .before .before .before .before .before .before .shape-at .ensures)) ∙ is-class Opens (sym (c .before .before .before .opens .ensures) ∙ c .before .before .if3 .taken)) (own-opens _) (opens-no-out refl), c .before .before .before .before .before .before .shape-at .ensures, (sym (shape-class _ _ (c .before .before .before .before .before .before .shape-at .ensures)) ∙ is-class Opens (sym (c .before .before .before .opens .ensures) ∙ c .before .before .if3 .taken)), own-waits _ _ _ _ _ (c .before .before .before .before .before .before .before .before .before .before .before .before .before .before .before .before .before .before .before .pre .0) (c .before .before .before .before .before .before .before .before .before .before .loop .inv) (omega (arith, gates-same (c .before .before .before .before .before .before .before .before .before .before .before .before .before .before .before .before .before .before .before .pre .0), c .before .before .before .before .before .before .before .if1 .taken)) (sym (shape-class _ _ (c .before .before .before .before .before .before .shape-at .ensures)) ∙ is-class Opens (sym (c .before .before .before .opens .ensures) ∙ c .before .before .if3 .taken)) (own-opens _) (opens-no-out refl))
@@ -183,11 +177,11 @@ run-spec =
     μ-loop
     loop-holds
     shape-at-requires
-    is-in-requires
+    (λ c κs. search needs)
     input-round-requires
     loop-less
     loop-again
-    opens-requires
+    (λ c κs. search needs)
     opening-round-requires
     loop-less-2
     loop-again-2
