@@ -1,9 +1,12 @@
 -- Folding at bit 31, which keeps the element of a number: p is 2^31 - 1, so that 2^31 stands for 1.
 -- Assumes nothing.
 use Prim.Native.Nat.{ℕ, _+_, _*_, _-_, _/_, _%_, _^_, _<_, _≤_}
-use mathlib.Core.Path.{_≡_}
+use mathlib.Core.Path.{_≡_, refl}
+use mathlib.Core.Bool.{Bool, true, false}
 use native.Mathlib.Omega.{arith}
 use lib.Bits.{bitAnd, and-mask}
+use lib.Dec.{ltb}
+use borrow.Author.Tests.{ltb-true, ltb-false}
 use mir.Syntax.{w32, w64}
 use mir.Val.{Fits}
 use Rattle.algebra.specs.Element.{Is}
@@ -35,11 +38,18 @@ pub norm-fold : (x : ℕ) → norm (fold x) ≡ norm x
 norm-fold x = omega (arith, low-bits x, norm-eq (fold x), norm-eq x)
 
 module _ (x : ℕ) (h : x < p * p) where
-  -- A fold of a number below p * p is below 2 * p.
-  fold-below : fold x < 2 * p
-  fold-below = omega (arith, low-bits x)
+  -- A fold of a number below p * p is below 2 * p - 1.
+  fold-few : fold x < 2 * p - 1
+  fold-few = omega (arith, low-bits x)
 
-  -- So it fits 32 bits.
+  fold-below : fold x < 2 * p
+  fold-below = omega (arith, fold-few)
+
+  -- So it is below 2^32.
+  pub fold-small : fold x < 2 ^ 32
+  fold-small = omega (arith, fold-below)
+
+  -- It fits 32 bits.
   pub fold-fits-word : Fits w32 (fold x)
   fold-fits-word = record { fits = omega (arith, fold-below) }
 
@@ -51,3 +61,48 @@ module _ (x : ℕ) (h : x < p * p) where
   pub element-large : p ≤ fold x → Is p (norm x) (fold x - p)
   element-large l =
       record { is = omega (arith, fold-below, norm-fold x, norm-eq (fold x)); below = omega (arith, fold-below) }
+
+-- Of a number below 2 * p - 1 the bits below bit 31 are the element, once 1 is added where one more than the number has bit 31.
+module _ (s : ℕ) (h : s < 2 * p - 1) where
+  off-small : s < p → bitAnd (s + (s + 1) / 2 ^ 31) p ≡ s % p
+  off-small l = let e : (s + 1) / 2 ^ 31 ≡ 0 = omega arith in rw e (omega (arith, low-bits (s + 0)))
+
+  off-large : p ≤ s → bitAnd (s + (s + 1) / 2 ^ 31) p ≡ s % p
+  off-large l = let e : (s + 1) / 2 ^ 31 ≡ 1 = omega arith in rw e (omega (arith, low-bits (s + 1)))
+
+  one-off : bitAnd (s + (s + 1) / 2 ^ 31) p ≡ s % p
+  one-off = go (ltb s p) refl
+    where
+      go : (b : Bool) → ltb s p ≡ b → bitAnd (s + (s + 1) / 2 ^ 31) p ≡ s % p
+      go true e = off-small (ltb-true s p e)
+      go false e = off-large (ltb-false s p e)
+
+-- A product z with a factor that is given twice: w is the product twice, so that bit 31 of z is bit 32 of w.
+module _ {w z : ℕ} (e : w ≡ 2 * z) (h : z < p * p) where
+  pub high-fits : Fits w32 (w / 2 ^ 32)
+  high-fits = record { fits = omega arith }
+
+  pub lower-fits : Fits w32 (bitAnd w (2 ^ 32 - 1))
+  lower-fits = record { fits = omega (arith, and-mask w 32) }
+
+  -- Its upper half and half of its lower half are what a fold adds.
+  halves : w / 2 ^ 32 + bitAnd w (2 ^ 32 - 1) / 2 ^ 1 ≡ fold z
+  halves = omega (arith, low-bits z, and-mask w 32)
+
+  pub halves-fit : Fits w32 (w / 2 ^ 32 + bitAnd w (2 ^ 32 - 1) / 2 ^ 1)
+  halves-fit = record { fits = omega (arith, halves, fold-below z h) }
+
+  module _ {s : ℕ} (es : s ≡ w / 2 ^ 32 + bitAnd w (2 ^ 32 - 1) / 2 ^ 1) where
+    twice-few : s < 2 * p - 1
+    twice-few = omega (arith, es, halves, fold-few z h)
+
+    pub next-fits : Fits w32 (s + 1)
+    next-fits = record { fits = omega (arith, twice-few) }
+
+    pub more-fits : Fits w32 (s + (s + 1) / 2 ^ 31)
+    more-fits = record { fits = omega (arith, twice-few) }
+
+    pub twice-element : Is p (norm z) (bitAnd (s + (s + 1) / 2 ^ 31) p)
+    twice-element =
+        let d : bitAnd (s + (s + 1) / 2 ^ 31) p ≡ s % p = one-off s twice-few in
+        record { is = omega (arith, d, es, halves, norm-fold z, norm-eq (fold z)); below = omega (arith, d) }

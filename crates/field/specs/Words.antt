@@ -11,9 +11,17 @@ size = p
 abbrev pub ops : Ops
 ops = prime
 
--- running sums of products are kept below this
+-- a folded sum of products is below this
 abbrev pub sumSize : ℕ
 sumSize = p * p
+
+-- a running sum may be below this when a product is added
+abbrev pub sumRoom : ℕ
+sumRoom = 9223372036854775808
+
+-- each product adds less than this to it
+abbrev pub termSize : ℕ
+termSize = 4294967296
 
 -- the largest number that a word can be
 abbrev pub largest : ℕ

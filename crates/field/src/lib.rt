@@ -1,9 +1,9 @@
 // The arithmetic of the field of the prime 2^31 - 1, on numbers below it.
 ghost use mathlib.Core.Path.{_≡_};
-ghost use Prim.Native.Nat.{_*_, _<_};
+ghost use Prim.Native.Nat.{_+_, _*_, _/_, _%_, _<_};
 ghost use Rattle.algebra.specs.Element.{Is};
 ghost use Rattle.field.specs.Prime.{norm, add, sub, mul};
-ghost use Rattle.field.specs.Words.{size, sumSize};
+ghost use Rattle.field.specs.Words.{size, sumSize, sumRoom, termSize};
 
 // A number that may be an element.
 pub type Word = u32;
@@ -37,9 +37,12 @@ pub fn sub(x: Word, y: Word) -> Word
 // The bits below bit 31. As a number it is SIZE, so that 2^31 stands for 1.
 const LOW: Sum = SIZE as u64;
 
+// The bits of a word.
+const WORD_BITS: Sum = LARGEST as u64;
+
 // One fold: the bits from bit 31 on are added to the bits below it.
-fn fold(x: Sum) -> Sum
-    ensures { λ r. ⌜ (r < sumSize) × (norm r ≡ norm x) ⌝ }
+pub fn fold(x: Sum) -> Sum
+    ensures { λ r. ⌜ (r < sumSize) × (norm r ≡ norm x) × (x < sumSize → r < termSize) ⌝ }
 {
     (x & LOW) + (x >> 31)
 }
@@ -62,6 +65,17 @@ pub fn mul(x: Word, y: Word) -> Word
     element((x as u64) * (y as u64))
 }
 
+// The same product, of a factor that is given twice. Its bits from bit 31 on are then the upper half of what is multiplied, so that one
+// factor for many numbers is doubled once and each product has less to split.
+pub fn mul_twice(x: Word, twice: Word) -> Word
+    requires { ⌜ (x < size) × (twice % 2 ≡ 0) × (twice / 2 < size) ⌝ }
+    ensures { λ r. ⌜ Is size (mul x (twice / 2)) r ⌝ }
+{
+    let wide = (x as u64) * (twice as u64);
+    let s = ((wide >> 32) as u32) + (((wide & WORD_BITS) as u32) >> 1);
+    (s + ((s + 1) >> 31)) & SIZE
+}
+
 // The element that a number stands for. One fold comes below SIZE * SIZE, whatever the number is.
 pub fn reduce(x: Sum) -> Word
     ensures { λ r. ⌜ Is size (norm x) r ⌝ }
@@ -69,12 +83,13 @@ pub fn reduce(x: Sum) -> Word
     element(fold(x))
 }
 
-// A running sum of products with x * y added. It is below 2 * SIZE * SIZE, which fits 64 bits.
+// A running sum of products with x * y added. The product is folded first, and the sum is not, so that nothing of one product waits for
+// another: several are made at a time.
 pub fn add_product(sum: Sum, x: Word, y: Word) -> Sum
-    requires { ⌜ (sum < sumSize) × (x < size) × (y < size) ⌝ }
-    ensures { λ r. ⌜ (r < sumSize) × (norm r ≡ add (norm sum) (mul x y)) ⌝ }
+    requires { ⌜ (sum < sumRoom) × (x < size) × (y < size) ⌝ }
+    ensures { λ r. ⌜ (r < sum + termSize) × (norm r ≡ add (norm sum) (mul x y)) ⌝ }
 {
-    fold(sum + (x as u64) * (y as u64))
+    sum + fold((x as u64) * (y as u64))
 }
 
 // c + e * b + d * a + k * m, reduced once: an element and three products fit 64 bits.

@@ -38,11 +38,11 @@ pub record Running (O : Ops) (most : ℕ) (f : ℕ → ℕ) (i acc : ℕ) : Type
   pub below : acc < most
 
 module _ {O : Ops} (F : Field O) {most : ℕ} (f : ℕ → ℕ) where
-  pub running-start : 0 < most → Running O most f 0 0
-  running-start h = record { added = rw (F .norm-of-lt {x = 0} (omega (arith, F .one-lt))) (added-start F f); below = h }
+  pub running-from : {i acc : ℕ} → O .norm acc ≡ sum O i f → acc < most → Running O most f i acc
+  running-from {i} {acc} e h = record { added = record { is = e; below = F .norm-lt acc }; below = h }
 
-  pub running-more : (i acc : ℕ) → Running O most f i acc → {w r : ℕ} → w ≡ f i → (r < most) × (O .norm r ≡ O .add (O .norm acc) w)
-      → Running O most f (i + 1) r
+  pub running-more : (i acc : ℕ) → Running O most f i acc → {w r more : ℕ} → w ≡ f i → (r < more) × (O .norm r ≡ O .add (O .norm acc) w)
+      → Running O more f (i + 1) r
   running-more i acc a e (b, d) = record { added = added-more F f i (O .norm acc) (a .added) e d; below = b }
 
 -- k opened values, or MAC shares of them, stand side by side

@@ -38,9 +38,10 @@ fn scale(values: &mut [Word], by: Word)
     requires { ⌜ (by < size) × Below size (now values) ⌝ }
     ensures { λ r. ⌜ now (values .exit) ≡ scaled by (now (values .entry)) ⌝ }
 {
+    let twice = by + by;
     let mut i = 0;
     while i < values.len() {
-        values[i] = field::mul(values[i], by);
+        values[i] = field::mul_twice(values[i], twice);
         i += 1;
     }
 }

@@ -1,11 +1,11 @@
 -- What the code's parts stand for.
 -- Assumes nothing.
-use Prim.Native.Nat.{ℕ, _<_}
+use Prim.Native.Nat.{ℕ, _+_, _<_}
 use mathlib.Core.Path.{_≡_}
 use mathlib.Core.List.{List}
 use lib.ListN.{getD}
 use Rattle.algebra.specs.Sum.{sum}
-use Rattle.field.specs.Words.{size, ops}
+use Rattle.field.specs.Words.{size, ops, sumSize}
 use Rattle.protocol.specs.Part as A
 use Rattle.protocol.specs.Scratch.{Layout, Value, read}
 use Rattle.steps.specs.declared.Part.{Part}
@@ -13,6 +13,15 @@ use Rattle.steps.specs.declared.Part.{Part}
 -- the first k opened values, each times its coefficient
 abbrev pub valueSum : Layout → List ℕ → ℕ → List ℕ → ℕ
 valueSum y l k coefficients = sum ops k (λ t. ops .mul (getD coefficients t 0) (read y l (Value t)))
+
+-- the first k coefficients, each times the number that stands as far behind at, summed up
+abbrev pub weighed : List ℕ → ℕ → List ℕ → ℕ → ℕ
+weighed l at coefficients k = sum ops k (λ t. ops .mul (getD coefficients t 0) (getD l (at + t) 0))
+
+-- a folded running sum stands for it
+pub record Weighed (l : List ℕ) (at : ℕ) (coefficients : List ℕ) (k acc : ℕ) : Type 0 where
+  pub is : ops .norm acc ≡ weighed l at coefficients k
+  pub below : acc < sumSize
 
 unfoldable pub partOf : Part → A.Part
 partOf x = record { share = x .share; mac = x .mac }

@@ -13,7 +13,6 @@ ghost use mathlib.Core.List.{[], _∷_};
 ghost use Prim.Native.Nat.{ℕ, _+_, _*_, _<_, _≤_};
 ghost use lib.ListN.{length, getD};
 ghost use Rattle.algebra.specs.Element.{Is};
-ghost use Rattle.algebra.specs.Sum.{sum};
 ghost use Rattle.field.specs.Words.{size, ops};
 ghost use Rattle.circuit.specs.Gate.{gateSize, gate};
 ghost use Rattle.circuit.specs.Kind.{shape};
@@ -25,7 +24,7 @@ ghost use Rattle.protocol.specs.Send.{inputWord, masked, openingWords, checkSha
 ghost use Rattle.protocol.specs.Holding.{Below, Held, Opened};
 ghost use Rattle.protocol.specs.Code.{layoutOf};
 ghost use Rattle.protocol.specs.Ready.{Ready, Sends};
-ghost use Rattle.steps.specs.Code.{valueSum, IsPart};
+ghost use Rattle.steps.specs.Code.{valueSum, weighed, Weighed, IsPart};
 
 // The mark that a commitment sends.
 pub const MARK: Word = 1;
@@ -67,19 +66,52 @@ pub fn masked(l: &[Word], y: Layout, x: usize, m: &[Word], k: usize) -> Part
     parts::sub(scratch::wire_at(l, y, x), parts::part_at(m, k))
 }
 
-// The first k coefficients, each times the number that stands as far behind at, summed up and reduced once.
+// How many products are added up at most before the running sum is folded.
+const PASS: usize = 1024;
+
+// Where a pass of the products from t on ends, of k in all.
+fn pass_end(t: usize, k: usize) -> usize
+    requires { ⌜ t < k ⌝ }
+    ensures { λ r. ⌜ (t < r) × (r ≤ k) × (r ≤ t + 1024) ⌝ }
+{
+    if k - t < PASS { k } else { t + PASS }
+}
+
+// A pass: the running sum of the products before t goes on to those before to. A product is a coefficient times the number that stands as far
+// behind at.
+fn weigh_on(start: Sum, l: &[Word], at: usize, from: usize, to: usize, coefficients: &[Word]) -> Sum
+    requires { ⌜ (from ≤ to)
+        × (to ≤ from + 1024)
+        × (at + to ≤ length (now l))
+        × (to ≤ length (now coefficients))
+        × Below size (now coefficients)
+        × ((t : ℕ) → t < to → getD (now l) (at + t) 0 < size)
+        × Weighed (now l) at (now coefficients) from start ⌝ }
+    ensures { λ r. ⌜ Weighed (now (l .entry)) at (now (coefficients .entry)) to r ⌝ }
+{
+    let mut acc = start;
+    let mut t = from;
+    while t < to {
+        acc = field::add_product(acc, coefficients[t], l[at + t]);
+        t += 1;
+    }
+    field::fold(acc)
+}
+
+// The first k coefficients, each times the number that stands as far behind at, summed up and reduced at the end.
 fn weigh(l: &[Word], at: usize, k: usize, coefficients: &[Word]) -> Word
     requires { ⌜ (at + k ≤ length (now l))
         × (k ≤ length (now coefficients))
         × Below size (now coefficients)
         × ((t : ℕ) → t < k → getD (now l) (at + t) 0 < size) ⌝ }
-    ensures { λ r. ⌜ Is size (sum ops k (λ t. ops .mul (getD (now (coefficients .entry)) t 0) (getD (now (l .entry)) (at + t) 0))) r ⌝ }
+    ensures { λ r. ⌜ Is size (weighed (now (l .entry)) at (now (coefficients .entry)) k) r ⌝ }
 {
     let mut acc: Sum = 0;
     let mut t = 0;
     while t < k {
-        acc = field::add_product(acc, coefficients[t], l[at + t]);
-        t += 1;
+        let to = pass_end(t, k);
+        acc = weigh_on(acc, l, at, t, to, coefficients);
+        t = to;
     }
     field::reduce(acc)
 }

@@ -1,23 +1,27 @@
--- `field::add_product` meets its contract: the sum fits 64 bits, and a fold keeps its element.
+-- `field::add_product` meets its contract: a fold of a product is below 2^32 and keeps its element.
 -- Assumes nothing.
 use borrow.Author.Needs.{needs}
-use mathlib.Core.Path.{_∙_}
-use Rattle.field.proofs.Bounds.{product-fits, more-fits}
-use Rattle.field.proofs.Products.{norm-more}
+use mathlib.Core.Path.{_∙_, ap}
+use native.Mathlib.Omega.{arith}
+use Rattle.field.specs.Prime.{add, norm}
+use Rattle.field.proofs.Bounds.{product-fits, product-lt}
+use Rattle.field.proofs.Products.{norm-sum, norm-product}
 use Rattle.field.proofs.add_product.Statement.{statement}
 use Rattle.field.proofs.add_product.Tie as tie
 
 mul-fold : tie.Need-mul-fold
 mul-fold c = search (needs, product-fits)
 
-add-fold : tie.Need-add-fold
-add-fold c = search (needs, more-fits)
-
 fold-requires : tie.Need-fold-requires
 fold-requires c κs = search needs
 
+add-result : tie.Need-add-result
+add-result c = search needs
+
 returns : tie.Need-returns
-returns c = (c .fold .ensures .0, c .fold .ensures .1 ∙ norm-more _ _ _)
+returns c =
+    let h = c .before .pre in
+    (omega (arith, c .fold .ensures .2 (product-lt (h .1) (h .2))), norm-sum _ _ ∙ ap (add _) (c .fold .ensures .1 ∙ norm-product _ _))
 
 pub add-product-spec : {M : Type 1} → statement M
-add-product-spec = tie.close (tie.spec mul-fold add-fold fold-requires returns)
+add-product-spec = tie.close (tie.spec mul-fold fold-requires add-result returns)

@@ -1,67 +1,55 @@
--- `steps::sending::weigh` meets its contract: after t turns the running sum stands for the first t terms.
+-- `steps::sending::weigh` meets its contract: after each pass the running sum stands for the products up to its end.
 -- Assumes nothing.
-use Prim.Native.Nat.{ℕ, _+_, _-_, _≤_}
-use mathlib.Core.Path.{refl, ap, _∙_}
+use Prim.Native.Nat.{ℕ, _-_, _≤_}
+use mathlib.Core.Path.{sym, ap, _∙_}
 use native.Mathlib.Omega.{arith}
 use borrow.Author.Needs.{needs}
-use lib.ListN.{getD}
 use denote.Ref.{now}
-use Rattle.field.specs.Words.{ops, sumSize}
 use Rattle.field.proofs.Laws.{laws}
-use Rattle.algebra.specs.Sum.{sum}
-use Rattle.protocol.proofs.Summing.{Running, running-start, running-more}
+use Rattle.algebra.proofs.Sums.{sum-zero}
+use Rattle.steps.specs.Code.{weighed, Weighed}
 use Rattle.steps.proofs.sending.weigh.Statement.{statement}
 use Rattle.steps.proofs.sending.weigh.Tie as tie
 
 abbrev Inv-loop : tie.InvT-loop
-Inv-loop l at k coefficients acc₀ t₀ acc t =
-    (t ≤ k) × Running ops sumSize (λ i. ops .mul (getD coefficients i 0) (getD l (at + i) 0)) t acc
+Inv-loop l at k coefficients acc₀ t₀ acc t = (t ≤ k) × Weighed l at coefficients t acc
 
 abbrev μ-loop : tie.MeasureT-loop
 μ-loop l at k coefficients acc₀ t₀ acc t = k - t
 
 loop-holds : tie.Need-loop-holds Inv-loop μ-loop
-loop-holds c = (omega arith, running-start laws _ (omega arith))
+loop-holds c = (omega arith, record { is = laws .norm-of-lt {x = 0} (omega arith) ∙ sym (sum-zero laws _); below = omega arith })
 
-mul-add-product : tie.Need-mul-add-product Inv-loop μ-loop
-mul-add-product c = omega (arith, c .before .before .before .before .good, c .before .before .before .before .pre .1, c .loop-test .taken)
+pass-end-requires : tie.Need-pass-end-requires Inv-loop μ-loop
+pass-end-requires c κs = c .loop-test .taken
 
-shared-slice-read-add-product : tie.Need-shared-slice-read-add-product Inv-loop μ-loop
-shared-slice-read-add-product c = omega (arith, c .before .before .before .before .before .pre .1, c .before .loop-test .taken)
-
-add-add-product : tie.Need-add-add-product Inv-loop μ-loop
-add-add-product c = omega (arith, c .before .before .before .before .before .good, c .before .before .before .before .before .pre .0, c .before .loop-test .taken)
-
-mul-add-product-2 : tie.Need-mul-add-product-2 Inv-loop μ-loop
-mul-add-product-2 c = omega (arith, c .before .before .before .before .before .good, c .before .before .before .before .before .pre .0, c .before .loop-test .taken)
-
-shared-slice-read-add-product-2 : tie.Need-shared-slice-read-add-product-2 Inv-loop μ-loop
-shared-slice-read-add-product-2 c = omega (arith, c .before .before .before .before .before .before .pre .0, c .before .before .loop-test .taken)
-
-add-product-requires : tie.Need-add-product-requires Inv-loop μ-loop
-add-product-requires c κs = (c .before .before .before .loop .inv .1 .below, c .before .before .before .before .before .before .pre .2 _, c .before .before .before .before .before .before .pre .3 _ (c .before .before .loop-test .taken))
-
-add-t : tie.Need-add-t Inv-loop μ-loop
-add-t c = omega (arith, c .before .before .before .before .before .before .before .good, c .before .before .before .before .before .before .before .pre .0, c .before .before .before .loop-test .taken)
+weigh-on-requires : tie.Need-weigh-on-requires Inv-loop μ-loop
+weigh-on-requires c κs =
+    let h = c .before .before .before .before .before .pre in
+    let e = c .pass-end .ensures in
+    (omega (arith, e .0), e .2, omega (arith, e .1, h .0), omega (arith, e .1, h .1), h .2, λ t l. h .3 t (omega (arith, e .1)), c .before .before .loop .inv .1)
 
 loop-less : tie.Need-loop-less Inv-loop μ-loop
-loop-less c = omega (arith, c .before .before .before .loop-test .taken)
+loop-less c = omega (arith, c .before .pass-end .ensures .0, c .before .pass-end .ensures .1)
 
 loop-again : tie.Need-loop-again Inv-loop μ-loop
-loop-again c = (omega (arith, c .before .before .before .loop-test .taken), running-more laws _ _ _ (c .before .before .before .before .loop .inv .1) refl (c .add-product .ensures))
+loop-again c = (c .before .pass-end .ensures .1, c .weigh-on .ensures)
 
 reduce-requires : tie.Need-reduce-requires Inv-loop μ-loop
 reduce-requires c κs = search needs
 
 returns : tie.Need-returns Inv-loop μ-loop
 returns c =
+    let a = c .before .before .before .before .before .args in
     record {
-      is = c .reduce .ensures .is ∙ c .before .before .loop .inv .1 .added .is ∙ ap (λ (n : ℕ). sum ops n (λ i. ops .mul (getD (now (c .before .before .before .before .before .args .coefficients)) i 0) (getD (now (c .before .before .before .before .before .args .l)) (c .before .before .before .before .before .args .at + i) 0))) (omega (arith, c .before .before .loop .inv .0, c .before .loop-test .left));
+      is =
+        c .reduce .ensures .is
+        ∙ c .before .before .loop .inv .1 .is
+        ∙ ap (λ (n : ℕ). weighed (now (a .l)) (a .at) (now (a .coefficients)) n) (omega (arith, c .before .before .loop .inv .0, c .before .loop-test .left));
       below = c .reduce .ensures .below;
     }
 
 pub weigh-spec : {M : Type 1} → statement M
 weigh-spec =
     tie.close
-    (tie.spec Inv-loop μ-loop loop-holds mul-add-product shared-slice-read-add-product add-add-product mul-add-product-2 shared-slice-read-add-product-2
-    add-product-requires add-t loop-less loop-again reduce-requires returns)
+    (tie.spec Inv-loop μ-loop loop-holds pass-end-requires weigh-on-requires loop-less loop-again reduce-requires returns)
