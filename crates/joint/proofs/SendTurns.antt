@@ -13,7 +13,9 @@ use lib.Seq.{length-take-le, getD-take, getD-drop}
 use borrow.Author.Tests.{ne-eqb, eqb-true, eqb-false}
 use Rattle.algebra.specs.Ops.{Ops}
 use Rattle.algebra.specs.Element.{Is}
+use Rattle.algebra.specs.Sum.{sum}
 use Rattle.field.specs.Words.{ops, size}
+use Rattle.field.proofs.Laws.{laws}
 use Rattle.circuit.specs.Gate.{gate}
 use Rattle.circuit.specs.Kind.{Owned, Opens, shape}
 use Rattle.circuit.specs.Count.{inputAt, inputCount, unchecked}
@@ -22,30 +24,24 @@ use Rattle.circuit.proofs.Counts.{input-within}
 use Rattle.circuit.proofs.KindLaws.{class-is, owned-facts, opens-facts}
 use Rattle.circuit.proofs.RoundLaws.{class-at-round}
 use Rattle.circuit.proofs.Tests.{by-cases}
-use Rattle.protocol.specs.Part as A
 use Rattle.protocol.specs.Scratch.{Layout, wire}
 use Rattle.protocol.specs.Position.{keep}
 use Rattle.protocol.specs.Party.{key, recordIn, recordOf, inputOf}
 use Rattle.protocol.specs.Send.{inputWord, openingWords, opening, ownWords, sent, holds}
-use Rattle.steps.specs.declared.Part.{Part}
 use Rattle.protocol.specs.Holding.{Below, Held, Opened}
 use Rattle.protocol.specs.Code.{layoutOf}
 use Rattle.protocol.specs.Ready.{Named}
-use Rattle.steps.specs.Code.{IsPart}
 use Rattle.protocol.specs.Ask.{mostParties}
-use Rattle.steps.proofs.Numbers.{share-is}
 use Rattle.protocol.proofs.Readiness.{input-words, opening-words, output-words, opened-there, opening-held, output-held}
 use Rattle.protocol.specs.Joint.{Joint, joined, band, inputsAt, party}
 use Rattle.protocol.specs.Run.{takes, said, step}
 use Rattle.joint.specs.declared.Frame.{Frame}
 use Rattle.joint.specs.Code.{Course, Placed, jointOf, siteOf, stateOf, part, prepFrom, keyIn, Prepared, Banded, EachBand, Going, saidBy, shareIn}
-use Rattle.protocol.proofs.Words.{joined-ext}
+use Rattle.protocol.specs.Receive.{heardSum}
+use Rattle.protocol.proofs.Summing.{Added}
+use Rattle.protocol.proofs.Words.{joined-ext, heard-sum}
 use Rattle.joint.proofs.Parties.{lent-prepared, lent-key, lent-banded, lent-keyed, lent-record, lent-record-is}
 use Rattle.joint.proofs.Going.{within, occurs}
-
--- the share of a part that is known
-pub share-of : {v : A.Part} {x : Part} → IsPart v x → Is size (v .share) (x .share)
-share-of e = record { is = share-is e; below = e .low .share }
 
 -- a part of a list is as long as its ends say
 pub part-enough : (u k : ℕ) (xs : List ℕ) → u + k ≤ length xs → k ≤ length (part u (u + k) xs)
@@ -59,6 +55,21 @@ openedWords f preps l a x z k i = openingWords ops (layoutOf (f .layout)) (band 
 pub opened-words : (O : Ops) (y : Layout) (l : List ℕ) (x z : ℕ) (m : List ℕ) (k : ℕ) → 1 ≤ k → k ≤ 2 → length (openingWords O y l x z m k) ≡ k
 opened-words O y l x z m k some few =
     by-cases (eqb k 2) (λ e. rw e (omega (arith, eqb-true k 2 e))) (λ e. rw e (omega (arith, eqb-false k 2 e)))
+
+-- word t of each of i parties is added up; where these are all, it is what is heard of the words of all
+module _ (n k t : ℕ) (F : ℕ → List ℕ) (each : (i : ℕ) → i < n → length (F i) ≡ k) (within : t < k) where
+  pub words-heard : {out : List ℕ} → out ≡ joined n F → {i e : ℕ} → i ≤ n → n ≤ i → Added ops (λ z. getD (F z) t 0) i e
+      → Is size (heardSum ops n k t out) e
+  words-heard d {i} upto done a =
+      let q : i ≡ n = omega arith in
+      record {
+        is =
+          a .is
+          ∙ ap (λ (m : ℕ). sum ops m (λ z. getD (F z) t 0)) q
+          ∙ sym (heard-sum laws n k t F each within)
+          ∙ ap (heardSum ops n k t) (sym d);
+        below = a .below;
+      }
 
 -- an input matters to its owner only
 input-same : (O : Ops) (i owner : ℕ) (m : List ℕ) (u v : ℕ) → (i ≡ owner → u ≡ v) → inputWord O i owner m u ≡ inputWord O i owner m v

@@ -16,7 +16,7 @@ use Rattle.circuit.specs.Round.{Second, Round, Own, Open, Commit, isCommit, sha
 use Rattle.circuit.specs.Accept.{mostGates}
 use Rattle.circuit.specs.Code.{classOf, shapeOf}
 use Rattle.circuit.specs.declared.Shape as S
-use Rattle.circuit.proofs.KindLaws.{class-is, owned-no-out, opens-no-out, owned-facts, opens-facts, shape-class, shape-prep, shape-openings, shape-words}
+use Rattle.circuit.proofs.KindLaws.{class-is, owned-no-out, opens-no-in, opens-no-out, owned-facts, opens-facts, shape-class, shape-prep, shape-openings, shape-words}
 use Rattle.circuit.proofs.Counts.{unchecked-few}
 use Rattle.circuit.proofs.RoundLaws.{class-at-round}
 use Rattle.protocol.specs.Scratch.{wire}
@@ -32,7 +32,7 @@ use Rattle.protocol.specs.Run.{takes, said, step}
 use Rattle.protocol.proofs.Following.{next-follows, passes-other}
 use Rattle.protocol.proofs.Bands.{band-end}
 use Rattle.protocol.proofs.Gathering.{zeros}
-use Rattle.protocol.proofs.HeardWords.{first-asks, second-asks, first-found, second-found, output-heard}
+use Rattle.protocol.proofs.HeardWords.{first-asks, first-found, second-found, output-heard}
 use Rattle.protocol.proofs.Readiness.{input-words, opening-words, output-words}
 use Rattle.joint.specs.declared.Frame.{Frame}
 use Rattle.joint.specs.Code.{Course, Small, Placed, dueAt, stateOf, prepFrom, keyIn, Prepared, Banded, EachBand, rebanded, receivedIn, noneHeld, Going, Moving, Moved}
@@ -242,24 +242,20 @@ module _ {f : Frame} {s : Course} {c preps inputs coefficients l t : List ℕ} (
         pub opening-long : length (sentAt s (f .parties * g .openings) t ws) ≡ length t
         opening-long = round-long u each-words opening-said
 
-        pub opening-hears : (0 < g .openings)
-            × (f .parties * g .openings ≤ length (heardAt s (f .parties * g .openings) t ws))
-            × Below size (heardAt s (f .parties * g .openings) t ws)
-            × (isClass Owned (classOf (g .class)) ≡ true → x < f .parties)
-        opening-hears = first-asks (own-hears each-words opening-said) (shape-class g _ eg) words-of ex
+        -- what is heard is what was said
+        heard-same : heardAt s (f .parties * g .openings) t ws ≡ ws
+        heard-same = heard-is u each-words opening-said ∙ sym opening-said
 
-        pub opening-hears-last : (f .parties * g .openings ≤ length (heardAt s (f .parties * g .openings) t ws))
-            × Below size (heardAt s (f .parties * g .openings) t ws)
-            × (isClass Opens (classOf (g .class)) ≡ true → (1 ≤ g .openings) × (g .openings - 1 < g .openings))
-        opening-hears-last = second-asks (own-hears each-words opening-said) (shape-class g _ eg) words-of openings-are
+        class-same : classOf (g .class) ≡ Opens
+        class-same = shape-class g _ eg ∙ cl
 
-        module _ {e : ℕ} (ee : Is size (cond (isClass Owned (classOf (g .class))) (getD (heardAt s (f .parties * g .openings) t ws) (x * g .openings) 0) (heardSum ops (f .parties) (g .openings) 0 (heardAt s (f .parties * g .openings) t ws))) e)
-            {v : ℕ} (ev : Is size (cond (isClass Opens (classOf (g .class))) (heardSum ops (f .parties) (g .openings) (g .openings - 1) (heardAt s (f .parties * g .openings) t ws)) 0) v) where
+        module _ {e : ℕ} (ee : Is size (heardSum ops (f .parties) (g .openings) 0 ws) e)
+            {v : ℕ} (ev : Is size (heardSum ops (f .parties) (g .openings) (g .openings - 1) ws) v) where
           summed : Summed ops (f .parties) (gate c (s .point .gate)) Own (heardAt s (f .parties * g .openings) t ws) e v
           summed =
               record {
-                first = first-found (own-hears each-words opening-said) (shape-class g _ eg) words-of ops ex ee;
-                second = second-found (own-hears each-words opening-said) (shape-class g _ eg) words-of ops openings-are ev;
+                first = first-found (own-hears each-words opening-said) (shape-class g _ eg) words-of ops ex (rw (opens-no-in class-same, heard-same) ee);
+                second = second-found (own-hears each-words opening-said) (shape-class g _ eg) words-of ops openings-are (rw (class-is class-same, heard-same) ev);
               }
 
           opening-lent : Prepared f preps (s .prep) (2 * g .openings + 2)

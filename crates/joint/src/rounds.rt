@@ -104,7 +104,7 @@ fn opening_round(
     let end = start + f.parties * k;
     let x = gates::reading::first_at(c, j);
     let z = gates::reading::factor_at(c, j, k);
-    sending::opening_words(
+    let sums = sending::opening_words(
         f,
         s.prep,
         x,
@@ -114,10 +114,19 @@ fn opening_round(
         scratch,
         &mut transcript[start..end],
     );
-    let class = g.class;
-    let e = steps::receiving::heard_first(f.parties, class, x, k, &transcript[start..end]);
-    let d = steps::receiving::heard_second(f.parties, class, k, k, &transcript[start..end]);
-    receiving::receive_openings(f, j, x, z, s.prep, k, s.waiting, preps, scratch, e, d);
+    receiving::receive_openings(
+        f,
+        j,
+        x,
+        z,
+        s.prep,
+        k,
+        s.waiting,
+        preps,
+        scratch,
+        sums.first,
+        sums.last,
+    );
     let stop = receiving::settle(f, c, j + 1, preps, scratch);
     Stop {
         gate: stop,

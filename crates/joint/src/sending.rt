@@ -2,13 +2,16 @@
 // asked here: what is needed is what the entry has asked.
 use crate::Frame;
 use field::Word;
+use steps::Ends;
 ghost use mathlib.Core.Path.{_≡_};
 ghost use mathlib.Core.List.{[], _∷_};
-ghost use Prim.Native.Nat.{ℕ, _+_, _*_, _<_, _≤_};
+ghost use Prim.Native.Nat.{ℕ, _+_, _-_, _*_, _<_, _≤_};
 ghost use lib.ListN.{length, getD};
+ghost use Rattle.algebra.specs.Element.{Is};
 ghost use Rattle.field.specs.Words.{ops, size};
 ghost use Rattle.protocol.specs.Scratch.{wire};
 ghost use Rattle.protocol.specs.Send.{mark, inputWord, openingWords};
+ghost use Rattle.protocol.specs.Receive.{heardSum};
 ghost use Rattle.protocol.specs.Holding.{Below, Held, Opened};
 ghost use Rattle.protocol.specs.Code.{layoutOf};
 ghost use Rattle.protocol.specs.Ask.{mostParties};
@@ -43,7 +46,8 @@ pub fn input_words(
     }
 }
 
-// Each party's k words of a gate that opens k values into out. The gate names x and z, and its record stands at number at.
+// Each party's k words of a gate that opens k values into out, and what the first and the last words of all come to. The gate names x and z,
+// and its record stands at number at.
 pub fn opening_words(
     f: Frame,
     at: usize,
@@ -53,16 +57,20 @@ pub fn opening_words(
     preps: &[Word],
     scratch: &[Word],
     out: &mut [Word],
-)
+) -> Ends
     requires { ⌜ (1 ≤ k)
         × (k ≤ 2)
         × Prepared f (now preps) at (2 * k + 2)
         × Banded f (now scratch)
         × EachBand f (now scratch) (λ i l. Held size (layoutOf (f .layout)) l x × Held size (layoutOf (f .layout)) l z)
         × (length (now out) ≡ f .parties * k) ⌝ }
-    ensures { λ r. ⌜ now (out .exit)
+    ensures out { λ r. ⌜ now (out .exit)
         ≡ joined (f .parties) (λ i. openingWords ops (layoutOf (f .layout)) (band (f .scratch) (now (scratch .entry)) i) x z (prepFrom f (now (preps .entry)) at i) k) ⌝ }
+    ensures sums { λ r. ⌜ Is size (heardSum ops (f .parties) k 0 (now (out .exit))) (r .first)
+        × Is size (heardSum ops (f .parties) k (k - 1) (now (out .exit))) (r .last) ⌝ }
 {
+    let mut first_sum: Word = 0;
+    let mut last_sum: Word = 0;
     let mut a = 0;
     let mut i = 0;
     while i < f.parties {
@@ -71,7 +79,7 @@ pub fn opening_words(
         let last = i * f.prep + f.prep;
         let start = i * f.scratch;
         let end = start + f.scratch;
-        steps::sending::opening_words(
+        let ends = steps::sending::opening_words(
             &scratch[start..end],
             f.layout,
             x,
@@ -80,8 +88,14 @@ pub fn opening_words(
             k,
             &mut out[a..b],
         );
+        first_sum = field::add(first_sum, ends.first);
+        last_sum = field::add(last_sum, ends.last);
         a = b;
         i += 1;
+    }
+    Ends {
+        first: first_sum,
+        last: last_sum,
     }
 }
 

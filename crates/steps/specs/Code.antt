@@ -1,14 +1,16 @@
 -- What the code's parts stand for.
 -- Assumes nothing.
-use Prim.Native.Nat.{ℕ, _+_, _<_}
+use Prim.Native.Nat.{ℕ, _+_, _-_, _<_}
 use mathlib.Core.Path.{_≡_}
 use mathlib.Core.List.{List}
 use lib.ListN.{getD}
+use Rattle.algebra.specs.Element.{Is}
 use Rattle.algebra.specs.Sum.{sum}
 use Rattle.field.specs.Words.{size, ops, sumSize}
 use Rattle.protocol.specs.Part as A
 use Rattle.protocol.specs.Scratch.{Layout, Value, read}
 use Rattle.steps.specs.declared.Part.{Part}
+use Rattle.steps.specs.declared.Ends.{Ends}
 
 -- the first k opened values, each times its coefficient
 abbrev pub valueSum : Layout → List ℕ → ℕ → List ℕ → ℕ
@@ -35,3 +37,8 @@ pub record Low (x : Part) : Type 0 where
 pub record IsPart (v : A.Part) (x : Part) : Type 0 where
   pub is : partOf x ≡ v
   pub low : Low x
+
+-- and of the first and the last of k words
+pub record AreEnds (ws : List ℕ) (k : ℕ) (x : Ends) : Type 0 where
+  pub first : Is size (getD ws 0 0) (x .first)
+  pub last : Is size (getD ws (k - 1) 0) (x .last)

@@ -12,3 +12,9 @@ pub struct Part {
     pub share: Word,
     pub mac: Word,
 }
+
+// The first and the last word of a party in a round.
+pub struct Ends {
+    pub first: Word,
+    pub last: Word,
+}

@@ -1,4 +1,5 @@
 // What a party sends in a round. The steps ask nothing: what they need is what an entry has asked.
+use crate::Ends;
 use crate::Part;
 use crate::parts;
 use crate::scratch;
@@ -24,7 +25,7 @@ ghost use Rattle.protocol.specs.Send.{inputWord, masked, openingWords, checkSha
 ghost use Rattle.protocol.specs.Holding.{Below, Held, Opened};
 ghost use Rattle.protocol.specs.Code.{layoutOf};
 ghost use Rattle.protocol.specs.Ready.{Ready, Sends};
-ghost use Rattle.steps.specs.Code.{valueSum, weighed, Weighed, IsPart};
+ghost use Rattle.steps.specs.Code.{valueSum, weighed, Weighed, IsPart, AreEnds};
 
 // The mark that a commitment sends.
 pub const MARK: Word = 1;
@@ -175,7 +176,8 @@ pub fn check_share(l: &[Word], y: Layout, k: usize, key: Word, coefficients: &[W
     )
 }
 
-// The words of a gate that opens k values and names x and z; m starts at its record.
+// The words of a gate that opens k values and names x and z, which are written and of which the first and the last are told; m starts at its
+// record.
 pub fn opening_words(
     l: &[Word],
     y: Layout,
@@ -184,7 +186,7 @@ pub fn opening_words(
     m: &[Word],
     k: usize,
     out: &mut [Word],
-)
+) -> Ends
     requires { ⌜ (scratchSize (layoutOf y) ≤ length (now l))
         × Held size (layoutOf y) (now l) x
         × Held size (layoutOf y) (now l) z
@@ -193,13 +195,22 @@ pub fn opening_words(
         × (2 * k + 1 < length (now m))
         × Below size (now m)
         × (k ≤ length (now out)) ⌝ }
-    ensures { λ r. ⌜ now (out .exit) ≡ overwrite (openingWords ops (layoutOf y) (now (l .entry)) x z (now (m .entry)) k) (now (out .entry)) ⌝ }
+    ensures out { λ r. ⌜ now (out .exit) ≡ overwrite (openingWords ops (layoutOf y) (now (l .entry)) x z (now (m .entry)) k) (now (out .entry)) ⌝ }
+    ensures ends { λ r. ⌜ AreEnds (openingWords ops (layoutOf y) (now (l .entry)) x z (now (m .entry)) k) k r ⌝ }
 {
     let first = masked(l, y, x, m, A_AT);
     out[0] = first.share;
     if k == 2 {
         let second = masked(l, y, z, m, 2 * k - 2);
         out[1] = second.share;
+        return Ends {
+            first: first.share,
+            last: second.share,
+        };
+    }
+    Ends {
+        first: first.share,
+        last: first.share,
     }
 }
 

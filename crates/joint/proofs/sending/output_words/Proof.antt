@@ -8,7 +8,7 @@ use Rattle.protocol.specs.Scratch.{wire}
 use Rattle.protocol.specs.Code.{layoutOf}
 use Rattle.protocol.specs.Joint.{band}
 use Rattle.joint.proofs.Cutting.{band-fits, band-is, band-room}
-use Rattle.joint.proofs.SendTurns.{share-of}
+use Rattle.steps.proofs.Numbers.{share-of}
 use Rattle.protocol.proofs.Filling.{Filled, filled-start}
 use Rattle.protocol.proofs.Gathering.{put-length, put-more, put-all}
 use Rattle.joint.proofs.sending.output_words.Statement.{statement}

@@ -58,7 +58,7 @@ opening-words-requires c κs = let s = sends-opening _ _ _ _ 0 [] _ (own-sends _
 
 returns-2 : tie.Need-returns-2
 unfolding sent
-returns-2 c = sent-opening ops _ _ _ _ 0 _ (c .before .before .before .before .before .before .before .before .before .before .before .before .before .before .before .pre .0) (own-opens (c .before .before .before .before .before .before .before .before .before .before .before .before .before .before .before .pre .0) (shape-class _ _ (c .before .before .before .before .before .before .before .before .before .shape-at .ensures)) (sym (c .before .before .before .before .before .before .before .is-in .ensures) ∙ c .before .before .before .before .before .before .if1 .left)) (record { first = c .before .before .before .before .before .before .before .before .first-at .ensures; second = c .before .before .before .before .before .factor-at .ensures; openings = shape-openings _ _ (c .before .before .before .before .before .before .before .before .before .shape-at .ensures) }) (c .before .before .opening-words .ensures ∙ rw (tail-part (c .before .before .before .before .before .before .before .before .before .before .before .before .before .before .before .args .at .prep) (now (c .before .before .before .before .before .before .before .before .before .before .before .before .before .before .before .args .prep))))
+returns-2 c = sent-opening ops _ _ _ _ 0 _ (c .before .before .before .before .before .before .before .before .before .before .before .before .before .before .before .pre .0) (own-opens (c .before .before .before .before .before .before .before .before .before .before .before .before .before .before .before .pre .0) (shape-class _ _ (c .before .before .before .before .before .before .before .before .before .shape-at .ensures)) (sym (c .before .before .before .before .before .before .before .is-in .ensures) ∙ c .before .before .before .before .before .before .if1 .left)) (record { first = c .before .before .before .before .before .before .before .before .first-at .ensures; second = c .before .before .before .before .before .factor-at .ensures; openings = shape-openings _ _ (c .before .before .before .before .before .before .before .before .before .shape-at .ensures) }) (c .before .before .opening-words .ensures .0 ∙ rw (tail-part (c .before .before .before .before .before .before .before .before .before .before .before .before .before .before .before .args .at .prep) (now (c .before .before .before .before .before .before .before .before .before .before .before .before .before .before .before .args .prep))))
 
 pub send-own-spec : {M : Type 1} → statement M
 send-own-spec =
