@@ -1,12 +1,12 @@
 -- A run from gate to gate, at outputs: their checks and their opening lead to the next gate or stop the run. And its start and its end.
 -- Assumes nothing.
 use Prim.Native.Nat.{ℕ, suc, _+_, _-_, _*_, _<_, _≤_}
-use mathlib.Core.Path.{_≡_, refl, sym, ap, subst}
-use mathlib.Core.List.{List}
+use mathlib.Core.Path.{_≡_, refl, sym, ap, subst, _∙_}
+use mathlib.Core.List.{List, _++_}
 use mathlib.Core.Logic.{inl, inr, ⊎-elim}
 use native.Mathlib.Numerals.{add-one}
 use native.Mathlib.Omega.{arith}
-use lib.ListN.{length, set}
+use lib.ListN.{length, set, drop}
 use Rattle.algebra.specs.Element.{Is}
 use Rattle.field.specs.Words.{size, ops}
 use Rattle.circuit.specs.Gate.{gate, gates}
@@ -21,25 +21,27 @@ use Rattle.protocol.specs.Send.{mark}
 use Rattle.protocol.specs.Scratch.{layout, Value, read}
 use Rattle.protocol.specs.Code.{layoutOf}
 use Rattle.protocol.specs.Holding.{Below, Opened}
-use Rattle.protocol.specs.Ready.{Settles}
 use Rattle.protocol.specs.Ask.{mostParties}
-use Rattle.protocol.specs.Joint.{band}
+use Rattle.protocol.specs.Joint.{band, party}
 use Rattle.protocol.specs.Run.{mostRounds}
 use Rattle.protocol.specs.JointEntry as E
-use Rattle.protocol.proofs.Bands.{band-end}
+use Rattle.protocol.proofs.Bands.{band-end, joined-bands}
+use Rattle.protocol.proofs.Readiness.{settles-here}
+use Rattle.protocol.proofs.Settling.{reach-here, settle-none}
+use Rattle.protocol.proofs.Words.{joined-ext}
 use Rattle.protocol.proofs.Runs.{Over}
 use Rattle.joint.specs.declared.JointAnswer.{JointAnswer}
 use Rattle.joint.specs.declared.Frame.{Frame}
 use Rattle.joint.specs.declared.Stop.{Stop}
-use Rattle.joint.specs.Code.{jointAnswerOf, courseOf, dueAt, dueIn, cameTo, Placed, keyIn, Prepared, Banded, EachBand, rebanded, shareIn, each, writtenAt, noneHeld, Moving, Moved, Kept, Runnable, Ran, Common, Passed}
+use Rattle.joint.specs.Code.{jointAnswerOf, courseOf, dueAt, dueIn, cameTo, Placed, siteOf, keyIn, Prepared, Banded, EachBand, shareIn, each, writtenAt, noneHeld, SettlesAll, settledAll, Moving, Moved, Kept, Runnable, Ran, Common, Passed}
 use Rattle.joint.proofs.Common.{input-common, opening-common, show-common}
-use Rattle.joint.proofs.Later.{waits-stop}
+use Rattle.joint.proofs.Parties.{lent-key, lent-banded, lent-keyed}
+use Rattle.joint.proofs.Later.{waits-stop, placed-stop}
 use Rattle.joint.proofs.Measures.{gates-are}
-use Rattle.joint.proofs.ReceiveTurns.{settledLeft}
 use Rattle.joint.proofs.SendTurns.{lentAll}
-use Rattle.joint.proofs.Stops.{own-in, own-opens, came-own, came-open, came-commit, came-end, stop-within, stop-stands, resume-came}
+use Rattle.joint.proofs.Stops.{own-in, own-opens, came-in, came-own, came-open, came-commit, came-end, stop-within, stop-stands, resume-came}
 use Rattle.joint.proofs.Running.{Running, running-moving, running-again, running-over, running-start}
-use Rattle.joint.proofs.Passing.{turned-quietly, Standing, places-stay, own-waits, own-moving}
+use Rattle.joint.proofs.Passing.{turned-quietly, Standing, Before, next-stop, places-stay, own-waits, own-moving}
 use Rattle.joint.proofs.Turns.{next-waits}
 use Rattle.joint.proofs.CheckTurns.{check-asked, check-stopped, first-checked, output-room, output-settles, second-checked}
 
@@ -53,6 +55,37 @@ module _ {f : Frame} {c preps inputs coefficients l₀ t₀ o₀ : List ℕ} (ab
   pub gates-same : f .layout .gates ≡ gates c
   gates-same = gates-are (able .lent .valid) (able .lent .framed)
 
+  -- a gate that has rounds has no linear gates before it that are to be done
+  module _ {s : Stop} {places l t o : List ℕ} (inv : Standing (lentAll f c preps inputs coefficients) f l₀ t₀ o₀ s places l t o) (h : s .gate < gates c) where
+    here-moving : Moving (lentAll f c preps inputs coefficients) f (courseOf (dueAt (s .gate) (dueIn (shape (gate c (s .gate)) .class) (s .waiting))) s) (dueIn (shape (gate c (s .gate)) .class) (s .waiting)) noneHeld l t
+    here-moving =
+        running-moving _ f l₀ t₀ o₀ able
+        (subst (λ (x : Point). Running (lentAll f c preps inputs coefficients) f l₀ t₀ o₀ (courseOf x s) noneHeld l t o) (came-in c (s .gate) (s .waiting) h) (inv .running))
+        (dueIn (shape (gate c (s .gate)) .class) (s .waiting)) refl
+
+    here : reach c (f .layout .gates - s .gate) (s .gate) ≡ s .gate
+    here = reach-here c (f .layout .gates - s .gate) (s .gate) (inv .stands h)
+
+    none-left : settledAll f c preps l (s .gate) ≡ l
+    none-left =
+        ap (λ (x : List ℕ). x ++ drop (f .parties * f .scratch) l)
+        (joined-ext (f .parties) _ (band (f .scratch) l)
+        (λ i k. settle-none ops c (layoutOf (f .layout)) i (keyIn f preps i) (f .layout .gates - s .gate) (s .gate) (band (f .scratch) l i) (omega (arith, here))))
+        ∙ joined-bands (f .parties) (f .scratch) l (here-moving .going .room)
+
+    pub standing-before : Before (lentAll f c preps inputs coefficients) f l₀ t₀ o₀ s places l t o
+    unfolding siteOf party
+    standing-before =
+        record {
+          settles = (
+            lent-key (able .lent),
+            lent-banded (able .lent) (here-moving .going .room),
+            omega (arith, able .lent .some),
+            λ i k. rw (lent-keyed (able .lent) i) (settles-here (party (lentAll f c preps inputs coefficients) i) (band (f .scratch) l i) (f .layout) _ _ (here-moving .going .ready i k)),
+          );
+          standing = rw (here, none-left) inv;
+        }
+
   -- own rounds leave opened values that are the same to all
   module _ {s : Stop} {places l t o : List ℕ} (inv : Standing (lentAll f c preps inputs coefficients) f l₀ t₀ o₀ s places l t o) (h : s .gate < gates c)
       {s′ : Stop} {l′ t′ : List ℕ}
@@ -62,14 +95,14 @@ module _ {f : Frame} {c preps inputs coefficients l₀ t₀ o₀ : List ℕ} (ab
     in-common cl =
         let u = own-moving _ f l₀ t₀ o₀ able inv h cl (own-in (s .waiting)) (owned-no-out refl) in
         let w = own-waits _ f l₀ t₀ o₀ able inv h cl (own-in (s .waiting)) (owned-no-out refl) in
-        let e : s .waiting ≡ s′ .waiting = omega (arith, next-waits u (owned-no-out cl) w (sym (owned-facts (gate c (s .gate)) cl .openings)) (p .gate), p .waiting) in
+        let e : s .waiting ≡ s′ .waiting = omega (arith, next-waits u (owned-no-out cl) w (sym (owned-facts (gate c (s .gate)) cl .openings)), p .waiting) in
         subst (Common f l′) e (input-common (u .going) d cl w (inv .common))
 
     pub opens-common : shape (gate c (s .gate)) .class ≡ Opens → Common f l′ (s′ .waiting)
     opens-common cl =
         let u = own-moving _ f l₀ t₀ o₀ able inv h cl (own-opens (s .waiting)) (opens-no-out refl) in
         let w = own-waits _ f l₀ t₀ o₀ able inv h cl (own-opens (s .waiting)) (opens-no-out refl) in
-        let e : s .waiting + shape (gate c (s .gate)) .openings ≡ s′ .waiting = omega (arith, next-waits u (opens-no-out cl) w refl (p .gate), p .waiting) in
+        let e : s .waiting + shape (gate c (s .gate)) .openings ≡ s′ .waiting = omega (arith, next-waits u (opens-no-out cl) w refl, p .waiting) in
         subst (Common f l′) e (opening-common (u .going) d cl w refl (inv .common))
 
   module _ {s : Stop} {places l t o : List ℕ} (inv : Standing (lentAll f c preps inputs coefficients) f l₀ t₀ o₀ s places l t o)
@@ -103,11 +136,11 @@ module _ {f : Frame} {c preps inputs coefficients l₀ t₀ o₀ : List ℕ} (ab
             → Ran (lentAll f c preps inputs coefficients) l₀ t₀ o₀ a l t₁ o
         first-stopped w e = rw et (check-stopped able First sealing refl all-wait ev w e)
 
-        pub first-passed : v ≡ 0
+        first-standing : v ≡ 0
             → Standing (lentAll f c preps inputs coefficients) f l₀ t₀ o₀
             (record { gate = s .gate; prep = s .prep; waiting = 0; used = s .used + s .waiting; written = s .written + f .parties + f .parties; released = s .released; rounds = s .rounds + 2 })
             places l t₁ o
-        first-passed w =
+        first-standing w =
             rw et
             (record {
               within = inv .within;
@@ -123,6 +156,12 @@ module _ {f : Frame} {c preps inputs coefficients l₀ t₀ o₀ : List ℕ} (ab
                   (sym (came-open c (s .gate) 0 h cl refl))
                   (first-checked able sealing refl all-wait ev w);
             })
+
+        pub first-passed : v ≡ 0
+            → Before (lentAll f c preps inputs coefficients) f l₀ t₀ o₀
+            (record { gate = s .gate; prep = s .prep; waiting = 0; used = s .used + s .waiting; written = s .written + f .parties + f .parties; released = s .released; rounds = s .rounds + 2 })
+            places l t₁ o
+        first-passed w = standing-before (first-standing w) h
 
     -- none waits: the output is opened
     module _ (z : s .waiting ≡ 0) where
@@ -157,10 +196,7 @@ module _ {f : Frame} {c preps inputs coefficients l₀ t₀ o₀ : List ℕ} (ab
         pub second-room : s₁ .released < length o
         second-room = output-room able shown refl
 
-        pub second-settles : Prepared f preps 0 1
-            × Banded f l₁
-            × (0 < f .parties)
-            × EachBand f l₁ (λ i x. Settles size c (layoutOf (f .layout)) (keyIn f preps i) x (s .gate + 1))
+        pub second-settles : SettlesAll f c preps l₁ (s .gate + 1)
         second-settles = output-settles able shown refl
 
         pub second-band : f .scratch ≤ length l₁
@@ -172,32 +208,38 @@ module _ {f : Frame} {c preps inputs coefficients l₀ t₀ o₀ : List ℕ} (ab
               → Ran (lentAll f c preps inputs coefficients) l₀ t₀ o₀ a l₁ t₂ o
           second-stopped w e = rw et (check-stopped able Second shown refl refl ev w e)
 
-          module _ (w : v ≡ 0) {stop : ℕ} (es : stop ≡ reach c (gates c - (s .gate + 1)) (s .gate + 1))
-              {l₂ : List ℕ} (el : l₂ ≡ rebanded f (settledLeft f c preps l₁ (s .gate + 1)) l₁) {x : ℕ} (ex : x ≡ read (layout c) (band (f .scratch) l₁ 0) (Value 0)) where
-            -- nothing waits after an output
-            none-waits : 0 ≡ unchecked c stop
-            unfolding unchecked uncheckedAfter
-            none-waits = rw (es, waits-stop c (s .gate) h, add-one (s .gate), class-is cl)
+          module _ (w : v ≡ 0) {x : ℕ} (ex : x ≡ read (layout c) (band (f .scratch) l₁ 0) (Value 0)) where
+            stop-is : reach c (f .layout .gates - (s .gate + 1)) (s .gate + 1) ≡ reach c (gates c - (s .gate + 1)) (s .gate + 1)
+            stop-is = next-stop _ f l₀ t₀ o₀ able (s .gate)
 
-            pub second-passed : Standing (lentAll f c preps inputs coefficients) f l₀ t₀ o₀
-                (record { gate = stop; prep = s₁ .prep; waiting = 0; used = s₁ .used + 1; written = s₁ .written + f .parties + f .parties; released = s₁ .released + 1; rounds = s₁ .rounds + 2 })
-                places l₂ t₂ (set o (s₁ .released) x)
+            -- nothing waits after an output
+            none-waits : 0 ≡ unchecked c (reach c (f .layout .gates - (s .gate + 1)) (s .gate + 1))
+            unfolding unchecked uncheckedAfter
+            none-waits = rw (stop-is, waits-stop c (s .gate) h, add-one (s .gate), class-is cl)
+
+            pub second-passed : Before (lentAll f c preps inputs coefficients) f l₀ t₀ o₀
+                (record { gate = s .gate + 1; prep = s₁ .prep; waiting = 0; used = s₁ .used + 1; written = s₁ .written + f .parties + f .parties; released = s₁ .released + 1; rounds = s₁ .rounds + 2 })
+                places l₁ t₂ (set o (s₁ .released) x)
             second-passed =
-                rw et
-                (record {
-                  within = stop-within c (s .gate) h es;
-                  stands = stop-stands c (s .gate) h es;
-                  waits = inl none-waits;
-                  placed = places-stay _ f l₀ t₀ o₀ able inv h (output-no-in cl) es;
-                  common = λ i q k w. absurd (omega arith);
-                  running =
-                      subst
-                      (λ (y : Point). Running (lentAll f c preps inputs coefficients) f l₀ t₀ o₀
-                      (record { point = y; prep = s₁ .prep; used = s₁ .used + 1; written = s₁ .written + f .parties + f .parties; released = s₁ .released + 1; rounds = s₁ .rounds + 2 }) noneHeld l₂
-                      (writtenAt (s₁ .written + f .parties) (each (f .parties) (shareIn f preps l₁ 1 (s₁ .used) coefficients)) (writtenAt (s₁ .written) (each (f .parties) (λ i. mark)) t₁)) (set o (s₁ .released) x))
-                      (resume-came c (s .gate) h es none-waits)
-                      (second-checked able shown refl ev w el ex);
-                })
+                record {
+                  settles = second-settles;
+                  standing =
+                      rw et
+                      (record {
+                        within = stop-within c (s .gate) h stop-is;
+                        stands = stop-stands c (s .gate) h stop-is;
+                        waits = inl none-waits;
+                        placed = rw stop-is (placed-stop c (s .gate) h (places-stay _ f l₀ t₀ o₀ able inv h (output-no-in cl)));
+                        common = λ i q k w. absurd (omega arith);
+                        running =
+                            subst
+                            (λ (y : Point). Running (lentAll f c preps inputs coefficients) f l₀ t₀ o₀
+                            (record { point = y; prep = s₁ .prep; used = s₁ .used + 1; written = s₁ .written + f .parties + f .parties; released = s₁ .released + 1; rounds = s₁ .rounds + 2 }) noneHeld (settledAll f c preps l₁ (s .gate + 1))
+                            (writtenAt (s₁ .written + f .parties) (each (f .parties) (shareIn f preps l₁ 1 (s₁ .used) coefficients)) (writtenAt (s₁ .written) (each (f .parties) (λ i. mark)) t₁)) (set o (s₁ .released) x))
+                            (resume-came c (s .gate) h stop-is none-waits)
+                            (second-checked able shown refl ev w refl ex);
+                      });
+                }
 
   -- no gate is left
   pub standing-over : {s : Stop} {places l t o : List ℕ} → Standing (lentAll f c preps inputs coefficients) f l₀ t₀ o₀ s places l t o → gates c ≤ s .gate
@@ -212,11 +254,11 @@ module _ {f : Frame} {c preps inputs coefficients l₀ t₀ o₀ : List ℕ} (ab
   first-gate : 0 < gates c
   first-gate = omega (arith, able .lent .valid .two)
 
-  pub standing-start : {places : List ℕ} → Placed (f .parties) c 0 places
+  start-standing : {places : List ℕ} → Placed (f .parties) c 0 places
       → Standing (lentAll f c preps inputs coefficients) f l₀ t₀ o₀
       (record { gate = 0; prep = 1; waiting = 0; used = 0; written = 0; released = 0; rounds = 0 }) places l₀ t₀ o₀
   unfolding unchecked isClass dueIn
-  standing-start k =
+  start-standing k =
       record {
         within = omega arith;
         stands = λ h. ap (isClass Local) (gate-zero (able .lent .valid));
@@ -228,3 +270,8 @@ module _ {f : Frame} {c preps inputs coefficients l₀ t₀ o₀ : List ℕ} (ab
             (courseOf (cameTo c 0 0) (record { gate = 0; prep = 1; waiting = 0; used = 0; written = 0; released = 0; rounds = 0 }))
             (record { point = came-own c 0 0 first-gate (gate-zero (able .lent .valid)) refl; prep = refl; used = refl; written = refl; released = refl; rounds = refl });
       }
+
+  pub standing-start : {places : List ℕ} → Placed (f .parties) c 0 places
+      → Before (lentAll f c preps inputs coefficients) f l₀ t₀ o₀
+      (record { gate = 0; prep = 1; waiting = 0; used = 0; written = 0; released = 0; rounds = 0 }) places l₀ t₀ o₀
+  standing-start k = standing-before (start-standing k) first-gate

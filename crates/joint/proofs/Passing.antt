@@ -21,9 +21,10 @@ use Rattle.protocol.specs.Run.{released}
 use Rattle.protocol.specs.JointEntry as E
 use Rattle.joint.specs.declared.Frame.{Frame}
 use Rattle.joint.specs.declared.Stop.{Stop}
-use Rattle.joint.specs.Code.{Course, courseOf, dueAt, dueIn, cameTo, Placed, stateOf, noneHeld, Moving, Moved, Turned, Kept, Passed, Runnable, Common}
+use Rattle.joint.specs.Code.{Course, courseOf, dueAt, dueIn, cameTo, Placed, stateOf, noneHeld, Moving, Moved, Turned, Kept, Passed, SettlesAll, settledAll, Runnable, Common}
 use Rattle.joint.proofs.Arrays.{counted-other, placed-small, placed-on}
-use Rattle.joint.proofs.Later.{placed-stop}
+use Rattle.joint.proofs.Measures.{gates-are}
+use Rattle.joint.proofs.Later.{same-stop, waits-stop, placed-stop}
 use Rattle.joint.proofs.Stops.{came-own, stop-within, stop-stands, resume-came}
 use Rattle.joint.proofs.Running.{Running, running-moving, running-again}
 
@@ -60,15 +61,44 @@ module _ (J : Joint) (f : Frame) (l₀ t₀ o₀ : List ℕ) where
     pub common : Common f l (s .waiting)
     pub running : Running J f l₀ t₀ o₀ (courseOf (cameTo (J .circuit) (s .gate) (s .waiting)) s) noneHeld l t o
 
+  -- where the linear gates from the gate of s on lead
+  abbrev pub stopOf : Stop → Stop
+  stopOf s =
+      record {
+        gate = reach (J .circuit) (f .layout .gates - s .gate) (s .gate);
+        prep = s .prep;
+        waiting = s .waiting;
+        used = s .used;
+        written = s .written;
+        released = s .released;
+        rounds = s .rounds;
+      }
+
+  -- the run is before linear gates, or none: once these are done, it has come to a gate that has rounds, or to the end
+  pub record Before (s : Stop) (places l t o : List ℕ) : Type 0 where
+    pub settles : SettlesAll f (J .circuit) (J .preps) l (s .gate)
+    pub standing : Standing (stopOf s) places (settledAll f (J .circuit) (J .preps) l (s .gate)) t o
+
+  -- they are done
+  pub stood : {s : Stop} {places l t o : List ℕ} → Before s places l t o
+      → {stop : ℕ} → stop ≡ reach (J .circuit) (f .layout .gates - s .gate) (s .gate)
+      → {l′ : List ℕ} → l′ ≡ settledAll f (J .circuit) (J .preps) l (s .gate)
+      → Standing (record { gate = stop; prep = s .prep; waiting = s .waiting; used = s .used; written = s .written; released = s .released; rounds = s .rounds }) places l′ t o
+  stood inv e d = rw (e, d) (inv .standing)
+
+  module _ (able : Runnable J f l₀ t₀ o₀) where
+    -- the gates of the frame are those of the circuit
+    count-is : f .layout .gates ≡ gates (J .circuit)
+    count-is = gates-are (able .lent .valid) (able .lent .framed)
+
+    -- where the linear gates after gate j lead
+    pub next-stop : (j : ℕ) → reach (J .circuit) (f .layout .gates - (j + 1)) (j + 1) ≡ reach (J .circuit) (gates (J .circuit) - (j + 1)) (j + 1)
+    next-stop j = same-stop (J .circuit) (j + 1) count-is refl
+
   module _ (able : Runnable J f l₀ t₀ o₀) {s : Stop} {places l t o : List ℕ} (inv : Standing s places l t o) (h : s .gate < gates (J .circuit)) where
     -- gates that take no input leave the places of inputs
-    pub places-stay : isClass Owned (shape (gate (J .circuit) (s .gate)) .class) ≡ false → {stop : ℕ}
-        → stop ≡ reach (J .circuit) (gates (J .circuit) - (s .gate + 1)) (s .gate + 1)
-        → Placed (J .parties) (J .circuit) stop places
-    places-stay e es =
-        rw es
-        (placed-stop (J .circuit) (s .gate) h
-        (placed-on (inv .placed) (counted-other (placed-small (inv .placed) (able .lent .valid) (inv .within)) e)))
+    pub places-stay : isClass Owned (shape (gate (J .circuit) (s .gate)) .class) ≡ false → Placed (J .parties) (J .circuit) (s .gate + 1) places
+    places-stay e = placed-on (inv .placed) (counted-other (placed-small (inv .placed) (able .lent .valid) (inv .within)) e)
 
     -- gates whose own round is due
     module _ {k : Class} (cl : shape (gate (J .circuit) (s .gate)) .class ≡ k) (own : dueIn k (s .waiting) ≡ Own) (quiet : isClass Output k ≡ false) where
@@ -82,24 +112,36 @@ module _ (J : Joint) (f : Frame) (l₀ t₀ o₀ : List ℕ) where
       pub own-moving : Moving J f (courseOf (dueAt (s .gate) Own) s) Own noneHeld l t
       own-moving = running-moving J f l₀ t₀ o₀ able own-running Own refl
 
-      -- they lead to the next gate
-      pub own-passed : {s′ : Stop} {places′ l′ t′ : List ℕ}
-          → Moved J f (courseOf (dueAt (s .gate) Own) s) Own noneHeld l t (courseOf (resume (J .circuit) (suc (s .gate))) s′) noneHeld l′ t′
+      -- they lead to the linear gates after the gate
+      pub own-passed : {s′ : Stop} {places′ l₁ t′ : List ℕ}
+          → Moved J f (courseOf (dueAt (s .gate) Own) s) Own noneHeld l t (courseOf (resume (J .circuit) (suc (s .gate))) s′) noneHeld (settledAll f (J .circuit) (J .preps) l₁ (s .gate + 1)) t′
           → Kept s s′
           → Passed (J .circuit) s s′
-          → Placed (J .parties) (J .circuit) (s′ .gate) places′
-          → Common f l′ (s′ .waiting)
-          → Standing s′ places′ l′ t′ o
-      own-passed {s′} {places′} {l′} {t′} d k p q e =
+          → SettlesAll f (J .circuit) (J .preps) l₁ (s .gate + 1)
+          → Placed (J .parties) (J .circuit) (s .gate + 1) places′
+          → Common f (settledAll f (J .circuit) (J .preps) l₁ (s .gate + 1)) (s′ .waiting)
+          → Before s′ places′ l₁ t′ o
+      own-passed {s′} {places′} {l₁} {t′} d k p a q e =
           record {
-            within = stop-within (J .circuit) (s .gate) h (p .gate);
-            stands = stop-stands (J .circuit) (s .gate) h (p .gate);
-            waits = inl (p .waiting);
-            placed = q;
-            common = e;
-            running =
-                subst (λ (x : Point). Running J f l₀ t₀ o₀ (courseOf x s′) noneHeld l′ t′ o)
-                (resume-came (J .circuit) (s .gate) h (p .gate) (p .waiting))
-                (running-again J f l₀ t₀ o₀ able own-running Own refl
-                (turned-quietly J f (courseOf (dueAt (s .gate) Own) s) noneHeld l Own refl d (k .released)));
+            settles = rw (p .gate) a;
+            standing =
+                rw (p .gate)
+                (record {
+                  within = stop-within (J .circuit) (s .gate) h stop-is;
+                  stands = stop-stands (J .circuit) (s .gate) h stop-is;
+                  waits = inl waits-there;
+                  placed = rw stop-is (placed-stop (J .circuit) (s .gate) h q);
+                  common = e;
+                  running =
+                      subst (λ (x : Point). Running J f l₀ t₀ o₀ (courseOf x s′) noneHeld (settledAll f (J .circuit) (J .preps) l₁ (s .gate + 1)) t′ o)
+                      (resume-came (J .circuit) (s .gate) h stop-is waits-there)
+                      (running-again J f l₀ t₀ o₀ able own-running Own refl
+                      (turned-quietly J f (courseOf (dueAt (s .gate) Own) s) noneHeld l Own refl d (k .released)));
+                });
           }
+        where
+          stop-is : reach (J .circuit) (f .layout .gates - (s .gate + 1)) (s .gate + 1) ≡ reach (J .circuit) (gates (J .circuit) - (s .gate + 1)) (s .gate + 1)
+          stop-is = next-stop able (s .gate)
+
+          waits-there : s′ .waiting ≡ unchecked (J .circuit) (reach (J .circuit) (f .layout .gates - (s .gate + 1)) (s .gate + 1))
+          waits-there = rw stop-is (p .waiting ∙ sym (waits-stop (J .circuit) (s .gate) h))

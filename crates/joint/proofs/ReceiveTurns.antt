@@ -26,7 +26,7 @@ use Rattle.protocol.proofs.Readiness.{within-there, input-settles, opening-asks
 use Rattle.protocol.proofs.Received as R
 use Rattle.protocol.specs.Joint.{Joint, joined, band, party}
 use Rattle.joint.specs.declared.Frame.{Frame}
-use Rattle.joint.specs.Code.{Course, siteOf, Lent, prepFrom, keyIn, Prepared, Banded, EachBand, rebanded, receivedIn}
+use Rattle.joint.specs.Code.{Course, siteOf, Lent, prepFrom, keyIn, Prepared, Banded, EachBand, rebanded, receivedIn, SettlesAll}
 use Rattle.protocol.proofs.Words.{length-joined, joined-ext}
 use Rattle.protocol.proofs.Bands.{band-front, band-joined, joined-bands}
 use Rattle.joint.proofs.Cutting.{band-long}
@@ -201,18 +201,10 @@ module _ (f : Frame) (s : Course) (c preps inputs l heard : List ℕ) (t : Lent 
   unfolding party
   stopped-left k e = left-alone (Reveal k) (λ i h. R.stopped-received ops (party J i) (band (f .scratch) l i) (s .point .gate) heard k e)
 
-  -- what settling asks, where m is the scratch of all
-  abbrev SettlesAll : List ℕ → Type 0
-  SettlesAll m =
-      Prepared f preps 0 1
-      × Banded f m
-      × (0 < f .parties)
-      × EachBand f m (λ i k. Settles size c (layoutOf (f .layout)) (keyIn f preps i) k (s .point .gate + 1))
-
   -- a round that leaves each band as F i, and then settles it
   module _ (F : ℕ → List ℕ) (each : (i : ℕ) → i < f .parties → length (F i) ≡ f .scratch) {l₁ : List ℕ} (d : l₁ ≡ rebanded f F l) where
     settling-asked : ((i : ℕ) → i < f .parties → band (f .scratch) l₁ i ≡ F i → Settles size c (layoutOf (f .layout)) (keyIn f preps i) (band (f .scratch) l₁ i) (s .point .gate + 1))
-        → SettlesAll l₁
+        → SettlesAll f c preps l₁ (s .point .gate + 1)
     settling-asked k = (lent-key t, reband-banded banded F each d, some, λ i h. k i h (reband-band banded F each d i h))
 
     settling-made : (r : Round)
@@ -247,7 +239,7 @@ module _ (f : Frame) (s : Course) (c preps inputs l heard : List ℕ) (t : Lent 
         lengths : (i : ℕ) → i < f .parties → length (inputLeft f preps l (s .point .gate) (s .prep) e i) ≡ f .scratch
         lengths = input-each banded preps (s .point .gate) (s .prep) e
 
-        pub inputs-settle : SettlesAll l₁
+        pub inputs-settle : SettlesAll f c preps l₁ (s .point .gate + 1)
         unfolding siteOf party
         inputs-settle =
             settling-asked _ lengths d
@@ -292,7 +284,7 @@ module _ (f : Frame) (s : Course) (c preps inputs l heard : List ℕ) (t : Lent 
         opened-lengths : (i : ℕ) → i < f .parties → length (opened i) ≡ f .scratch
         opened-lengths = opening-each banded preps (s .point .gate) x z (s .prep) k (unchecked c (s .point .gate)) e d
 
-        pub openings-settle : SettlesAll l₁
+        pub openings-settle : SettlesAll f c preps l₁ (s .point .gate + 1)
         unfolding siteOf party
         openings-settle =
             settling-asked opened opened-lengths q
@@ -330,7 +322,7 @@ module _ (f : Frame) (s : Course) (c preps inputs l heard : List ℕ) (t : Lent 
 
   -- the reveal of the second check
   module _ (w : asked (Reveal Second)) where
-    pub reveal-settles : SettlesAll l
+    pub reveal-settles : SettlesAll f c preps l (s .point .gate + 1)
     unfolding siteOf party
     reveal-settles = (
       lent-key t,

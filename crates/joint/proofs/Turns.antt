@@ -20,11 +20,11 @@ use Rattle.circuit.proofs.KindLaws.{class-is, owned-no-out, opens-no-in, opens-
 use Rattle.circuit.proofs.Counts.{unchecked-few}
 use Rattle.circuit.proofs.RoundLaws.{class-at-round}
 use Rattle.protocol.specs.Scratch.{wire}
-use Rattle.protocol.specs.Position.{Point, reach, resume}
+use Rattle.protocol.specs.Position.{Point, resume}
 use Rattle.protocol.specs.Receive.{heardSum}
 use Rattle.protocol.specs.Holding.{Below, Held}
 use Rattle.protocol.specs.Code.{layoutOf}
-use Rattle.protocol.specs.Ready.{Opening, Settles, heardFirst, Named, Hears, Summed}
+use Rattle.protocol.specs.Ready.{Opening, heardFirst, Named, Hears, Summed}
 use Rattle.protocol.specs.Send.{inputWord}
 use Rattle.protocol.specs.Ask.{mostParties}
 use Rattle.protocol.specs.Joint.{Joint, joined, band}
@@ -35,15 +35,14 @@ use Rattle.protocol.proofs.Gathering.{zeros}
 use Rattle.protocol.proofs.HeardWords.{first-asks, first-found, second-found, output-heard}
 use Rattle.protocol.proofs.Readiness.{input-words, opening-words, output-words}
 use Rattle.joint.specs.declared.Frame.{Frame}
-use Rattle.joint.specs.Code.{Course, Small, Placed, dueAt, stateOf, prepFrom, keyIn, Prepared, Banded, EachBand, rebanded, receivedIn, noneHeld, Going, Moving, Moved}
+use Rattle.joint.specs.Code.{Course, Small, Placed, dueAt, stateOf, prepFrom, keyIn, Prepared, Banded, EachBand, rebanded, receivedIn, noneHeld, SettlesAll, settledAll, Going, Moving, Moved}
 use Rattle.joint.proofs.Parties.{undrawn, lent-undrawn, lent-record, lent-key}
-use Rattle.joint.proofs.Measures.{gates-are}
 use Rattle.joint.proofs.Going.{within, occurs}
 use Rattle.joint.proofs.Rows.{all-hear}
 use Rattle.joint.proofs.Arrays.{owner-there, owner-few, counted-in, placed-small, placed-on}
-use Rattle.joint.proofs.Later.{same-stop, waits-stop, placed-stop, resumed-prep}
+use Rattle.joint.proofs.Later.{resumed-prep}
 use Rattle.joint.proofs.SendTurns.{lentAll, held-zero, openedWords, input-asks, said-input, opening-asks, said-opening, output-asks, said-output}
-use Rattle.joint.proofs.ReceiveTurns.{inputLeft, openingLeft, outputLeft, settledLeft, inputs-ask, inputs-settle, inputs-received, openings-ask, openings-settle, openings-received, outputs-ask, outputs-received}
+use Rattle.joint.proofs.ReceiveTurns.{inputLeft, openingLeft, outputLeft, inputs-ask, inputs-settle, inputs-received, openings-ask, openings-settle, openings-received, outputs-ask, outputs-received}
 use Rattle.joint.proofs.Rounding.{sentAt, heardAt, round-gate, said-low, round-end, round-room, heard-is, sent-to, round-long, round-receives, said-long, round-moved}
 
 -- where each party has one word, there are as many as parties
@@ -77,13 +76,12 @@ module _ {f : Frame} {s : Course} {c preps inputs coefficients l t : List ℕ} (
   unfolding prepAt total
   next-record = resumed-prep c (u .going .lent .valid) (s .point .gate) within-gates ∙ omega arith
 
-  pub next-waits : {w k stop : ℕ} → isClass Output (shape (gate c (s .point .gate)) .class) ≡ false
+  pub next-waits : {w k : ℕ} → isClass Output (shape (gate c (s .point .gate)) .class) ≡ false
       → w ≡ unchecked c (s .point .gate)
       → k ≡ shape (gate c (s .point .gate)) .openings
-      → stop ≡ reach c (gates c - (s .point .gate + 1)) (s .point .gate + 1)
-      → w + k ≡ unchecked c stop
+      → w + k ≡ unchecked c (s .point .gate + 1)
   unfolding unchecked uncheckedAfter
-  next-waits shut ew ek es = rw (es, waits-stop c (s .point .gate) within-gates, add-one (s .point .gate), shut, ew, ek)
+  next-waits shut ew ek = rw (add-one (s .point .gate), shut, ew, ek)
 
   -- the record fits the preprocessing, and what waits the scratch
   pub next-fits : s .prep + shape (gate c (s .point .gate)) .prep ≤ f .prep
@@ -92,11 +90,6 @@ module _ {f : Frame} {s : Course} {c preps inputs coefficients l t : List ℕ} (
   pub next-small : (g : S.Shape) → shapeOf g ≡ shape (gate c (s .point .gate)) → s .prep + g .prep ≤ length preps
   next-small g eg =
       omega (arith, shape-prep g _ eg, next-fits, band-end (f .parties) (f .prep) 0 some-parties, lent-key (u .going .lent) .long)
-
-  -- the stop that the code finds is the stop after the gate
-  pub stop-is : {stop : ℕ} → stop ≡ reach c (f .layout .gates - (s .point .gate + 1)) (s .point .gate + 1)
-      → stop ≡ reach c (gates c - (s .point .gate + 1)) (s .point .gate + 1)
-  stop-is = same-stop c (s .point .gate + 1) (gates-are (u .going .lent .valid) (u .going .lent .framed))
 
   module _ {m : ℕ} (m-is : m ≡ f .parties * words (gate c (s .point .gate)) Own) {ws : List ℕ}
       (d : ws ≡ said ops (lentAll f c preps inputs coefficients) (stateOf f s noneHeld l) Own) where
@@ -145,16 +138,13 @@ module _ {f : Frame} {s : Course} {c preps inputs coefficients l t : List ℕ} (
       pub input-few : getD places x 0 ≤ mostGates
       input-few = owner-few small (u .going .lent .valid) (u .going .lent .few) within-gates (class-is cl) ex
 
-      pub input-placed : {stop : ℕ} → stop ≡ reach c (gates c - (s .point .gate + 1)) (s .point .gate + 1)
-          → Placed (f .parties) c stop (set places x (getD places x 0 + 1))
-      input-placed es =
-          rw es
-          (placed-stop c (s .point .gate) within-gates
-          (placed-on placed (counted-in small (u .going .lent .valid) (u .going .lent .few) within-gates (class-is cl) ex)))
+      pub input-placed : Placed (f .parties) c (s .point .gate + 1) (set places x (getD places x 0 + 1))
+      input-placed =
+          placed-on placed (counted-in small (u .going .lent .valid) (u .going .lent .few) within-gates (class-is cl) ex)
 
-      pub input-waits : {w stop : ℕ} → w ≡ unchecked c (s .point .gate) → stop ≡ reach c (gates c - (s .point .gate + 1)) (s .point .gate + 1) → w ≡ unchecked c stop
-      input-waits {w} ew es =
-          let z : w + 0 ≡ _ = next-waits (owned-no-out cl) ew (sym (owned-facts (gate c (s .point .gate)) cl .openings)) es in omega (arith, z)
+      pub input-waits : {w : ℕ} → w ≡ unchecked c (s .point .gate) → w ≡ unchecked c (s .point .gate + 1)
+      input-waits {w} ew =
+          let z : w + 0 ≡ _ = next-waits (owned-no-out cl) ew (sym (owned-facts (gate c (s .point .gate)) cl .openings)) in omega (arith, z)
 
       module _ {ws : List ℕ} (d : ws ≡ joined (f .parties) (λ i. inputWord ops i x (prepFrom f preps (s .prep) i) (getD inputs (getD places i 0) 0) ∷ [])) where
         input-said : ws ≡ said ops (lentAll f c preps inputs coefficients) (stateOf f s noneHeld l) Own
@@ -181,23 +171,20 @@ module _ {f : Frame} {s : Course} {c preps inputs coefficients l t : List ℕ} (
           input-asked = inputs-ask f s c preps inputs l (heardAt s (f .parties) t ws) (lent-undrawn (u .going .lent)) (u .going .room) (round-receives u each-one input-said) cl (heard-first .below)
 
           module _ {l₁ : List ℕ} (el : l₁ ≡ rebanded f (inputLeft f preps l (s .point .gate) (s .prep) e) l) where
-            pub input-settles : Prepared f preps 0 1
-                × Banded f l₁
-                × (0 < f .parties)
-                × EachBand f l₁ (λ i k. Settles size c (layoutOf (f .layout)) (keyIn f preps i) k (s .point .gate + 1))
+            pub input-settles : SettlesAll f c preps l₁ (s .point .gate + 1)
             input-settles = inputs-settle f s c preps inputs l (heardAt s (f .parties) t ws) (lent-undrawn (u .going .lent)) (u .going .room) (round-receives u each-one input-said) cl (heard-first .below) el
 
-            pub input-moved : {l₂ : List ℕ} → l₂ ≡ rebanded f (settledLeft f c preps l₁ (s .point .gate + 1)) l₁ → {s′ : Course}
+            pub input-moved : {s′ : Course}
                 → s′ .point ≡ resume c (suc (s .point .gate))
                 → s′ .prep ≡ s .prep + g .prep
                 → s′ .used ≡ s .used
                 → s′ .written ≡ s .written + f .parties
                 → s′ .rounds ≡ s .rounds + 1
-                → Moved (lentAll f c preps inputs coefficients) f s Own noneHeld l t s′ noneHeld l₂ (sentAt s (f .parties) t ws)
-            input-moved es at ep =
+                → Moved (lentAll f c preps inputs coefficients) f s Own noneHeld l t s′ noneHeld (settledAll f c preps l₁ (s .point .gate + 1)) (sentAt s (f .parties) t ws)
+            input-moved at ep =
                 own-moved each-one input-said
                 (inputs-received f s c preps inputs l (heardAt s (f .parties) t ws) (lent-undrawn (u .going .lent)) (u .going .room) (round-receives u each-one input-said) cl (heard-first .below) el
-                (heard-first .is) es)
+                (heard-first .is) refl)
                 at (ep ∙ ap (λ (k : ℕ). s .prep + k) (shape-prep g _ eg))
 
   -- a gate that opens values
@@ -220,8 +207,8 @@ module _ {f : Frame} {s : Course} {c preps inputs coefficients l t : List ℕ} (
     pub opening-gate : (gateSize * (s .point .gate) + gateSize ≤ length c) × (g .openings ≡ shape (gate c (s .point .gate)) .openings)
     opening-gate = (round-gate u, openings-are)
 
-    pub opening-waits : {stop : ℕ} → stop ≡ reach c (gates c - (s .point .gate + 1)) (s .point .gate + 1) → w + g .openings ≡ unchecked c stop
-    opening-waits es = next-waits (opens-no-out cl) ew openings-are es
+    pub opening-waits : w + g .openings ≡ unchecked c (s .point .gate + 1)
+    opening-waits = next-waits (opens-no-out cl) ew openings-are
 
     module _ {x z : ℕ} (ex : x ≡ gate c (s .point .gate) .first) (ez : z ≡ factor (gate c (s .point .gate))) where
       named : Named (gate c (s .point .gate)) x z (g .openings)
@@ -276,22 +263,19 @@ module _ {f : Frame} {s : Course} {c preps inputs coefficients l t : List ℕ} (
             opened-is : l₁ ≡ rebanded f (openingLeft f preps l (s .point .gate) x z (s .prep) (g .openings) (unchecked c (s .point .gate)) e v) l
             opened-is = subst (λ (k : ℕ). l₁ ≡ rebanded f (openingLeft f preps l (s .point .gate) x z (s .prep) (g .openings) k e v) l) ew el
 
-            pub opening-settled : Prepared f preps 0 1
-                × Banded f l₁
-                × (0 < f .parties)
-                × EachBand f l₁ (λ i k. Settles size c (layoutOf (f .layout)) (keyIn f preps i) k (s .point .gate + 1))
+            pub opening-settled : SettlesAll f c preps l₁ (s .point .gate + 1)
             opening-settled = openings-settle f s c preps inputs l (heardAt s (f .parties * g .openings) t ws) (lent-undrawn (u .going .lent)) (u .going .room) (round-receives u each-words opening-said) cl named summed opened-is
 
-            pub opening-moved : {l₂ : List ℕ} → l₂ ≡ rebanded f (settledLeft f c preps l₁ (s .point .gate + 1)) l₁ → {s′ : Course}
+            pub opening-moved : {s′ : Course}
                 → s′ .point ≡ resume c (suc (s .point .gate))
                 → s′ .prep ≡ s .prep + g .prep
                 → s′ .used ≡ s .used
                 → s′ .written ≡ s .written + f .parties * g .openings
                 → s′ .rounds ≡ s .rounds + 1
-                → Moved (lentAll f c preps inputs coefficients) f s Own noneHeld l t s′ noneHeld l₂ (sentAt s (f .parties * g .openings) t ws)
-            opening-moved es at ep =
+                → Moved (lentAll f c preps inputs coefficients) f s Own noneHeld l t s′ noneHeld (settledAll f c preps l₁ (s .point .gate + 1)) (sentAt s (f .parties * g .openings) t ws)
+            opening-moved at ep =
                 own-moved each-words opening-said
-                (openings-received f s c preps inputs l (heardAt s (f .parties * g .openings) t ws) (lent-undrawn (u .going .lent)) (u .going .room) (round-receives u each-words opening-said) cl named summed opened-is es)
+                (openings-received f s c preps inputs l (heardAt s (f .parties * g .openings) t ws) (lent-undrawn (u .going .lent)) (u .going .room) (round-receives u each-words opening-said) cl named summed opened-is refl)
                 at (ep ∙ ap (λ (k : ℕ). s .prep + k) (shape-prep g _ eg))
 
 -- the opening of an output

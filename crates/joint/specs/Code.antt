@@ -16,12 +16,12 @@ use Rattle.circuit.specs.Round.{First, Round, Own, Open, Commit, isReveal, word
 use Rattle.circuit.specs.Accept.{mostGates}
 use Rattle.circuit.specs.Valid.{Valid}
 use Rattle.protocol.specs.Scratch.{layout, scratchSize, Value, read}
-use Rattle.protocol.specs.Position.{Point, Send, finished, reach}
+use Rattle.protocol.specs.Position.{Point, Send, finished}
 use Rattle.protocol.specs.Send.{checkShare, sent, overwrite}
-use Rattle.protocol.specs.Receive.{passes, received}
+use Rattle.protocol.specs.Receive.{passes, received, settle}
 use Rattle.protocol.specs.Holding.{Below}
 use Rattle.protocol.specs.Code.{layoutOf}
-use Rattle.protocol.specs.Ready.{Ready}
+use Rattle.protocol.specs.Ready.{Ready, Settles}
 use Rattle.protocol.specs.declared.Site.{Site}
 use Rattle.protocol.specs.Entry.{releases}
 use Rattle.protocol.specs.Ask.{fewestParties, mostParties}
@@ -173,6 +173,19 @@ EachBand f l P = (i : ℕ) → i < f .parties → P i (band (f .scratch) l i)
 abbrev pub rebanded : Frame → (ℕ → List ℕ) → List ℕ → List ℕ
 rebanded f F l = joined (f .parties) F ++ drop (f .parties * f .scratch) l
 
+-- what the linear gates from gate a on ask of all parties
+abbrev pub SettlesAll : Frame → List ℕ → List ℕ → List ℕ → ℕ → Type 0
+SettlesAll f c preps l a =
+    Prepared f preps 0 1
+    × Banded f l
+    × (0 < f .parties)
+    × EachBand f l (λ i x. Settles size c (layoutOf (f .layout)) (keyIn f preps i) x a)
+
+-- and what they leave
+abbrev pub settledAll : Frame → List ℕ → List ℕ → List ℕ → ℕ → List ℕ
+settledAll f c preps l a =
+    rebanded f (λ i. settle ops i (keyIn f preps i) c (layoutOf (f .layout)) (f .layout .gates - a) a (band (f .scratch) l i)) l
+
 -- the first u opened values are the same to all parties
 abbrev pub Common : Frame → List ℕ → ℕ → Type 0
 Common f l u =
@@ -256,10 +269,10 @@ pub record Kept (s s′ : Stop) : Type 0 where
   pub used : s′ .used ≡ s .used
   pub released : s′ .released ≡ s .released
 
--- the run has passed the gate of s, and come to that of s′
+-- the run has passed the gate of s; s′ is before the linear gates after it
 pub record Passed (c : List ℕ) (s s′ : Stop) : Type 0 where
-  pub gate : s′ .gate ≡ reach c (gates c - (s .gate + 1)) (s .gate + 1)
-  pub waiting : s′ .waiting ≡ unchecked c (s′ .gate)
+  pub gate : s′ .gate ≡ s .gate + 1
+  pub waiting : s′ .waiting ≡ unchecked c (s .gate + 1)
 
 -- what all questions make sure of
 pub record Runnable (J : Joint) (f : Frame) (l t o : List ℕ) : Type 0 where

@@ -16,7 +16,7 @@ ghost use Rattle.protocol.specs.Holding.{Held, Reads};
 ghost use Rattle.protocol.specs.Code.{layoutOf};
 ghost use Rattle.protocol.specs.Ready.{Opening, Settles};
 ghost use Rattle.protocol.specs.Joint.{band};
-ghost use Rattle.joint.specs.Code.{prepFrom, keyIn, Prepared, Banded, EachBand, rebanded};
+ghost use Rattle.joint.specs.Code.{prepFrom, keyIn, Prepared, Banded, EachBand, rebanded, SettlesAll, settledAll};
 
 // In gate j, whose record stands at number at of each party's preprocessing; e is the owner's word.
 pub fn receive_inputs(f: Frame, j: usize, at: usize, preps: &[Word], scratch: &mut [Word], e: Word)
@@ -222,13 +222,9 @@ fn settle_gate(
 
 // The linear gates from gate from on, up to the stop that they reach, which is returned: each gate is read once, and then done for each party.
 pub fn settle(f: Frame, c: &[Word], from: usize, preps: &[Word], scratch: &mut [Word]) -> usize
-    requires { ⌜ Prepared f (now preps) 0 1
-        × Banded f (now scratch)
-        × (0 < f .parties)
-        × EachBand f (now scratch) (λ i l. Settles size (now c) (layoutOf (f .layout)) (keyIn f (now preps) i) l from) ⌝ }
+    requires { ⌜ SettlesAll f (now c) (now preps) (now scratch) from ⌝ }
     ensures { λ r. ⌜ (r ≡ reach (now (c .entry)) (f .layout .gates - from) from)
-        × (now (scratch .exit)
-        ≡ rebanded f (λ i. settle ops i (keyIn f (now (preps .entry)) i) (now (c .entry)) (layoutOf (f .layout)) (f .layout .gates - from) from (band (f .scratch) (now (scratch .entry)) i)) (now (scratch .entry))) ⌝ }
+        × (now (scratch .exit) ≡ settledAll f (now (c .entry)) (now (preps .entry)) (now (scratch .entry)) from) ⌝ }
 {
     let mut j = from;
     while j < f.layout.gates {

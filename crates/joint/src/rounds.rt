@@ -24,7 +24,7 @@ ghost use Rattle.protocol.specs.Send.{mark};
 ghost use Rattle.protocol.specs.Holding.{Below, Opened};
 ghost use Rattle.protocol.specs.Code.{layoutOf};
 ghost use Rattle.protocol.specs.Ask.{mostParties};
-ghost use Rattle.joint.specs.Code.{jointOf, Placed, courseOf, dueAt, Prepared, Banded, EachBand, Common, shareIn, each, writtenAt, Moving, Moved, noneHeld, Passed, Kept, Runnable, Ran};
+ghost use Rattle.joint.specs.Code.{jointOf, Placed, courseOf, dueAt, Prepared, Banded, EachBand, Common, shareIn, each, writtenAt, Moving, Moved, noneHeld, Passed, Kept, SettlesAll, settledAll, Runnable, Ran};
 
 // The round of an in gate, which has the shape g; each party's next input is at its place.
 fn input_round(
@@ -44,10 +44,11 @@ fn input_round(
         × (shape (gate (now c) (s .gate)) .class ≡ Owned)
         × (s .waiting ≡ unchecked (now c) (s .gate))
         × Placed (f .parties) (now c) (s .gate) (now places) ⌝ }
-    ensures { λ r. ⌜ Moved (jointOf (f .parties) (now (c .entry)) (now (preps .entry)) (now (inputs .entry)) (now (coefficients .entry))) f (courseOf (dueAt (s .gate) Own) s) Own noneHeld (now (scratch .entry)) (now (transcript .entry)) (courseOf (resume (now (c .entry)) (suc (s .gate))) r) noneHeld (now (scratch .exit)) (now (transcript .exit))
+    ensures { λ r. ⌜ Moved (jointOf (f .parties) (now (c .entry)) (now (preps .entry)) (now (inputs .entry)) (now (coefficients .entry))) f (courseOf (dueAt (s .gate) Own) s) Own noneHeld (now (scratch .entry)) (now (transcript .entry)) (courseOf (resume (now (c .entry)) (suc (s .gate))) r) noneHeld (settledAll f (now (c .entry)) (now (preps .entry)) (now (scratch .exit)) (s .gate + 1)) (now (transcript .exit))
         × Kept s r
         × Passed (now (c .entry)) s r
-        × Placed (f .parties) (now (c .entry)) (r .gate) (now (places .exit)) ⌝ }
+        × SettlesAll f (now (c .entry)) (now (preps .entry)) (now (scratch .exit)) (s .gate + 1)
+        × Placed (f .parties) (now (c .entry)) (s .gate + 1) (now (places .exit)) ⌝ }
 {
     let j = s.gate;
     let start = s.written;
@@ -65,10 +66,9 @@ fn input_round(
     let class = g.class;
     let e = steps::receiving::heard_first(f.parties, class, x, g.words, &transcript[start..end]);
     receiving::receive_inputs(f, j, s.prep, preps, scratch, e);
-    let stop = receiving::settle(f, c, j + 1, preps, scratch);
     places[x] += 1;
     Stop {
-        gate: stop,
+        gate: j + 1,
         prep: s.prep + g.prep,
         waiting: s.waiting,
         used: s.used,
@@ -94,9 +94,10 @@ fn opening_round(
         × (shapeOf g ≡ shape (gate (now c) (s .gate)))
         × (shape (gate (now c) (s .gate)) .class ≡ Opens)
         × (s .waiting ≡ unchecked (now c) (s .gate)) ⌝ }
-    ensures { λ r. ⌜ Moved (jointOf (f .parties) (now (c .entry)) (now (preps .entry)) (now (inputs .entry)) (now (coefficients .entry))) f (courseOf (dueAt (s .gate) Own) s) Own noneHeld (now (scratch .entry)) (now (transcript .entry)) (courseOf (resume (now (c .entry)) (suc (s .gate))) r) noneHeld (now (scratch .exit)) (now (transcript .exit))
+    ensures { λ r. ⌜ Moved (jointOf (f .parties) (now (c .entry)) (now (preps .entry)) (now (inputs .entry)) (now (coefficients .entry))) f (courseOf (dueAt (s .gate) Own) s) Own noneHeld (now (scratch .entry)) (now (transcript .entry)) (courseOf (resume (now (c .entry)) (suc (s .gate))) r) noneHeld (settledAll f (now (c .entry)) (now (preps .entry)) (now (scratch .exit)) (s .gate + 1)) (now (transcript .exit))
         × Kept s r
-        × Passed (now (c .entry)) s r ⌝ }
+        × Passed (now (c .entry)) s r
+        × SettlesAll f (now (c .entry)) (now (preps .entry)) (now (scratch .exit)) (s .gate + 1) ⌝ }
 {
     let j = s.gate;
     let k = g.openings;
@@ -127,9 +128,8 @@ fn opening_round(
         sums.first,
         sums.last,
     );
-    let stop = receiving::settle(f, c, j + 1, preps, scratch);
     Stop {
-        gate: stop,
+        gate: j + 1,
         prep: s.prep + g.prep,
         waiting: s.waiting + k,
         used: s.used,
@@ -220,7 +220,8 @@ fn check(
     )
 }
 
-// Gate after gate, until a check stops the run or no gate is left. Each party's next input is at its place.
+// Gate after gate, until a check stops the run or no gate is left. Each party's next input is at its place. The linear gates after a gate belong
+// to its last round, and are done before the next gate that has rounds, at one place for all.
 pub fn run(
     f: Frame,
     places: &mut [usize],
@@ -245,8 +246,13 @@ pub fn run(
         released: 0,
         rounds: 0,
     };
-    while s.gate < f.layout.gates {
-        let j = s.gate;
+    loop {
+        let from = s.gate;
+        let j = receiving::settle(f, c, from, preps, scratch);
+        if f.layout.gates <= j {
+            return JointAnswer::Done(s.rounds);
+        }
+        s.gate = j;
         let g = gates::reading::shape_at(c, j);
         let class = g.class;
         if circuit::shapes::is_in(class) {
@@ -317,9 +323,8 @@ pub fn run(
         let w = f.scratch;
         let at = s.released;
         outputs[at] = steps::scratch::read_slot(&scratch[..w], f.layout, Slot::Value(0));
-        let stop = receiving::settle(f, c, j + 1, preps, scratch);
         let next = Stop {
-            gate: stop,
+            gate: j + 1,
             prep: s.prep,
             waiting: 0,
             used: s.used + 1,
@@ -329,5 +334,4 @@ pub fn run(
         };
         s = next;
     }
-    JointAnswer::Done(s.rounds)
 }

@@ -108,6 +108,20 @@ module _ {q : ℕ} (P : Party) (l : List ℕ) (y : Layout) (at : Site) where
     pub part-low : {m : List ℕ} → m ≡ drop (at .prep) (P .prep) → Below q m
     part-low e = part-below (at .prep) (P .prep) e (k .prep-low)
 
+    -- what linear gates would ask before gate j is done
+    pub settles-here : Settles q (P .circuit) (layoutOf y) (getD (P .prep) 0 0) l (at .gate)
+    unfolding layoutOf
+    settles-here =
+        record {
+          parties = P .parties;
+          valid = k .valid;
+          count = lay-gates (P .circuit) y (k .lay);
+          key-low = k .prep-low 0;
+          room = room-there;
+          upto = omega (arith, within-there);
+          worked = worked-there;
+        }
+
     -- what the linear gates ask once gate j is done
     pub settles : (l′ : List ℕ)
         → length l′ ≡ length l

@@ -180,6 +180,12 @@ settle-keeps {O} F c y i key u (suc left) j l e room w o =
         record { len = r .len ∙ k .len; worked = r .worked; opened = r .opened }
     go false q ih = record { len = refl; worked = w; opened = o }
 
+-- a gate that is not linear is a stop
+pub reach-here : (c : List ℕ) (left j : ℕ) → isLinear (gate c j) ≡ false → reach c left j ≡ j
+unfolding reach
+reach-here c zero j e = refl
+reach-here c (suc left) j e = rw e
+
 -- at the stop nothing is left to do
 pub settle-none : (O : Ops) (c : List ℕ) (y : Layout) (i key left j : ℕ) (l : List ℕ) → reach c left j ≤ j → settle O i key c y left j l ≡ l
 unfolding settle reach
