@@ -27,6 +27,11 @@ module _ {O : Ops} (F : Field O) where
   unfolding sum
   sum-suc n f = refl
 
+  -- A sum of one term is its element.
+  pub sum-one : (f : ℕ → ℕ) → sum O 1 f ≡ norm (f 0)
+  unfolding sum
+  sum-one f = F .add-comm 0 (f 0) ∙ F .add-zero (f 0)
+
   -- A sum is an element.
   pub norm-sum : (n : ℕ) (f : ℕ → ℕ) → norm (sum O n f) ≡ sum O n f
   unfolding sum

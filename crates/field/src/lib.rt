@@ -49,7 +49,7 @@ pub fn fold(x: Sum) -> Sum
 
 // The element that a number below SIZE * SIZE stands for: one fold comes below 2 * SIZE, so that at most one SIZE is taken off,
 // and without a branch.
-fn element(x: Sum) -> Word
+pub fn element(x: Sum) -> Word
     requires { ⌜ x < sumSize ⌝ }
     ensures { λ r. ⌜ Is size (norm x) r ⌝ }
 {
@@ -81,6 +81,14 @@ pub fn reduce(x: Sum) -> Word
     ensures { λ r. ⌜ Is size (norm x) r ⌝ }
 {
     element(fold(x))
+}
+
+// A running sum with an element added.
+pub fn add_element(sum: Sum, x: Word) -> Sum
+    requires { ⌜ (sum < sumRoom) × (x < size) ⌝ }
+    ensures { λ r. ⌜ (r < sum + termSize) × (norm r ≡ add (norm sum) x) ⌝ }
+{
+    sum + (x as u64)
 }
 
 // A running sum of products with x * y added. The product is folded first, and the sum is not, so that nothing of one product waits for

@@ -38,7 +38,7 @@ use Rattle.protocol.specs.Run.{takes, said, step}
 use Rattle.joint.specs.declared.Frame.{Frame}
 use Rattle.joint.specs.Code.{Course, Placed, jointOf, siteOf, stateOf, part, prepFrom, keyIn, Prepared, Banded, EachBand, Going, saidBy, shareIn}
 use Rattle.protocol.specs.Receive.{heardSum}
-use Rattle.protocol.proofs.Summing.{Added}
+use Rattle.protocol.proofs.Summing.{Running}
 use Rattle.protocol.proofs.Words.{joined-ext, heard-sum}
 use Rattle.joint.proofs.Parties.{lent-prepared, lent-key, lent-banded, lent-keyed, lent-record, lent-record-is}
 use Rattle.joint.proofs.Going.{within, occurs}
@@ -56,19 +56,21 @@ pub opened-words : (O : Ops) (y : Layout) (l : List ℕ) (x z : ℕ) (m : List �
 opened-words O y l x z m k some few =
     by-cases (eqb k 2) (λ e. rw e (omega (arith, eqb-true k 2 e))) (λ e. rw e (omega (arith, eqb-false k 2 e)))
 
--- word t of each of i parties is added up; where these are all, it is what is heard of the words of all
+-- word t of each of i parties is added up in a running sum; where these are all, its element is what is heard of the words of all
 module _ (n k t : ℕ) (F : ℕ → List ℕ) (each : (i : ℕ) → i < n → length (F i) ≡ k) (within : t < k) where
-  pub words-heard : {out : List ℕ} → out ≡ joined n F → {i e : ℕ} → i ≤ n → n ≤ i → Added ops (λ z. getD (F z) t 0) i e
+  pub words-heard : {out : List ℕ} → out ≡ joined n F → {most i acc e : ℕ} → i ≤ n → n ≤ i → Running ops most (λ z. getD (F z) t 0) i acc
+      → Is size (ops .norm acc) e
       → Is size (heardSum ops n k t out) e
-  words-heard d {i} upto done a =
+  words-heard d {i = i} upto done a ee =
       let q : i ≡ n = omega arith in
       record {
         is =
-          a .is
+          ee .is
+          ∙ a .added .is
           ∙ ap (λ (m : ℕ). sum ops m (λ z. getD (F z) t 0)) q
           ∙ sym (heard-sum laws n k t F each within)
           ∙ ap (heardSum ops n k t) (sym d);
-        below = a .below;
+        below = ee .below;
       }
 
 -- an input matters to its owner only
@@ -183,6 +185,7 @@ module _ {f : Frame} {s : Course} {c preps inputs coefficients held l : List ℕ
           × Banded f l
           × EachBand f l (λ i m. Held size (layoutOf (f .layout)) m x × Held size (layoutOf (f .layout)) m z)
           × (length out ≡ f .parties * k)
+          × (f .parties ≤ mostParties)
       unfolding siteOf party
       opening-asks out e =
           let o = opens-facts (gate c (s .point .gate)) cl in (
@@ -192,6 +195,7 @@ module _ {f : Frame} {s : Course} {c preps inputs coefficients held l : List ℕ
             lent-banded (g .lent) (g .room),
             λ i h. rw (n .first, n .second) (opening-held (party (lentAll f c preps inputs coefficients) i) (band (f .scratch) l i) (f .layout) (siteOf c s i) (g .ready i h) cl),
             e ∙ ap (λ (m : ℕ). f .parties * m) (opening-words (gate c (s .point .gate)) cl ∙ sym (n .openings)),
+            g .lent .few,
           )
 
       pub said-opening : {out : List ℕ} → out ≡ joined (f .parties) (openedWords f preps l (s .prep) x z k) → out ≡ said ops (lentAll f c preps inputs coefficients) (stateOf f s held l) Own

@@ -220,6 +220,7 @@ module _ {f : Frame} {s : Course} {c preps inputs coefficients l t : List ℕ} (
           × Banded f l
           × EachBand f l (λ i m. Held size (layoutOf (f .layout)) m x × Held size (layoutOf (f .layout)) m z)
           × (length (take (s .written + f .parties * g .openings - s .written) (drop (s .written) t)) ≡ f .parties * g .openings)
+          × (f .parties ≤ mostParties)
       opening-sends = opening-asks (u .going) cl named (take (s .written + f .parties * g .openings - s .written) (drop (s .written) t)) (round-room u each-words)
 
       module _ {ws : List ℕ} (d : ws ≡ joined (f .parties) (openedWords f preps l (s .prep) x z (g .openings))) where

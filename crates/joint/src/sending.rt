@@ -1,6 +1,7 @@
 // What all parties send: a loop for each sort of word, in which each party gets its own part of the joined lists. Nothing is
 // asked here: what is needed is what the entry has asked.
 use crate::Frame;
+use field::Sum;
 use field::Word;
 use steps::Ends;
 ghost use mathlib.Core.Path.{_≡_};
@@ -63,14 +64,15 @@ pub fn opening_words(
         × Prepared f (now preps) at (2 * k + 2)
         × Banded f (now scratch)
         × EachBand f (now scratch) (λ i l. Held size (layoutOf (f .layout)) l x × Held size (layoutOf (f .layout)) l z)
-        × (length (now out) ≡ f .parties * k) ⌝ }
+        × (length (now out) ≡ f .parties * k)
+        × (f .parties ≤ mostParties) ⌝ }
     ensures out { λ r. ⌜ now (out .exit)
         ≡ joined (f .parties) (λ i. openingWords ops (layoutOf (f .layout)) (band (f .scratch) (now (scratch .entry)) i) x z (prepFrom f (now (preps .entry)) at i) k) ⌝ }
     ensures sums { λ r. ⌜ Is size (heardSum ops (f .parties) k 0 (now (out .exit))) (r .first)
         × Is size (heardSum ops (f .parties) k (k - 1) (now (out .exit))) (r .last) ⌝ }
 {
-    let mut first_sum: Word = 0;
-    let mut last_sum: Word = 0;
+    let mut first_sum: Sum = 0;
+    let mut last_sum: Sum = 0;
     let mut a = 0;
     let mut i = 0;
     while i < f.parties {
@@ -88,14 +90,14 @@ pub fn opening_words(
             k,
             &mut out[a..b],
         );
-        first_sum = field::add(first_sum, ends.first);
-        last_sum = field::add(last_sum, ends.last);
+        first_sum = field::add_element(first_sum, ends.first);
+        last_sum = field::add_element(last_sum, ends.last);
         a = b;
         i += 1;
     }
     Ends {
-        first: first_sum,
-        last: last_sum,
+        first: field::element(first_sum),
+        last: field::element(last_sum),
     }
 }
 

@@ -38,6 +38,9 @@ pub record Running (O : Ops) (most : ℕ) (f : ℕ → ℕ) (i acc : ℕ) : Type
   pub below : acc < most
 
 module _ {O : Ops} (F : Field O) {most : ℕ} (f : ℕ → ℕ) where
+  pub running-start : 0 < most → Running O most f 0 0
+  running-start h = record { added = rw (F .norm-of-lt {x = 0} (omega (arith, F .one-lt))) (added-start F f); below = h }
+
   pub running-from : {i acc : ℕ} → O .norm acc ≡ sum O i f → acc < most → Running O most f i acc
   running-from {i} {acc} e h = record { added = record { is = e; below = F .norm-lt acc }; below = h }
 

@@ -107,6 +107,9 @@ fn weigh(l: &[Word], at: usize, k: usize, coefficients: &[Word]) -> Word
         × ((t : ℕ) → t < k → getD (now l) (at + t) 0 < size) ⌝ }
     ensures { λ r. ⌜ Is size (weighed (now (l .entry)) at (now (coefficients .entry)) k) r ⌝ }
 {
+    if k == 1 {
+        return field::mul(coefficients[0], l[at]);
+    }
     let mut acc: Sum = 0;
     let mut t = 0;
     while t < k {

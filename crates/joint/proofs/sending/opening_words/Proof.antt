@@ -1,12 +1,12 @@
 -- `joint::sending::opening_words` meets its contract. The loop's invariant: the parties before i have their words in out, and the rest is as it was; their first and last words are added up. The measure is the number of parties left.
 -- Assumes nothing.
-use Prim.Native.Nat.{ℕ, _-_, _<_}
+use Prim.Native.Nat.{ℕ, _+_, _-_, _*_, _<_}
 use native.Mathlib.Omega.{arith}
 use lib.ListN.{getD}
 use denote.Ref.{now}
-use Rattle.field.specs.Words.{ops}
+use Rattle.field.specs.Words.{ops, termSize}
 use Rattle.field.proofs.Laws.{laws}
-use Rattle.protocol.proofs.Summing.{Added, added-start, added-more}
+use Rattle.protocol.proofs.Summing.{Running, running-start, running-more}
 use Rattle.protocol.proofs.Filling.{Filled, filled-start, filled-length, filled-fits, filled-again}
 use Rattle.protocol.proofs.Gathering.{put-room, part-room, part-put, put-done}
 use Rattle.joint.proofs.Cutting.{prep-end, cut-is, cut-long, cut-low, band-fits, band-is, band-room}
@@ -18,14 +18,14 @@ use Rattle.joint.proofs.sending.opening_words.Tie as tie
 abbrev Inv-loop : tie.InvT-loop
 Inv-loop f at x z k preps scratch out₀ first-sum₀ last-sum₀ a₀ i₀ out first-sum last-sum a i =
     Filled (f .parties) k (openedWords f preps scratch at x z k) out₀ out i a
-    × Added ops (λ t. getD (openedWords f preps scratch at x z k t) 0 0) i first-sum
-    × Added ops (λ t. getD (openedWords f preps scratch at x z k t) (k - 1) 0) i last-sum
+    × Running ops (1 + i * termSize) (λ t. getD (openedWords f preps scratch at x z k t) 0 0) i first-sum
+    × Running ops (1 + i * termSize) (λ t. getD (openedWords f preps scratch at x z k t) (k - 1) 0) i last-sum
 
 abbrev μ-loop : tie.MeasureT-loop
 μ-loop f at x z k preps scratch out₀ first-sum₀ last-sum₀ a₀ i₀ out first-sum last-sum a i = f .parties - i
 
 loop-holds : tie.Need-loop-holds Inv-loop μ-loop
-loop-holds c = (filled-start _ _ _ _, added-start laws _, added-start laws _)
+loop-holds c = (filled-start _ _ _ _, running-start laws _ (omega arith), running-start laws _ (omega arith))
 
 add-b : tie.Need-add-b Inv-loop μ-loop
 add-b c = omega (arith, c .before .before .before .before .before .before .good, filled-fits _ _ _ _ (put-room (c .before .before .before .before .before .before .args .f .parties) (c .before .before .before .before .before .before .args .k) (now (c .before .before .before .before .before .before .args .out)) (c .before .before .before .before .before .before .pre .5)) (λ m h. opened-words ops _ _ _ _ _ _ (c .before .before .before .before .before .before .pre .0) (c .before .before .before .before .before .before .pre .1)) (c .before .before .loop .inv .0) (c .if1 .taken), filled-length _ _ _ _ (put-room (c .before .before .before .before .before .before .args .f .parties) (c .before .before .before .before .before .before .args .k) (now (c .before .before .before .before .before .before .args .out)) (c .before .before .before .before .before .before .pre .5)) (λ m h. opened-words ops _ _ _ _ _ _ (c .before .before .before .before .before .before .pre .0) (c .before .before .before .before .before .before .pre .1)) (c .before .before .loop .inv .0))
@@ -75,11 +75,11 @@ part-opening-words-end-3 c = filled-fits _ _ _ _ (put-room (c .before .before .b
 opening-words-requires : tie.Need-opening-words-requires Inv-loop μ-loop
 opening-words-requires c κs = rw (band-is (c .before .before .before .before .before .before .before .before .before .before .before .before .before .before .pre .3) (c .before .before .before .before .before .before .before .before .before .before .loop .i) (c .before .before .before .before .before .before .before .before .if1 .taken), cut-is (c .before .before .before .before .before .before .before .before .before .before .before .before .before .before .pre .2) (c .before .before .before .before .before .before .before .before .before .before .loop .i) (c .before .before .before .before .before .before .before .before .if1 .taken)) (band-room (c .before .before .before .before .before .before .before .before .before .before .before .before .before .before .pre .3) (c .before .before .before .before .before .before .before .before .before .before .loop .i) (c .before .before .before .before .before .before .before .before .if1 .taken), c .before .before .before .before .before .before .before .before .before .before .before .before .before .before .pre .4 (c .before .before .before .before .before .before .before .before .before .before .loop .i) (c .before .before .before .before .before .before .before .before .if1 .taken) .0, c .before .before .before .before .before .before .before .before .before .before .before .before .before .before .pre .4 (c .before .before .before .before .before .before .before .before .before .before .loop .i) (c .before .before .before .before .before .before .before .before .if1 .taken) .1, c .before .before .before .before .before .before .before .before .before .before .before .before .before .before .pre .0, c .before .before .before .before .before .before .before .before .before .before .before .before .before .before .pre .1, omega (arith, cut-long (c .before .before .before .before .before .before .before .before .before .before .before .before .before .before .pre .2) (c .before .before .before .before .before .before .before .before .before .before .loop .i) (c .before .before .before .before .before .before .before .before .if1 .taken)), cut-low (c .before .before .before .before .before .before .before .before .before .before .before .before .before .before .pre .2) (c .before .before .before .before .before .before .before .before .before .before .loop .i) (c .before .before .before .before .before .before .before .before .if1 .taken), part-room _ _ _ (filled-fits _ _ _ _ (put-room (c .before .before .before .before .before .before .before .before .before .before .before .before .before .before .args .f .parties) (c .before .before .before .before .before .before .before .before .before .before .before .before .before .before .args .k) (now (c .before .before .before .before .before .before .before .before .before .before .before .before .before .before .args .out)) (c .before .before .before .before .before .before .before .before .before .before .before .before .before .before .pre .5)) (λ m h. opened-words ops _ _ _ _ _ _ (c .before .before .before .before .before .before .before .before .before .before .before .before .before .before .pre .0) (c .before .before .before .before .before .before .before .before .before .before .before .before .before .before .pre .1)) (c .before .before .before .before .before .before .before .before .before .before .loop .inv .0) (c .before .before .before .before .before .before .before .before .if1 .taken)))
 
-add-requires : tie.Need-add-requires Inv-loop μ-loop
-add-requires c κs = (c .before .before .before .before .before .before .before .before .before .before .before .before .before .loop .inv .1 .below, c .before .before .opening-words .ensures .1 .first .below)
+add-element-requires : tie.Need-add-element-requires Inv-loop μ-loop
+add-element-requires c κs = (omega (arith, c .before .before .before .before .before .before .before .before .before .before .before .before .before .loop .inv .1 .below, c .before .before .before .before .before .before .before .before .before .before .before .if1 .taken, c .before .before .before .before .before .before .before .before .before .before .before .before .before .before .before .before .before .pre .6), c .before .before .opening-words .ensures .1 .first .below)
 
-add-requires-2 : tie.Need-add-requires-2 Inv-loop μ-loop
-add-requires-2 c κs = (c .before .before .before .before .before .before .before .before .before .before .before .before .before .before .loop .inv .2 .below, c .before .before .before .opening-words .ensures .1 .last .below)
+add-element-requires-2 : tie.Need-add-element-requires-2 Inv-loop μ-loop
+add-element-requires-2 c κs = (omega (arith, c .before .before .before .before .before .before .before .before .before .before .before .before .before .before .loop .inv .2 .below, c .before .before .before .before .before .before .before .before .before .before .before .before .if1 .taken, c .before .before .before .before .before .before .before .before .before .before .before .before .before .before .before .before .before .before .pre .6), c .before .before .before .opening-words .ensures .1 .last .below)
 
 add-i : tie.Need-add-i Inv-loop μ-loop
 add-i c = omega (arith, c .before .before .before .before .before .before .before .before .before .before .before .before .before .if1 .taken, c .before .before .before .before .before .before .before .before .before .before .before .before .before .before .before .before .before .before .before .good, c .before .before .before .before .before .before .before .before .before .before .before .before .before .before .before .before .before .before .before .pre .5, c .before .before .before .before .before .before .before .before .before .before .before .before .before .before .before .before .before .before .before .pre .0, c .before .before .before .before .before .before .before .before .before .before .before .before .before .before .before .before .before .before .before .pre .3 .room, filled-fits _ _ _ _ (put-room (c .before .before .before .before .before .before .before .before .before .before .before .before .before .before .before .before .before .before .before .args .f .parties) (c .before .before .before .before .before .before .before .before .before .before .before .before .before .before .before .before .before .before .before .args .k) (now (c .before .before .before .before .before .before .before .before .before .before .before .before .before .before .before .before .before .before .before .args .out)) (c .before .before .before .before .before .before .before .before .before .before .before .before .before .before .before .before .before .before .before .pre .5)) (λ m h. opened-words ops _ _ _ _ _ _ (c .before .before .before .before .before .before .before .before .before .before .before .before .before .before .before .before .before .before .before .pre .0) (c .before .before .before .before .before .before .before .before .before .before .before .before .before .before .before .before .before .before .before .pre .1)) (c .before .before .before .before .before .before .before .before .before .before .before .before .before .before .before .loop .inv .0) (c .before .before .before .before .before .before .before .before .before .before .before .before .before .if1 .taken), filled-length _ _ _ _ (put-room (c .before .before .before .before .before .before .before .before .before .before .before .before .before .before .before .before .before .before .before .args .f .parties) (c .before .before .before .before .before .before .before .before .before .before .before .before .before .before .before .before .before .before .before .args .k) (now (c .before .before .before .before .before .before .before .before .before .before .before .before .before .before .before .before .before .before .before .args .out)) (c .before .before .before .before .before .before .before .before .before .before .before .before .before .before .before .before .before .before .before .pre .5)) (λ m h. opened-words ops _ _ _ _ _ _ (c .before .before .before .before .before .before .before .before .before .before .before .before .before .before .before .before .before .before .before .pre .0) (c .before .before .before .before .before .before .before .before .before .before .before .before .before .before .before .before .before .before .before .pre .1)) (c .before .before .before .before .before .before .before .before .before .before .before .before .before .before .before .loop .inv .0), band-fits (c .before .before .before .before .before .before .before .before .before .before .before .before .before .before .before .before .before .before .before .pre .3) (c .before .before .before .before .before .before .before .before .before .before .before .before .before .before .before .loop .i) (c .before .before .before .before .before .before .before .before .before .before .before .before .before .if1 .taken))
@@ -91,24 +91,30 @@ loop-again : tie.Need-loop-again Inv-loop μ-loop
 loop-again c =
     let ends : AreEnds (openedWords (c .before .before .before .before .before .before .before .before .before .before .before .before .before .before .before .before .before .before .before .args .f) (now (c .before .before .before .before .before .before .before .before .before .before .before .before .before .before .before .before .before .before .before .args .preps)) (now (c .before .before .before .before .before .before .before .before .before .before .before .before .before .before .before .before .before .before .before .args .scratch)) (c .before .before .before .before .before .before .before .before .before .before .before .before .before .before .before .before .before .before .before .args .at) (c .before .before .before .before .before .before .before .before .before .before .before .before .before .before .before .before .before .before .before .args .x) (c .before .before .before .before .before .before .before .before .before .before .before .before .before .before .before .before .before .before .before .args .z) (c .before .before .before .before .before .before .before .before .before .before .before .before .before .before .before .before .before .before .before .args .k) (c .before .before .before .before .before .before .before .before .before .before .before .before .before .before .before .loop .i)) (c .before .before .before .before .before .before .before .before .before .before .before .before .before .before .before .before .before .before .before .args .k) (c .before .before .before .before .opening-words .result) = rw (band-is (c .before .before .before .before .before .before .before .before .before .before .before .before .before .before .before .before .before .before .before .pre .3) (c .before .before .before .before .before .before .before .before .before .before .before .before .before .before .before .loop .i) (c .before .before .before .before .before .before .before .before .before .before .before .before .before .if1 .taken), cut-is (c .before .before .before .before .before .before .before .before .before .before .before .before .before .before .before .before .before .before .before .pre .2) (c .before .before .before .before .before .before .before .before .before .before .before .before .before .before .before .loop .i) (c .before .before .before .before .before .before .before .before .before .before .before .before .before .if1 .taken)) at (c .before .before .before .before .opening-words .ensures .1) in
     (filled-again _ _ _ _ (put-room (c .before .before .before .before .before .before .before .before .before .before .before .before .before .before .before .before .before .before .before .args .f .parties) (c .before .before .before .before .before .before .before .before .before .before .before .before .before .before .before .before .before .before .before .args .k) (now (c .before .before .before .before .before .before .before .before .before .before .before .before .before .before .before .before .before .before .before .args .out)) (c .before .before .before .before .before .before .before .before .before .before .before .before .before .before .before .before .before .before .before .pre .5)) (λ m h. opened-words ops _ _ _ _ _ _ (c .before .before .before .before .before .before .before .before .before .before .before .before .before .before .before .before .before .before .before .pre .0) (c .before .before .before .before .before .before .before .before .before .before .before .before .before .before .before .before .before .before .before .pre .1)) (c .before .before .before .before .before .before .before .before .before .before .before .before .before .before .before .loop .inv .0) (c .before .before .before .before .before .before .before .before .before .before .before .before .before .if1 .taken) (part-put _ _ _ (filled-fits _ _ _ _ (put-room (c .before .before .before .before .before .before .before .before .before .before .before .before .before .before .before .before .before .before .before .args .f .parties) (c .before .before .before .before .before .before .before .before .before .before .before .before .before .before .before .before .before .before .before .args .k) (now (c .before .before .before .before .before .before .before .before .before .before .before .before .before .before .before .before .before .before .before .args .out)) (c .before .before .before .before .before .before .before .before .before .before .before .before .before .before .before .before .before .before .before .pre .5)) (λ m h. opened-words ops _ _ _ _ _ _ (c .before .before .before .before .before .before .before .before .before .before .before .before .before .before .before .before .before .before .before .pre .0) (c .before .before .before .before .before .before .before .before .before .before .before .before .before .before .before .before .before .before .before .pre .1)) (c .before .before .before .before .before .before .before .before .before .before .before .before .before .before .before .loop .inv .0) (c .before .before .before .before .before .before .before .before .before .before .before .before .before .if1 .taken)) (opened-words ops _ _ _ _ _ _ (c .before .before .before .before .before .before .before .before .before .before .before .before .before .before .before .before .before .before .before .pre .0) (c .before .before .before .before .before .before .before .before .before .before .before .before .before .before .before .before .before .before .before .pre .1)) (rw (band-is (c .before .before .before .before .before .before .before .before .before .before .before .before .before .before .before .before .before .before .before .pre .3) (c .before .before .before .before .before .before .before .before .before .before .before .before .before .before .before .loop .i) (c .before .before .before .before .before .before .before .before .before .before .before .before .before .if1 .taken), cut-is (c .before .before .before .before .before .before .before .before .before .before .before .before .before .before .before .before .before .before .before .pre .2) (c .before .before .before .before .before .before .before .before .before .before .before .before .before .before .before .loop .i) (c .before .before .before .before .before .before .before .before .before .before .before .before .before .if1 .taken)) at (c .before .before .before .before .opening-words .ensures .0))),
-      added-more laws _ _ _ (c .before .before .before .before .before .before .before .before .before .before .before .before .before .before .before .loop .inv .1) (ends .first .is) (c .before .add .ensures .is),
-      added-more laws _ _ _ (c .before .before .before .before .before .before .before .before .before .before .before .before .before .before .before .loop .inv .2) (ends .last .is) (c .add2 .ensures .is))
+      running-more laws _ _ _ (c .before .before .before .before .before .before .before .before .before .before .before .before .before .before .before .loop .inv .1) (ends .first .is) (omega (arith, c .before .before .before .before .before .before .before .before .before .before .before .before .before .before .before .loop .inv .1 .below, c .before .add-element .ensures .0), c .before .add-element .ensures .1),
+      running-more laws _ _ _ (c .before .before .before .before .before .before .before .before .before .before .before .before .before .before .before .loop .inv .2) (ends .last .is) (omega (arith, c .before .before .before .before .before .before .before .before .before .before .before .before .before .before .before .loop .inv .2 .below, c .add-element2 .ensures .0), c .add-element2 .ensures .1))
+
+element-requires : tie.Need-element-requires Inv-loop μ-loop
+element-requires c κs = omega (arith, c .before .before .loop .inv .1 .below, c .before .before .loop .inv .0 .upto, c .before .before .before .before .before .before .pre .6)
+
+element-requires-2 : tie.Need-element-requires-2 Inv-loop μ-loop
+element-requires-2 c κs = omega (arith, c .before .before .before .loop .inv .2 .below, c .before .before .before .loop .inv .0 .upto, c .before .before .before .before .before .before .before .pre .6)
 
 same-length : tie.Need-same-length Inv-loop μ-loop
-same-length c = filled-length _ _ _ _ (put-room (c .before .before .before .before .before .before .args .f .parties) (c .before .before .before .before .before .before .args .k) (now (c .before .before .before .before .before .before .args .out)) (c .before .before .before .before .before .before .pre .5)) (λ m h. opened-words ops _ _ _ _ _ _ (c .before .before .before .before .before .before .pre .0) (c .before .before .before .before .before .before .pre .1)) (c .before .before .loop .inv .0)
+same-length c = filled-length _ _ _ _ (put-room (c .before .before .before .before .before .before .before .before .args .f .parties) (c .before .before .before .before .before .before .before .before .args .k) (now (c .before .before .before .before .before .before .before .before .args .out)) (c .before .before .before .before .before .before .before .before .pre .5)) (λ m h. opened-words ops _ _ _ _ _ _ (c .before .before .before .before .before .before .before .before .pre .0) (c .before .before .before .before .before .before .before .before .pre .1)) (c .before .before .before .before .loop .inv .0)
 
 returns : tie.Need-returns Inv-loop μ-loop
 returns c =
-    let each : (i : ℕ) → i < c .before .before .before .before .before .before .args .f .parties → _ = λ i h. opened-words ops _ _ _ _ _ _ (c .before .before .before .before .before .before .pre .0) (c .before .before .before .before .before .before .pre .1) in
-    let d = put-done _ _ _ (c .before .before .before .before .before .before .pre .5) (λ m h. opened-words ops _ _ _ _ _ _ (c .before .before .before .before .before .before .pre .0) (c .before .before .before .before .before .before .pre .1)) (c .before .before .loop .inv .0) (c .if1 .left) in
+    let each : (i : ℕ) → i < c .before .before .before .before .before .before .before .before .args .f .parties → _ = λ i h. opened-words ops _ _ _ _ _ _ (c .before .before .before .before .before .before .before .before .pre .0) (c .before .before .before .before .before .before .before .before .pre .1) in
+    let d = put-done _ _ _ (c .before .before .before .before .before .before .before .before .pre .5) (λ m h. opened-words ops _ _ _ _ _ _ (c .before .before .before .before .before .before .before .before .pre .0) (c .before .before .before .before .before .before .before .before .pre .1)) (c .before .before .before .before .loop .inv .0) (c .before .before .if1 .left) in
     (d,
-      (words-heard _ _ _ _ each (omega (arith, c .before .before .before .before .before .before .pre .0)) d (c .before .before .loop .inv .0 .upto) (c .if1 .left) (c .before .before .loop .inv .1),
-        words-heard _ _ _ _ each (omega (arith, c .before .before .before .before .before .before .pre .0)) d (c .before .before .loop .inv .0 .upto) (c .if1 .left) (c .before .before .loop .inv .2)))
+      (words-heard _ _ _ _ each (omega (arith, c .before .before .before .before .before .before .before .before .pre .0)) d (c .before .before .before .before .loop .inv .0 .upto) (c .before .before .if1 .left) (c .before .before .before .before .loop .inv .1) (c .before .element .ensures),
+        words-heard _ _ _ _ each (omega (arith, c .before .before .before .before .before .before .before .before .pre .0)) d (c .before .before .before .before .loop .inv .0 .upto) (c .before .before .if1 .left) (c .before .before .before .before .loop .inv .2) (c .element2 .ensures)))
 
 pub opening-words-spec : {M : Type 1} → statement M
 opening-words-spec =
     tie.close
     (tie.spec Inv-loop μ-loop loop-holds add-b mul-first add-first mul-last add-last mul-start add-end mul-opening-words (λ c. omega arith)
     (λ c. omega arith) part-opening-words-end mul-opening-words-2 sub-opening-words-2 part-opening-words-start-2 part-opening-words-end-2
-    mul-opening-words-3 (λ c. omega arith) (λ c. omega arith) part-opening-words-end-3 opening-words-requires add-requires add-requires-2 add-i loop-less loop-again
-    same-length returns)
+    mul-opening-words-3 (λ c. omega arith) (λ c. omega arith) part-opening-words-end-3 opening-words-requires add-element-requires add-element-requires-2 add-i
+    loop-less loop-again element-requires element-requires-2 same-length returns)
