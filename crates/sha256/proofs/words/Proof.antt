@@ -1,0 +1,103 @@
+-- `sha256::words` meets its contract: the loop writes the words one after the other.
+-- Assumes nothing.
+use borrow.Author.Needs.{needs}
+use native.Mathlib.Omega.{arith}
+use Prim.Native.Nat.{_-_}
+use Rattle.sha256.specs.Sha256.{wordsOf}
+use Rattle.sha256.proofs.Written.{Written, written-long}
+use Rattle.sha256.proofs.Bytes.{words-start, words-again, words-done}
+use Rattle.sha256.proofs.words.Statement.{statement}
+use Rattle.sha256.proofs.words.Tie as tie
+
+abbrev Inv-loop : tie.InvT-loop
+Inv-loop bytes out₀ i₀ out i = Written (wordsOf bytes) out₀ out i
+
+abbrev μ-loop : tie.MeasureT-loop
+μ-loop bytes out₀ i₀ out i = 8 - i
+
+loop-holds : tie.Need-loop-holds Inv-loop μ-loop
+loop-holds c = words-start _ (c .before .before .pre .0) _ (c .before .before .pre .1)
+
+mul-word : tie.Need-mul-word Inv-loop μ-loop
+mul-word c = search needs
+
+shared-slice-read-word : tie.Need-shared-slice-read-word Inv-loop μ-loop
+shared-slice-read-word c = search needs
+
+mul-word-2 : tie.Need-mul-word-2 Inv-loop μ-loop
+mul-word-2 c = search needs
+
+add-word : tie.Need-add-word Inv-loop μ-loop
+add-word c = search needs
+
+shared-slice-read-word-2 : tie.Need-shared-slice-read-word-2 Inv-loop μ-loop
+shared-slice-read-word-2 c = search needs
+
+mul-word-3 : tie.Need-mul-word-3 Inv-loop μ-loop
+mul-word-3 c = search needs
+
+add-word-2 : tie.Need-add-word-2 Inv-loop μ-loop
+add-word-2 c = search needs
+
+shared-slice-read-word-3 : tie.Need-shared-slice-read-word-3 Inv-loop μ-loop
+shared-slice-read-word-3 c = search needs
+
+mul-word-4 : tie.Need-mul-word-4 Inv-loop μ-loop
+mul-word-4 c = search needs
+
+add-word-3 : tie.Need-add-word-3 Inv-loop μ-loop
+add-word-3 c = search needs
+
+shared-slice-read-word-4 : tie.Need-shared-slice-read-word-4 Inv-loop μ-loop
+shared-slice-read-word-4 c = search needs
+
+word-requires : tie.Need-word-requires Inv-loop μ-loop
+word-requires c κs = search needs
+
+mul-out : tie.Need-mul-out Inv-loop μ-loop
+mul-out c = search needs
+
+slice-write-out : tie.Need-slice-write-out Inv-loop μ-loop
+slice-write-out c = omega (arith, written-long (c .before .before .before .before .before .before .loop .inv), c .before .before .before .before .before .before .before .before .before .pre .1)
+
+add-i : tie.Need-add-i Inv-loop μ-loop
+add-i c = search needs
+
+loop-less : tie.Need-loop-less Inv-loop μ-loop
+loop-less c = search needs
+
+loop-again : tie.Need-loop-again Inv-loop μ-loop
+loop-again c = words-again _ (c .before .before .before .before .before .before .before .before .before .pre .0) (search needs) (c .word .ensures) (c .before .before .before .before .before .before .loop .inv)
+
+same-length : tie.Need-same-length Inv-loop μ-loop
+same-length c = written-long (c .before .loop .inv)
+
+returns : tie.Need-returns Inv-loop μ-loop
+returns c = words-done _ (c .before .before .before .before .pre .0) (search needs) (c .before .loop .inv)
+
+pub words-spec : {M : Type 1} → statement M
+words-spec =
+    tie.close
+    (tie.spec
+    Inv-loop
+    μ-loop
+    loop-holds
+    mul-word
+    shared-slice-read-word
+    mul-word-2
+    add-word
+    shared-slice-read-word-2
+    mul-word-3
+    add-word-2
+    shared-slice-read-word-3
+    mul-word-4
+    add-word-3
+    shared-slice-read-word-4
+    word-requires
+    mul-out
+    slice-write-out
+    add-i
+    loop-less
+    loop-again
+    same-length
+    returns)
