@@ -74,7 +74,10 @@ before w k j m e h h′ = ap (λ (n : ℕ). getD w n 0) e ∙ sym (getD-take k w
 put : (n : ℕ) (w : List ℕ) (k v : ℕ) → k < length w → v ≡ nextAt (take k w) k → extend (suc n) (take k w) ≡ extend n (take (suc k) (set w k v))
 put n w k v h e =
     let l : length (take k w) ≡ k = length-take-le k w (omega arith) in
-    one-word n (take k w) ∙ ap (extend n) (ap (λ (j : ℕ). take k w ++ nextAt (take k w) j ∷ []) l ∙ ap (λ (x : ℕ). take k w ++ x ∷ []) (sym e) ∙ sym (take-suc-set w k v h))
+    one-word n (take k w)
+    ∙ ap
+    (extend n)
+    (ap (λ (j : ℕ). take k w ++ nextAt (take k w) j ∷ []) l ∙ ap (λ (x : ℕ). take k w ++ x ∷ []) (sym e) ∙ sym (take-suc-set w k v h))
 
 pub filled-again : {w₀ w : List ℕ} {t i v : ℕ} → i < 8
     → v ≡ next (getD w (t + i + 14) 0) (getD w (t + i + 9) 0) (getD w (t + i + 1) 0) (getD w (t + i) 0)

@@ -11,10 +11,14 @@ use Rattle.sha256.specs.Sha256.{_⊞_, T₁, T₂, round, rounds, sums}
 
 -- a round by its sums
 pub round-is : (v : List ℕ) (k w : ℕ) {t₁ t₂ a e : ℕ}
-    → t₁ ≡ T₁ (getD v 4 0) (getD v 5 0) (getD v 6 0) (getD v 7 0) k w → t₂ ≡ T₂ (getD v 0 0) (getD v 1 0) (getD v 2 0) → a ≡ t₁ ⊞ t₂ → e ≡ getD v 3 0 ⊞ t₁
+    → t₁ ≡ T₁ (getD v 4 0) (getD v 5 0) (getD v 6 0) (getD v 7 0) k w → t₂ ≡ T₂ (getD v 0 0) (getD v 1 0) (getD v 2 0)
+    → a ≡ t₁ ⊞ t₂ → e ≡ getD v 3 0 ⊞ t₁
     → a ∷ getD v 0 0 ∷ getD v 1 0 ∷ getD v 2 0 ∷ e ∷ getD v 4 0 ∷ getD v 5 0 ∷ getD v 6 0 ∷ [] ≡ round v k w
 unfolding round
-round-is v k w e₁ e₂ ea ee = λ i. (ea ∙ ap₂ _⊞_ e₁ e₂) i ∷ getD v 0 0 ∷ getD v 1 0 ∷ getD v 2 0 ∷ (ee ∙ ap (λ (x : ℕ). getD v 3 0 ⊞ x) e₁) i ∷ getD v 4 0 ∷ getD v 5 0 ∷ getD v 6 0 ∷ []
+round-is v k w e₁ e₂ ea ee =
+    let new : List ℕ → List ℕ = λ l. getD v 0 0 ∷ getD v 1 0 ∷ getD v 2 0 ∷ l in
+    let old : List ℕ = getD v 4 0 ∷ getD v 5 0 ∷ getD v 6 0 ∷ [] in
+    λ i. (ea ∙ ap₂ _⊞_ e₁ e₂) i ∷ new ((ee ∙ ap (λ (x : ℕ). getD v 3 0 ⊞ x) e₁) i ∷ old)
 
 -- the eight sums at the end
 pub sums-are : (v h : List ℕ) {s₀ s₁ s₂ s₃ s₄ s₅ s₆ s₇ : ℕ}

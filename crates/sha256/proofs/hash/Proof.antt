@@ -37,8 +37,10 @@ compress-requires c κs = search needs
 returns : tie.Need-returns
 unfolding H₀
 returns c =
-    let low = c .before .before .before .before .before .before .shared-slice-known .given in
-    c .before .compress .ensures .0 ∙ one-block _ _ (c .before .before .before .before .before .before .before .pre) (λ i. low i .fits) (c .before .before .before .before .copy .ensures) (search needs)
+    let at-copy = c .before .before .before .before in
+    let at-message = at-copy .before .before in
+    c .before .compress .ensures .0
+    ∙ one-block _ _ (at-message .before .pre) (λ i. at-message .shared-slice-known .given i .fits) (at-copy .copy .ensures) (search needs)
 
 pub hash-spec : {M : Type 1} → statement M
 hash-spec =

@@ -58,7 +58,9 @@ mul-out : tie.Need-mul-out Inv-loop μ-loop
 mul-out c = search needs
 
 slice-write-out : tie.Need-slice-write-out Inv-loop μ-loop
-slice-write-out c = omega (arith, written-long (c .before .before .before .before .before .before .loop .inv), c .before .before .before .before .before .before .before .before .before .pre .1)
+slice-write-out c =
+    let at-loop = c .before .before .before .before .before .before in
+    omega (arith, written-long (at-loop .loop .inv), at-loop .before .before .before .pre .1)
 
 add-i : tie.Need-add-i Inv-loop μ-loop
 add-i c = search needs
@@ -67,7 +69,9 @@ loop-less : tie.Need-loop-less Inv-loop μ-loop
 loop-less c = search needs
 
 loop-again : tie.Need-loop-again Inv-loop μ-loop
-loop-again c = words-again _ (c .before .before .before .before .before .before .before .before .before .pre .0) (search needs) (c .word .ensures) (c .before .before .before .before .before .before .loop .inv)
+loop-again c =
+    let at-loop = c .before .before .before .before .before .before in
+    words-again _ (at-loop .before .before .before .pre .0) (search needs) (c .word .ensures) (at-loop .loop .inv)
 
 same-length : tie.Need-same-length Inv-loop μ-loop
 same-length c = written-long (c .before .loop .inv)

@@ -54,14 +54,24 @@ part-turn-start-2 c = search needs
 
 part-turn-end-2 : tie.Need-part-turn-end-2 Inv-loop μ-loop
 part-turn-end-2 c =
-    let inv = c .before .before .before .before .before .loop .inv in
-    let ahead = ⊎-elim (λ l. ahead-extended inv (l .0 .taken) (l .5 ∙ l .2 .ensures)) (λ r. ahead-still inv (r .0 .left) (r .1)) (c .before .before .before .if1 .came) in
+    let at-if = c .before .before .before in
+    let inv = at-if .before .before .loop .inv in
+    let ahead =
+    ⊎-elim
+    (λ l. ahead-extended inv (l .0 .taken) (l .5 ∙ l .2 .ensures))
+    (λ r. ahead-still inv (r .0 .left) (r .1))
+    (at-if .if1 .came) in
     omega (arith, ahead .long)
 
 turn-requires : tie.Need-turn-requires Inv-loop μ-loop
 turn-requires c κs =
-    let inv = c .before .before .before .before .before .before .loop .inv in
-    let ahead = ⊎-elim (λ l. ahead-extended inv (l .0 .taken) (l .5 ∙ l .2 .ensures)) (λ r. ahead-still inv (r .0 .left) (r .1)) (c .before .before .before .before .if1 .came) in
+    let at-if = c .before .before .before .before in
+    let inv = at-if .before .before .loop .inv in
+    let ahead =
+    ⊎-elim
+    (λ l. ahead-extended inv (l .0 .taken) (l .5 ∙ l .2 .ensures))
+    (λ r. ahead-still inv (r .0 .left) (r .1))
+    (at-if .if1 .came) in
     search needs
 
 loop-less : tie.Need-loop-less Inv-loop μ-loop
@@ -69,9 +79,14 @@ loop-less c = search needs
 
 loop-again : tie.Need-loop-again Inv-loop μ-loop
 loop-again c =
-    let inv = c .before .before .before .before .before .before .before .loop .inv in
-    let ahead = ⊎-elim (λ l. ahead-extended inv (l .0 .taken) (l .5 ∙ l .2 .ensures)) (λ r. ahead-still inv (r .0 .left) (r .1)) (c .before .before .before .before .before .if1 .came) in
-    turning-again inv (search needs) (c .before .before .before .before .before .before .before .before .constants .ensures) ahead (c .turn .ensures)
+    let at-if = c .before .before .before .before .before in
+    let inv = at-if .before .before .loop .inv in
+    let ahead =
+    ⊎-elim
+    (λ l. ahead-extended inv (l .0 .taken) (l .5 ∙ l .2 .ensures))
+    (λ r. ahead-still inv (r .0 .left) (r .1))
+    (at-if .if1 .came) in
+    turning-again inv (search needs) (at-if .before .before .before .constants .ensures) ahead (c .turn .ensures)
 
 same-length : tie.Need-same-length Inv-loop μ-loop
 same-length c = search needs

@@ -78,7 +78,24 @@ round-requires-8 : tie.Need-round-requires-8
 round-requires-8 c κs = search needs
 
 returns : tie.Need-returns
-returns c = turn-is _ _ (c .before .before .before .before .before .before .before .before .before .before .before .before .before .before .before .before .before .before .before .before .before .before .before .before .before .before .pre .0) (c .before .before .before .before .before .before .before .before .before .before .before .before .before .before .before .before .before .before .before .before .before .before .before .before .before .before .pre .1) _ _ _ _ _ _ _ _ _ (c .before .before .before .before .before .before .before .before .before .before .before .before .before .before .before .before .before .before .before .before .before .round .ensures) (c .before .before .before .before .before .before .before .before .before .before .before .before .before .before .before .before .before .before .round2 .ensures) (c .before .before .before .before .before .before .before .before .before .before .before .before .before .before .before .round3 .ensures) (c .before .before .before .before .before .before .before .before .before .before .before .before .round4 .ensures) (c .before .before .before .before .before .before .before .before .before .round5 .ensures) (c .before .before .before .before .before .before .round6 .ensures) (c .before .before .before .round7 .ensures) (c .round8 .ensures)
+returns c =
+    let at₇ = c .before .before .before in
+    let at₆ = at₇ .before .before .before in
+    let at₅ = at₆ .before .before .before in
+    let at₄ = at₅ .before .before .before in
+    let at₃ = at₄ .before .before .before in
+    let at₂ = at₃ .before .before .before in
+    let at₁ = at₂ .before .before .before in
+    let start = at₁ .before .before .before .before .before in
+    turn-is _ _ (start .pre .0) (start .pre .1) _ _ _ _ _ _ _ _ _
+    (at₁ .round .ensures)
+    (at₂ .round2 .ensures)
+    (at₃ .round3 .ensures)
+    (at₄ .round4 .ensures)
+    (at₅ .round5 .ensures)
+    (at₆ .round6 .ensures)
+    (at₇ .round7 .ensures)
+    (c .round8 .ensures)
 
 pub turn-spec : {M : Type 1} → statement M
 turn-spec =

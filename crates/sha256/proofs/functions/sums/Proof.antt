@@ -78,7 +78,23 @@ plus-requires-8 : tie.Need-plus-requires-8
 plus-requires-8 c κs = search needs
 
 returns : tie.Need-returns
-returns c = sums-are _ _ (c .before .before .before .before .before .before .before .plus .ensures) (c .before .before .before .before .before .before .plus2 .ensures) (c .before .before .before .before .before .plus3 .ensures) (c .before .before .before .before .plus4 .ensures) (c .before .before .before .plus5 .ensures) (c .before .before .plus6 .ensures) (c .before .plus7 .ensures) (c .plus8 .ensures)
+returns c =
+    let at₇ = c .before in
+    let at₆ = at₇ .before in
+    let at₅ = at₆ .before in
+    let at₄ = at₅ .before in
+    let at₃ = at₄ .before in
+    let at₂ = at₃ .before in
+    let at₁ = at₂ .before in
+    sums-are _ _
+    (at₁ .plus .ensures)
+    (at₂ .plus2 .ensures)
+    (at₃ .plus3 .ensures)
+    (at₄ .plus4 .ensures)
+    (at₅ .plus5 .ensures)
+    (at₆ .plus6 .ensures)
+    (at₇ .plus7 .ensures)
+    (c .plus8 .ensures)
 
 pub sums-spec : {M : Type 1} → statement M
 sums-spec =
