@@ -5,7 +5,7 @@ use mathlib.Core.List.{List, [], _∷_, _++_, append-assoc}
 use Prim.Native.Nat.{ℕ, zero, suc, _+_, _*_, _/_, _%_, _^_, _<_, _≤_}
 use native.Mathlib.Nat.{div-add-mod'}
 use native.Mathlib.Omega.{arith}
-use lib.Pow.{shr-shr}
+use lib.Pow.{shr-shr, pow-pos}
 use lib.ListN.{length, getD, drop, set}
 use Rattle.sha256.specs.Sha256.{bytesOf, wordOf, wordsOf, sha256}
 use Rattle.sha256.specs.Digest.{bytes, digest}
@@ -47,6 +47,21 @@ length-words n (a ∷ b ∷ []) e = absurd (omega arith)
 length-words n (a ∷ b ∷ c ∷ []) e = absurd (omega arith)
 length-words zero (a ∷ b ∷ c ∷ d ∷ bs) e = absurd (omega arith)
 length-words (suc n) (a ∷ b ∷ c ∷ d ∷ bs) e = ap suc (length-words n bs (omega arith))
+
+-- words of bytes are words
+pub words-low : (bs : List ℕ) → ((i : ℕ) → getD bs i 0 < 2 ^ 8) → (i : ℕ) → getD (wordsOf bs) i 0 < 2 ^ 32
+unfolding wordsOf wordOf
+words-low [] h i = pow-pos 32
+words-low (a ∷ []) h i = pow-pos 32
+words-low (a ∷ b ∷ []) h i = pow-pos 32
+words-low (a ∷ b ∷ c ∷ []) h i = pow-pos 32
+words-low (a ∷ b ∷ c ∷ d ∷ bs) h zero =
+    let ha : a < 2 ^ 8 = h 0 in
+    let hb : b < 2 ^ 8 = h 1 in
+    let hc : c < 2 ^ 8 = h 2 in
+    let hd : d < 2 ^ 8 = h 3 in
+    omega arith
+words-low (a ∷ b ∷ c ∷ d ∷ bs) h (suc i) = words-low bs (λ j. h (suc (suc (suc (suc j))))) i
 
 -- the word at i is made of the four bytes from 4 * i on
 abbrev pub wordAt : List ℕ → ℕ → ℕ

@@ -90,7 +90,7 @@ fn constants() -> [u32; 64]
     K
 }
 
-// Writes the next eight words of a schedule whose first t + 16 words are there.
+// Writes the next eight words of a schedule whose first t + 16 words are there. Each is made of the words 2, 7, 15 and 16 before it.
 fn extend(w: &mut [u32], t: usize)
     requires { ⌜ (length (now w) ≡ 64) × (t + 24 ≤ 64) ⌝ }
     ensures { λ _. ⌜ now (w .exit) ≡ spec.extend 8 (take (t + 16) (now (w .entry))) ++ drop (t + 24) (now (w .entry)) ⌝ }
