@@ -1,9 +1,9 @@
 // What all parties send: a loop for each sort of word, in which each party gets its own part of the joined lists. Nothing is
 // asked here: what is needed is what the entry has asked.
 use crate::Frame;
-use field::Sum;
 use field::Word;
 use steps::Ends;
+use steps::Sums;
 ghost use mathlib.Core.Path.{_≡_};
 ghost use mathlib.Core.List.{[], _∷_};
 ghost use Prim.Native.Nat.{ℕ, _+_, _-_, _*_, _<_, _≤_};
@@ -71,8 +71,7 @@ pub fn opening_words(
     ensures sums { λ r. ⌜ Is size (heardSum ops (f .parties) k 0 (now (out .exit))) (r .first)
         × Is size (heardSum ops (f .parties) k (k - 1) (now (out .exit))) (r .last) ⌝ }
 {
-    let mut first_sum: Sum = 0;
-    let mut last_sum: Sum = 0;
+    let mut sums = Sums { first: 0, last: 0 };
     let mut a = 0;
     let mut i = 0;
     while i < f.parties {
@@ -90,15 +89,11 @@ pub fn opening_words(
             k,
             &mut out[a..b],
         );
-        first_sum = field::add_element(first_sum, ends.first);
-        last_sum = field::add_element(last_sum, ends.last);
+        sums = steps::receiving::hear(sums, ends);
         a = b;
         i += 1;
     }
-    Ends {
-        first: field::element(first_sum),
-        last: field::element(last_sum),
-    }
+    steps::receiving::heard_ends(sums)
 }
 
 // The share that each party shows at an out gate into out, of the gate x that it names.

@@ -5,6 +5,7 @@ pub mod receiving;
 pub mod scratch;
 pub mod sending;
 
+use field::Sum;
 use field::Word;
 
 // A party's share of a value, and its MAC share.
@@ -17,4 +18,10 @@ pub struct Part {
 pub struct Ends {
     pub first: Word,
     pub last: Word,
+}
+
+// Running sums of the first words and of the last words of some parties.
+pub struct Sums {
+    pub first: Sum,
+    pub last: Sum,
 }

@@ -1,5 +1,7 @@
 // What a party works out of the words of all. The steps ask nothing: what they need is what an entry has asked.
+use crate::Ends;
 use crate::Part;
+use crate::Sums;
 use crate::parts;
 use crate::scratch;
 use crate::sending;
@@ -17,7 +19,7 @@ ghost use mathlib.Core.Bool.{true, cond};
 ghost use Prim.Native.Nat.{suc, _+_, _-_, _*_, _<_, _≤_};
 ghost use lib.ListN.{length, getD};
 ghost use Rattle.algebra.specs.Element.{Is};
-ghost use Rattle.field.specs.Words.{size, ops};
+ghost use Rattle.field.specs.Words.{size, ops, sumSize, sumRoom, termSize};
 ghost use Rattle.circuit.specs.Gate.{gateSize, gate, gates, gateOf};
 ghost use Rattle.circuit.specs.Kind.{Local, Owned, Opens, kindShape, shape, isClass};
 ghost use Rattle.circuit.specs.Count.{unchecked};
@@ -78,6 +80,29 @@ pub fn heard_second(n: usize, class: Class, openings: usize, k: usize, heard: &[
         return heard_sum(n, k, openings - 1, heard);
     }
     0
+}
+
+// The words of one more party are heard: its first and its last are added up.
+pub fn hear(sums: Sums, ends: Ends) -> Sums
+    requires { ⌜ (sums .first < sumRoom) × (sums .last < sumRoom) × (ends .first < size) × (ends .last < size) ⌝ }
+    ensures first { λ r. ⌜ (r .first < sums .first + termSize) × (ops .norm (r .first) ≡ ops .add (ops .norm (sums .first)) (ends .first)) ⌝ }
+    ensures last { λ r. ⌜ (r .last < sums .last + termSize) × (ops .norm (r .last) ≡ ops .add (ops .norm (sums .last)) (ends .last)) ⌝ }
+{
+    Sums {
+        first: field::add_element(sums.first, ends.first),
+        last: field::add_element(sums.last, ends.last),
+    }
+}
+
+// What the sums come to, once all are heard.
+pub fn heard_ends(sums: Sums) -> Ends
+    requires { ⌜ (sums .first < sumSize) × (sums .last < sumSize) ⌝ }
+    ensures { λ r. ⌜ Is size (ops .norm (sums .first)) (r .first) × Is size (ops .norm (sums .last)) (r .last) ⌝ }
+{
+    Ends {
+        first: field::element(sums.first),
+        last: field::element(sums.last),
+    }
 }
 
 // m starts at the gate's record, and e is the owner's word.
