@@ -65,11 +65,11 @@ module _ (n k t : ℕ) (F : ℕ → List ℕ) (each : (i : ℕ) → i < n → le
       let q : i ≡ n = omega arith in
       record {
         is =
-          ee .is
-          ∙ a .added .is
-          ∙ ap (λ (m : ℕ). sum ops m (λ z. getD (F z) t 0)) q
-          ∙ sym (heard-sum laws n k t F each within)
-          ∙ ap (heardSum ops n k t) (sym d);
+            ee .is
+            ∙ a .added .is
+            ∙ ap (λ (m : ℕ). sum ops m (λ z. getD (F z) t 0)) q
+            ∙ sym (heard-sum laws n k t F each within)
+            ∙ ap (heardSum ops n k t) (sym d);
         below = ee .below;
       }
 

@@ -246,19 +246,12 @@ module _ {f : Frame} {s : Course} {c preps inputs coefficients l t : List ℕ} (
                 second = second-found (own-hears each-words opening-said) (shape-class g _ eg) words-of ops openings-are (rw (class-is class-same, heard-same) ev);
               }
 
-          opening-lent : Prepared f preps (s .prep) (2 * g .openings + 2)
+          pub opening-asked : Prepared f preps (s .prep) (2 * g .openings + 2)
               × Banded f l
               × EachBand f l (λ i m. Opening size (keyIn f preps i) (layoutOf (f .layout)) m (s .point .gate) x z (prepFrom f preps (s .prep) i) (g .openings) w e v)
-          opening-lent =
+          opening-asked =
               rw ew
               (openings-ask f s c preps inputs l (heardAt s (f .parties * g .openings) t ws) (lent-undrawn (u .going .lent)) (u .going .room) (round-receives u each-words opening-said) cl named summed)
-
-          pub opening-asked : (1 ≤ g .openings)
-              × (g .openings ≤ 2)
-              × Prepared f preps (s .prep) (2 * g .openings + 2)
-              × Banded f l
-              × EachBand f l (λ i m. Opening size (keyIn f preps i) (layoutOf (f .layout)) m (s .point .gate) x z (prepFrom f preps (s .prep) i) (g .openings) w e v)
-          opening-asked = (opening-sends .0, opening-sends .1, opening-lent .0, opening-lent .1, opening-lent .2)
 
           module _ {l₁ : List ℕ} (el : l₁ ≡ rebanded f (openingLeft f preps l (s .point .gate) x z (s .prep) (g .openings) w e v) l) where
             opened-is : l₁ ≡ rebanded f (openingLeft f preps l (s .point .gate) x z (s .prep) (g .openings) (unchecked c (s .point .gate)) e v) l

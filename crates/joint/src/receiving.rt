@@ -5,7 +5,7 @@ use circuit::Kind;
 use field::Word;
 ghost use mathlib.Core.Path.{_≡_};
 ghost use mathlib.Core.Bool.{true};
-ghost use Prim.Native.Nat.{_+_, _-_, _*_, _<_, _≤_};
+ghost use Prim.Native.Nat.{_+_, _-_, _*_, _<_};
 ghost use Rattle.field.specs.Words.{size, ops};
 ghost use Rattle.circuit.specs.Gate.{gateOf};
 ghost use Rattle.circuit.specs.Kind.{Local, kindShape, isClass};
@@ -45,97 +45,7 @@ pub fn receive_inputs(f: Frame, j: usize, at: usize, preps: &[Word], scratch: &m
     }
 }
 
-// Gate j, which names x and z, opens two values, and whose record stands at number at; e and d are opened after u entries.
-fn receive_products(
-    f: Frame,
-    j: usize,
-    x: usize,
-    z: usize,
-    at: usize,
-    u: usize,
-    preps: &[Word],
-    scratch: &mut [Word],
-    e: Word,
-    d: Word,
-)
-    requires { ⌜ Prepared f (now preps) at 6
-        × Banded f (now scratch)
-        × EachBand f (now scratch) (λ i l. Opening size (keyIn f (now preps) i) (layoutOf (f .layout)) l j x z (prepFrom f (now preps) at i) 2 u e d) ⌝ }
-    ensures { λ r. ⌜ now (scratch .exit)
-        ≡ rebanded f (λ i. afterOpening ops i (keyIn f (now (preps .entry)) i) (layoutOf (f .layout)) (band (f .scratch) (now (scratch .entry)) i) j x z (prepFrom f (now (preps .entry)) at i) 2 u e d) (now (scratch .entry)) ⌝ }
-{
-    let mut start = 0;
-    let mut i = 0;
-    while i < f.parties {
-        let end = start + f.scratch;
-        let key = i * f.prep;
-        let first = key + at;
-        let last = key + f.prep;
-        steps::receiving::after_opening(
-            i,
-            preps[key],
-            f.layout,
-            &mut scratch[start..end],
-            j,
-            x,
-            z,
-            &preps[first..last],
-            2,
-            u,
-            e,
-            d,
-        );
-        start = end;
-        i += 1;
-    }
-}
-
-// The same, of one value.
-fn receive_squares(
-    f: Frame,
-    j: usize,
-    x: usize,
-    z: usize,
-    at: usize,
-    u: usize,
-    preps: &[Word],
-    scratch: &mut [Word],
-    e: Word,
-    d: Word,
-)
-    requires { ⌜ Prepared f (now preps) at 4
-        × Banded f (now scratch)
-        × EachBand f (now scratch) (λ i l. Opening size (keyIn f (now preps) i) (layoutOf (f .layout)) l j x z (prepFrom f (now preps) at i) 1 u e d) ⌝ }
-    ensures { λ r. ⌜ now (scratch .exit)
-        ≡ rebanded f (λ i. afterOpening ops i (keyIn f (now (preps .entry)) i) (layoutOf (f .layout)) (band (f .scratch) (now (scratch .entry)) i) j x z (prepFrom f (now (preps .entry)) at i) 1 u e d) (now (scratch .entry)) ⌝ }
-{
-    let mut start = 0;
-    let mut i = 0;
-    while i < f.parties {
-        let end = start + f.scratch;
-        let key = i * f.prep;
-        let first = key + at;
-        let last = key + f.prep;
-        steps::receiving::after_opening(
-            i,
-            preps[key],
-            f.layout,
-            &mut scratch[start..end],
-            j,
-            x,
-            z,
-            &preps[first..last],
-            1,
-            u,
-            e,
-            d,
-        );
-        start = end;
-        i += 1;
-    }
-}
-
-// The same, of k values. Each number of values has a loop of its own, in which the places of a record are fixed.
+// Gate j, which names x and z, opens k values, and whose record stands at number at; e and d are opened after u entries.
 pub fn receive_openings(
     f: Frame,
     j: usize,
@@ -149,19 +59,36 @@ pub fn receive_openings(
     e: Word,
     d: Word,
 )
-    requires { ⌜ (1 ≤ k)
-        × (k ≤ 2)
-        × Prepared f (now preps) at (2 * k + 2)
+    requires { ⌜ Prepared f (now preps) at (2 * k + 2)
         × Banded f (now scratch)
         × EachBand f (now scratch) (λ i l. Opening size (keyIn f (now preps) i) (layoutOf (f .layout)) l j x z (prepFrom f (now preps) at i) k u e d) ⌝ }
     ensures { λ r. ⌜ now (scratch .exit)
         ≡ rebanded f (λ i. afterOpening ops i (keyIn f (now (preps .entry)) i) (layoutOf (f .layout)) (band (f .scratch) (now (scratch .entry)) i) j x z (prepFrom f (now (preps .entry)) at i) k u e d) (now (scratch .entry)) ⌝ }
 {
-    if k == 2 {
-        receive_products(f, j, x, z, at, u, preps, scratch, e, d);
-        return;
+    let mut start = 0;
+    let mut i = 0;
+    while i < f.parties {
+        let end = start + f.scratch;
+        let key = i * f.prep;
+        let first = key + at;
+        let last = key + f.prep;
+        steps::receiving::after_opening(
+            i,
+            preps[key],
+            f.layout,
+            &mut scratch[start..end],
+            j,
+            x,
+            z,
+            &preps[first..last],
+            k,
+            u,
+            e,
+            d,
+        );
+        start = end;
+        i += 1;
     }
-    receive_squares(f, j, x, z, at, u, preps, scratch, e, d);
 }
 
 // An out gate that names x; e is the sum of the shown shares.

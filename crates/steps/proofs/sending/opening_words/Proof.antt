@@ -21,15 +21,17 @@ slice-write-out-2 : tie.Need-slice-write-out-2
 slice-write-out-2 c = let h : 1 < length (now (c .before .before .before .before .before .before .args .out)) = omega (arith, c .before .before .before .before .before .before .pre .7, c .before .if1 .taken) in search needs
 
 returns : tie.Need-returns
-returns c =
-    (opening-two ops _ _ _ _ _ _ _ (share-is (c .before .before .masked .ensures)) (c .before .if1 .taken) (share-is (c .masked2 .ensures)) (omega (arith, c .before .before .before .before .before .before .pre .7, c .before .if1 .taken)),
-      ends-two _ _ _ _ _ _ (c .before .before .masked .ensures) (c .before .if1 .taken) (c .masked2 .ensures))
+returns c = (
+  opening-two ops _ _ _ _ _ _ _ (share-is (c .before .before .masked .ensures)) (c .before .if1 .taken) (share-is (c .masked2 .ensures)) (omega (arith, c .before .before .before .before .before .before .pre .7, c .before .if1 .taken)),
+  ends-two _ _ _ _ _ _ (c .before .before .masked .ensures) (c .before .if1 .taken) (c .masked2 .ensures),
+)
 
 returns-2 : tie.Need-returns-2
 returns-2 c =
-    let h = c .before .before .before .before .before .pre in
-    (opening-one ops _ _ _ _ _ _ _ (share-is (c .before .masked .ensures)) (c .if1 .left) (omega (arith, h .3, h .7)),
-      ends-one _ _ _ _ _ _ (c .before .masked .ensures) (c .if1 .left) (h .3) (h .4))
+    let h = c .before .before .before .before .before .pre in (
+      opening-one ops _ _ _ _ _ _ _ (share-is (c .before .masked .ensures)) (c .if1 .left) (omega (arith, h .3, h .7)),
+      ends-one _ _ _ _ _ _ (c .before .masked .ensures) (c .if1 .left) (h .3) (h .4),
+    )
 
 pub opening-words-spec : {M : Type 1} → statement M
 opening-words-spec =

@@ -40,9 +40,9 @@ returns c =
     let e : a .k ≡ 1 = c .before .before .before .if1 .taken in
     record {
       is = c .mul .ensures .is ∙ sym (laws .norm-mul _ _)
-        ∙ ap (λ (n : ℕ). ops .norm (ops .mul (getD (now (a .coefficients)) 0 0) (getD (now (a .l)) n 0))) (sym z)
-        ∙ sym (sum-one laws (λ t. ops .mul (getD (now (a .coefficients)) t 0) (getD (now (a .l)) (a .at + t) 0)))
-        ∙ ap (λ (n : ℕ). weighed (now (a .l)) (a .at) (now (a .coefficients)) n) (sym e);
+          ∙ ap (λ (n : ℕ). ops .norm (ops .mul (getD (now (a .coefficients)) 0 0) (getD (now (a .l)) n 0))) (sym z)
+          ∙ sym (sum-one laws (λ t. ops .mul (getD (now (a .coefficients)) t 0) (getD (now (a .l)) (a .at + t) 0)))
+          ∙ ap (λ (n : ℕ). weighed (now (a .l)) (a .at) (now (a .coefficients)) n) (sym e);
       below = c .mul .ensures .below;
     }
 
@@ -72,9 +72,9 @@ returns-2 c =
     let a = c .before .before .before .before .before .before .args in
     record {
       is =
-        c .reduce .ensures .is
-        ∙ c .before .before .loop .inv .1 .is
-        ∙ ap (λ (n : ℕ). weighed (now (a .l)) (a .at) (now (a .coefficients)) n) (omega (arith, c .before .before .loop .inv .0, c .before .loop-test .left));
+          c .reduce .ensures .is
+          ∙ c .before .before .loop .inv .1 .is
+          ∙ ap (λ (n : ℕ). weighed (now (a .l)) (a .at) (now (a .coefficients)) n) (omega (arith, c .before .before .loop .inv .0, c .before .loop-test .left));
       below = c .reduce .ensures .below;
     }
 

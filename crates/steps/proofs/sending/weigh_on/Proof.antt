@@ -49,10 +49,11 @@ loop-less c = omega (arith, c .before .before .before .loop-test .taken)
 
 loop-again : tie.Need-loop-again Inv-loop μ-loop
 loop-again c =
-    let inv = c .before .before .before .before .loop .inv in
-    (omega (arith, inv .0),
+    let inv = c .before .before .before .before .loop .inv in (
+      omega (arith, inv .0),
       omega (arith, c .before .before .before .loop-test .taken),
-      running-more laws _ _ _ (inv .2) refl (omega (arith, inv .0, inv .2 .below, c .add-product .ensures .0), c .add-product .ensures .1))
+      running-more laws _ _ _ (inv .2) refl (omega (arith, inv .0, inv .2 .below, c .add-product .ensures .0), c .add-product .ensures .1),
+    )
 
 fold-requires : tie.Need-fold-requires Inv-loop μ-loop
 fold-requires c κs = search needs
