@@ -29,8 +29,9 @@ pub struct Frame {
     pub prep: usize,
 }
 
-// What goes on from gate to gate: the gate that the run has come to, and where its record stands in each party's preprocessing; how many
-// opened entries wait for a check; and how many coefficients are used, words written, outputs released and rounds made.
+// What goes on from gate to gate: the gate that the run has come to, before which linear gates may be left to do, and where the record of the next
+// gate that has rounds stands in each party's preprocessing; how many opened entries wait for a check; and how many coefficients are used, words
+// written, outputs released and rounds made.
 pub struct Stop {
     pub gate: usize,
     pub prep: usize,

@@ -72,7 +72,7 @@ pub fn heard_first(n: usize, class: Class, owner: usize, k: usize, heard: &[Word
 }
 
 // And the last words, of a gate that opens values.
-pub fn heard_second(n: usize, class: Class, openings: usize, k: usize, heard: &[Word]) -> Word
+fn heard_second(n: usize, class: Class, openings: usize, k: usize, heard: &[Word]) -> Word
     requires { ⌜ (n * k ≤ length (now heard)) × Below size (now heard) × (isClass Opens (classOf class) ≡ true → (1 ≤ openings) × (openings - 1 < k)) ⌝ }
     ensures { λ r. ⌜ Is size (cond (isClass Opens (classOf class)) (heardSum ops n k (openings - 1) (now (heard .entry))) 0) r ⌝ }
 {
