@@ -20,6 +20,10 @@ valueSum y l k coefficients = sum ops k (λ t. ops .mul (getD coefficients t 0) 
 abbrev pub weighed : List ℕ → ℕ → List ℕ → ℕ → ℕ
 weighed l at coefficients k = sum ops k (λ t. ops .mul (getD coefficients t 0) (getD l (at + t) 0))
 
+-- how many products a pass adds at most
+abbrev pub passSize : ℕ
+passSize = 1024
+
 -- a folded running sum stands for it
 pub record Weighed (l : List ℕ) (at : ℕ) (coefficients : List ℕ) (k acc : ℕ) : Type 0 where
   pub is : ops .norm acc ≡ weighed l at coefficients k

@@ -25,7 +25,7 @@ ghost use Rattle.protocol.specs.Send.{inputWord, masked, openingWords, checkSha
 ghost use Rattle.protocol.specs.Holding.{Below, Held, Opened};
 ghost use Rattle.protocol.specs.Code.{layoutOf};
 ghost use Rattle.protocol.specs.Ready.{Ready, Sends};
-ghost use Rattle.steps.specs.Code.{valueSum, weighed, Weighed, IsPart, AreEnds};
+ghost use Rattle.steps.specs.Code.{passSize, valueSum, weighed, Weighed, IsPart, AreEnds};
 
 // The mark that a commitment sends.
 pub const MARK: Word = 1;
@@ -73,16 +73,16 @@ const PASS: usize = 1024;
 // Where a pass of the products from t on ends, of k in all.
 fn pass_end(t: usize, k: usize) -> usize
     requires { ⌜ t < k ⌝ }
-    ensures { λ r. ⌜ (t < r) × (r ≤ k) × (r ≤ t + 1024) ⌝ }
+    ensures { λ r. ⌜ (t < r) × (r ≤ k) × (r ≤ t + passSize) ⌝ }
 {
     if k - t < PASS { k } else { t + PASS }
 }
 
-// A pass: the running sum of the products before t goes on to those before to. A product is a coefficient times the number that stands as far
+// A pass: the running sum of the products before from goes on to those before to. A product is a coefficient times the number that stands as far
 // behind at.
 fn weigh_on(start: Sum, l: &[Word], at: usize, from: usize, to: usize, coefficients: &[Word]) -> Sum
     requires { ⌜ (from ≤ to)
-        × (to ≤ from + 1024)
+        × (to ≤ from + passSize)
         × (at + to ≤ length (now l))
         × (to ≤ length (now coefficients))
         × Below size (now coefficients)
