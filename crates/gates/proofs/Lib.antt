@@ -1,2 +1,3 @@
--- What is proved of the questions in one pass.
+-- What is proved of the pass over the gates, and of what it counts.
 pub mod Well
+pub mod Weights

@@ -1,4 +1,7 @@
 // Questions 3 to 7.
+use crate::Quick;
+use crate::Survey;
+use crate::counting;
 use crate::reading;
 use circuit::Role;
 use circuit::Shape;
@@ -6,15 +9,17 @@ use circuit::Verdict;
 use circuit::shapes;
 use field::Word;
 ghost use mathlib.Core.Path.{_≡_};
-ghost use mathlib.Core.Bool.{true};
+ghost use mathlib.Core.Bool.{true, false};
 ghost use Prim.Native.Nat.{ℕ, _+_, _*_, _<_, _≤_};
 ghost use lib.ListN.{length};
 ghost use Rattle.circuit.specs.Verdict.{Accepted, each};
-ghost use Rattle.circuit.specs.Gate.{gateSize, decode, entry, gate};
+ghost use Rattle.circuit.specs.Gate.{gateSize, decode, entry, gate, gates};
 ghost use Rattle.circuit.specs.Kind.{kindShape};
 ghost use Rattle.circuit.specs.Accept.{mostGates, isKind, mayName, nameOk, restOk, askGate, askCircuit};
 ghost use Rattle.circuit.specs.Valid.{Fits, ValidGate};
 ghost use Rattle.circuit.specs.Code.{verdictOf, roleOf, shapeOf};
+ghost use Rattle.gates.specs.Weight.{weight, weightBefore, unsure};
+ghost use Rattle.gates.specs.Code.{surveyOf, Counted, SurveyOk};
 
 // Numbers of a gate after its kind.
 const OPERANDS: usize = 3;
@@ -25,19 +30,6 @@ const NO_GATE: usize = 0;
 const FEWEST_GATES: usize = 2;
 
 pub const MOST_GATES: usize = 256;
-
-const FIRST_KIND: usize = 1;
-
-const LAST_KIND: usize = 8;
-
-fn is_kind(number: usize) -> bool
-    ensures { λ r. ⌜ r ≡ isKind number ⌝ }
-{
-    if number < FIRST_KIND {
-        return false;
-    }
-    number <= LAST_KIND
-}
 
 // May gate j name gate x? The gates before it have passed question 4.
 fn may_name(c: &[Word], j: usize, x: usize) -> bool
@@ -85,7 +77,7 @@ fn scan(parties: usize, size: usize, c: &[Word], count: usize) -> Verdict
     let mut j = 0;
     while j < count {
         let at = reading::GATE_SIZE * j;
-        if !is_kind(field::index(c[at])) {
+        if !reading::is_kind(field::index(c[at])) {
             return Verdict::Refused {
                 number: 4,
                 index: j,
@@ -126,7 +118,7 @@ fn kind_well(s: Shape, number: usize) -> bool
 {
     let class = s.class;
     if shapes::is_out(class) {
-        return is_kind(number);
+        return reading::is_kind(number);
     }
     true
 }
@@ -173,65 +165,90 @@ fn ends_well(parties: usize, size: usize, c: &[Word], j: usize, s: Shape) -> boo
     }
 }
 
-// Are questions 4 to 6 of gate j answered with yes? It parts the gates by the role of the second number and then by that of the last, so that
-// few tests remain for each. A role that no kind gives its second number is left to the scan.
-fn gate_well(parties: usize, size: usize, c: &[Word], j: usize) -> bool
+// The weight of gate j for party me, if questions 4 to 6 of it are answered with yes. It parts the gates by the role of the second number and
+// then by that of the last, so that few tests remain for each, and the weight is known by then. A role that no kind gives its second number is
+// left to the scan.
+fn gate_well(parties: usize, size: usize, me: usize, c: &[Word], j: usize) -> usize
     requires { ⌜ (gateSize * j + gateSize ≤ length (now c)) × ((i : ℕ) → i < j → isKind (entry (now c) i 0) ≡ true) ⌝ }
-    ensures { λ r. ⌜ (r ≡ true → ValidGate parties size (now (c .entry)) j) ⌝ }
+    ensures valid { λ r. ⌜ ((r ≡ unsure → ⊥) → ValidGate parties size (now (c .entry)) j) ⌝ }
+    ensures weight { λ r. ⌜ ((r ≡ unsure → ⊥) → r ≡ weight me (gate (now (c .entry)) j)) ⌝ }
 {
     let at = reading::GATE_SIZE * j;
     let s = reading::shape_at(c, j);
     if !kind_well(s, field::index(c[at])) {
-        return false;
+        return counting::UNSURE;
     }
     let second = reading::second_at(c, j);
     let role = s.second;
     match role {
         Role::Unused => {
             if second != 0 {
-                return false;
+                return counting::UNSURE;
             }
-            ends_well(parties, size, c, j, s)
+            if !ends_well(parties, size, c, j, s) {
+                return counting::UNSURE;
+            }
+            counting::weigh(c, me, j, s)
         }
-        Role::Party => false,
+        Role::Party => counting::UNSURE,
         Role::Wire => {
             if !may_name(c, j, second) {
-                return false;
+                return counting::UNSURE;
             }
-            ends_well(parties, size, c, j, s)
+            if !ends_well(parties, size, c, j, s) {
+                return counting::UNSURE;
+            }
+            counting::weigh(c, me, j, s)
         }
-        Role::Constant => false,
+        Role::Constant => counting::UNSURE,
     }
 }
 
-// Are questions 4 to 6 of the first count gates answered with yes? A yes is sure, and a no is left to the scan.
-fn well(parties: usize, size: usize, c: &[Word], count: usize) -> bool
-    requires { ⌜ (gateSize * count ≤ length (now c)) × (count ≤ mostGates) ⌝ }
-    ensures { λ r. ⌜ (r ≡ true → each count (askGate parties size (now (c .entry))) ≡ Accepted) ⌝ }
+// The weight of the gates before to, if questions 4 to 6 of those from another on are answered with yes. What it does not say is left to the scan.
+fn well(
+    parties: usize,
+    size: usize,
+    me: usize,
+    c: &[Word],
+    from: usize,
+    to: usize,
+    start: usize,
+) -> usize
+    requires { ⌜ (from ≤ to)
+        × (gateSize * to ≤ length (now c))
+        × (to ≤ mostGates)
+        × ((i : ℕ) → i < from → ValidGate parties size (now c) i)
+        × (start ≡ weightBefore (now c) me from) ⌝ }
+    ensures valid { λ r. ⌜ ((r ≡ unsure → ⊥) → (i : ℕ) → i < to → ValidGate parties size (now (c .entry)) i) ⌝ }
+    ensures weight { λ r. ⌜ ((r ≡ unsure → ⊥) → r ≡ weightBefore (now (c .entry)) me to) ⌝ }
 {
-    let mut j = 0;
-    while j < count {
-        if !gate_well(parties, size, c, j) {
-            return false;
+    let mut sum = start;
+    let mut j = from;
+    while j < to {
+        let w = gate_well(parties, size, me, c, j);
+        if w == counting::UNSURE {
+            return counting::UNSURE;
         }
+        sum += w;
         j += 1;
     }
-    true
+    sum
 }
 
-// Questions 4 to 6 of the first count gates. The scan is for the first no.
-fn ask_gates(parties: usize, size: usize, c: &[Word], count: usize) -> Verdict
-    requires { ⌜ (gateSize * count ≤ length (now c)) × (count ≤ mostGates) ⌝ }
+// Questions 4 to 6 of the first count gates. Where the pass has said yes, no gate is looked at; the scan is for the first no.
+fn ask_gates(parties: usize, size: usize, c: &[Word], count: usize, yes: bool) -> Verdict
+    requires { ⌜ (gateSize * count ≤ length (now c)) × (count ≤ mostGates) × (yes ≡ true → (j : ℕ) → j < count → ValidGate parties size (now c) j) ⌝ }
     ensures { λ r. ⌜ verdictOf r ≡ each count (askGate parties size (now (c .entry))) ⌝ }
 {
-    if well(parties, size, c, count) {
+    if yes {
         return Verdict::Accepted;
     }
     scan(parties, size, c, count)
 }
 
-// Questions 3 to 7, of a field of that size. It is no entry: it is for the crates above, which ask question 1 before it.
-pub fn accept(parties: usize, size: usize, c: &[Word]) -> Verdict
+// Questions 3 to 7, where yes says that all gates are known to be valid.
+fn ask_all(parties: usize, size: usize, c: &[Word], yes: bool) -> Verdict
+    requires { ⌜ (yes ≡ true → (j : ℕ) → j < gates (now c) → ValidGate parties size (now c) j) ⌝ }
     ensures { λ r. ⌜ verdictOf r ≡ askCircuit parties size (now (c .entry)) ⌝ }
 {
     if c.len() % reading::GATE_SIZE != 0 {
@@ -253,7 +270,7 @@ pub fn accept(parties: usize, size: usize, c: &[Word]) -> Verdict
             index: NO_GATE,
         };
     }
-    match ask_gates(parties, size, c, count) {
+    match ask_gates(parties, size, c, count, yes) {
         Verdict::Refused { number, index } => {
             return Verdict::Refused { number, index };
         }
@@ -266,4 +283,92 @@ pub fn accept(parties: usize, size: usize, c: &[Word]) -> Verdict
         };
     }
     Verdict::Accepted
+}
+
+// Nothing is known of the gates.
+fn unknown() -> Quick
+    ensures { λ q. ⌜ q .yes ≡ false ⌝ }
+{
+    Quick {
+        yes: false,
+        here: circuit::counting::no_tally(),
+        all: circuit::counting::no_tally(),
+    }
+}
+
+// Questions 4 to 6 of all gates, and what is counted before a gate and in all, in one pass.
+fn quick(parties: usize, size: usize, me: usize, c: &[Word], gate: usize) -> Quick
+    ensures { λ q. ⌜ (q .yes ≡ true → ((j : ℕ) → j < gates (now (c .entry)) → ValidGate parties size (now (c .entry)) j)
+        × Counted (now (c .entry)) me gate (q .here) (q .all)) ⌝ }
+{
+    let count = c.len() / reading::GATE_SIZE;
+    if MOST_GATES < count {
+        return unknown();
+    }
+    let stop = counting::least(gate, count);
+    let here = well(parties, size, me, c, 0, stop, 0);
+    if here == counting::UNSURE {
+        return unknown();
+    }
+    let all = well(parties, size, me, c, stop, count, here);
+    if all == counting::UNSURE {
+        return unknown();
+    }
+    Quick {
+        yes: true,
+        here: counting::tally_of(here, counting::unchecked_before(c, stop)),
+        all: counting::tally_of(all, counting::unchecked_before(c, count)),
+    }
+}
+
+// Are all gates known to be valid?
+fn all_well(parties: usize, size: usize, c: &[Word]) -> bool
+    ensures { λ r. ⌜ (r ≡ true → (j : ℕ) → j < gates (now (c .entry)) → ValidGate parties size (now (c .entry)) j) ⌝ }
+{
+    let count = c.len() / reading::GATE_SIZE;
+    if MOST_GATES < count {
+        return false;
+    }
+    let weight = well(parties, size, 0, c, 0, count, 0);
+    weight != counting::UNSURE
+}
+
+// Questions 3 to 7, of a field of that size. It is no entry: it is for the crates above, which ask question 1 before it.
+pub fn accept(parties: usize, size: usize, c: &[Word]) -> Verdict
+    ensures { λ r. ⌜ verdictOf r ≡ askCircuit parties size (now (c .entry)) ⌝ }
+{
+    let yes = all_well(parties, size, c);
+    ask_all(parties, size, c, yes)
+}
+
+// The counts of an accepted circuit of which the pass has not said yes.
+fn counted(c: &[Word], me: usize, gate: usize) -> Survey
+    requires { ⌜ gates (now c) ≤ mostGates ⌝ }
+    ensures { λ r. ⌜ (surveyOf r ≡ Accepted) × SurveyOk (now (c .entry)) me gate r ⌝ }
+{
+    let count = c.len() / reading::GATE_SIZE;
+    let stop = counting::least(gate, count);
+    let here = counting::tally_between(c, me, 0, stop, circuit::counting::no_tally());
+    let all = counting::tally_between(c, me, stop, count, here);
+    Survey::Accepted(here, all)
+}
+
+// Questions 3 to 7, with what is counted for party me before a gate and in all.
+pub fn survey(parties: usize, size: usize, me: usize, c: &[Word], gate: usize) -> Survey
+    ensures asked { λ r. ⌜ surveyOf r ≡ askCircuit parties size (now (c .entry)) ⌝ }
+    ensures accepted { λ r. ⌜ SurveyOk (now (c .entry)) me gate r ⌝ }
+{
+    let q = quick(parties, size, me, c, gate);
+    match ask_all(parties, size, c, q.yes) {
+        Verdict::Refused { number, index } => {
+            return Survey::Refused { number, index };
+        }
+        Verdict::Accepted => {}
+    }
+    if q.yes {
+        let here = q.here;
+        let all = q.all;
+        return Survey::Accepted(here, all);
+    }
+    counted(c, me, gate)
 }

@@ -9,10 +9,24 @@ ghost use Prim.Native.Nat.{_+_, _*_, _≤_};
 ghost use lib.ListN.{length};
 ghost use Rattle.circuit.specs.Gate.{gateSize, gate};
 ghost use Rattle.circuit.specs.Kind.{shape, factor};
+ghost use Rattle.circuit.specs.Accept.{isKind};
 ghost use Rattle.circuit.specs.Code.{kindOf, classOf, shapeOf};
 
 // Numbers a gate.
 pub const GATE_SIZE: usize = 4;
+
+const FIRST_KIND: usize = 1;
+
+const LAST_KIND: usize = 8;
+
+pub fn is_kind(number: usize) -> bool
+    ensures { λ r. ⌜ r ≡ isKind number ⌝ }
+{
+    if number < FIRST_KIND {
+        return false;
+    }
+    number <= LAST_KIND
+}
 
 pub fn kind_at(c: &[Word], j: usize) -> Kind
     requires { ⌜ gateSize * j + gateSize ≤ length (now c) ⌝ }

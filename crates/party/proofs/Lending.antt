@@ -1,21 +1,23 @@
 -- What questions 1 to 12 come to, and what their acceptance gives.
 -- Assumes nothing.
 use Prim.Native.Nat.{ℕ, _+_, _/_, _<_, _≤_}
-use mathlib.Core.Path.{_≡_, refl, sym, ap, ap₂, _∙_}
+use mathlib.Core.Path.{_≡_, refl, sym, ap, ap₂, subst, _∙_}
 use mathlib.Core.List.{List}
 use native.Mathlib.Omega.{arith}
 use lib.ListN.{length}
 use lib.Dec.{ltb, leb, eqb}
 use Rattle.field.specs.Words.{size}
-use Rattle.circuit.specs.Verdict.{Verdict, Accepted, ask, _then_, elements}
+use Rattle.circuit.specs.Verdict.{Verdict, Accepted, Refused, ask, _then_, elements}
 use Rattle.circuit.specs.Gate.{gateSize, gates}
 use Rattle.circuit.specs.Count.{prepSize, capacity, inputCount}
 use Rattle.circuit.specs.Accept.{askCircuit}
 use Rattle.circuit.specs.Valid.{Valid}
 use Rattle.circuit.specs.Code.{Tallied}
 use Rattle.circuit.specs.declared.Tally.{Tally}
-use Rattle.circuit.proofs.Verdicts.{then-right}
+use Rattle.circuit.proofs.Verdicts.{then-refused, then-passed}
 use Rattle.circuit.proofs.Valid.{valid}
+use Rattle.gates.specs.Code.{surveyOf, Counted, SurveyOk}
+use Rattle.gates.specs.declared.Survey as D
 use Rattle.circuit.proofs.Tallies.{tally-low}
 use Rattle.protocol.specs.Scratch as S
 use Rattle.protocol.specs.Party.{Party}
@@ -24,15 +26,6 @@ use Rattle.protocol.specs.declared.Layout.{Layout}
 use Rattle.protocol.specs.declared.Site.{Site}
 use Rattle.protocol.specs.Ask.{askParties, askLent}
 use Rattle.circuit.proofs.Loops.{then-assoc}
-
-module _ (n i : ℕ) (c : List ℕ) where
-  -- questions 1 to 7
-  abbrev pub settingAsked : Verdict
-  settingAsked = askParties n then ask 2 0 (ltb i n) then askCircuit n size c
-
-  -- they accept a valid circuit
-  pub setting-valid : settingAsked ≡ Accepted → Valid n size c
-  setting-valid e = valid n size c (then-right _ _ (then-right _ _ e))
 
 -- questions 8 to 12, of the lengths a, b and s
 abbrev pub listsAsked : List ℕ → List ℕ → ℕ → ℕ → ℕ → ℕ → Verdict
@@ -44,13 +37,38 @@ listsAsked prep inputs room a b s =
     then ask 12 0 (leb s room)
 
 module _ (P : Party) (l : List ℕ) where
-  -- 1 to 7, and then 8 to 12
+  -- 1 and 2, then 3 to 7, and then 8 to 12
   pub lent-split :
       askLent size P l
-      ≡ (settingAsked (P .parties) (P .me) (P .circuit)
+      ≡ ((askParties (P .parties) then ask 2 0 (ltb (P .me) (P .parties)))
+      then askCircuit (P .parties) size (P .circuit)
       then listsAsked (P .prep) (P .inputs) (length l) (prepSize (P .circuit)) (inputCount (P .circuit) (P .me)) (S.scratchSize (S.layout (P .circuit))))
   unfolding askLent
-  lent-split = sym (then-assoc _ _ _ ∙ ap (λ (v : Verdict). askParties (P .parties) then v) (then-assoc _ _ _))
+  lent-split = sym (then-assoc _ _ _)
+
+-- what 3 to 7 answered with what is counted, r
+module _ (n m : ℕ) (c : List ℕ) {r : D.Survey} (said : surveyOf r ≡ askCircuit n m c) (is : m ≡ size) where
+  pub survey-refused : {number index : ℕ} → r ≡ D.Survey.Refused number index → Refused number index ≡ askCircuit n size c
+  unfolding surveyOf
+  survey-refused e = sym (ap surveyOf e) ∙ said ∙ ap (λ (q : ℕ). askCircuit n q c) is
+
+  pub survey-passed : {here all : Tally} → r ≡ D.Survey.Accepted here all → Accepted ≡ askCircuit n size c
+  unfolding surveyOf
+  survey-passed e = sym (ap surveyOf e) ∙ said ∙ ap (λ (q : ℕ). askCircuit n q c) is
+
+  pub survey-valid : {here all : Tally} → r ≡ D.Survey.Accepted here all → Valid n size c
+  survey-valid e = valid n size c (sym (survey-passed e))
+
+pub survey-counted : {c : List ℕ} {i at : ℕ} {r : D.Survey} → SurveyOk c i at r → {here all : Tally} → r ≡ D.Survey.Accepted here all → Counted c i at here all
+survey-counted {c} {i} {at} ok e = subst (λ (r : D.Survey). SurveyOk c i at r) e ok
+
+-- for a `return` after questions that came to a: they refused, or accepted, and v is the answer so far
+module _ {a : Verdict} (rest : Verdict) where
+  pub refused-first : {number index : ℕ} → Refused number index ≡ a → Refused number index ≡ (a then rest)
+  refused-first e = sym (then-refused rest (sym e))
+
+  pub passed-first : {v : Verdict} → Accepted ≡ a → v ≡ rest → v ≡ (a then rest)
+  passed-first e g = g ∙ sym (then-passed rest (sym e))
 
 -- the lengths as the code counts them
 pub lists-are : (prep inputs : List ℕ) (room : ℕ) {a a′ b b′ s s′ : ℕ} → a ≡ a′ → b ≡ b′ → s ≡ s′

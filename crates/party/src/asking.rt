@@ -9,6 +9,7 @@ use circuit::Verdict;
 use circuit::rounds;
 use circuit::shapes;
 use field::Word;
+use gates::Survey;
 use gates::reading;
 use protocol::Layout;
 use protocol::Site;
@@ -178,9 +179,9 @@ pub fn ask_setting(parties: usize, c: &[Word]) -> Verdict
     ask_circuit(parties, c)
 }
 
-// Questions 1 to 7.
-fn ask_party(parties: usize, me: usize, c: &[Word]) -> Verdict
-    ensures { λ r. ⌜ verdictOf r ≡ (askParties parties then ask 2 0 (ltb me parties) then askCircuit parties size (now (c .entry))) ⌝ }
+// Questions 1 and 2.
+fn ask_party(parties: usize, me: usize) -> Verdict
+    ensures { λ r. ⌜ verdictOf r ≡ (askParties parties then ask 2 0 (ltb me parties)) ⌝ }
 {
     match ask_parties(parties) {
         Verdict::Refused { number, index } => {
@@ -194,7 +195,7 @@ fn ask_party(parties: usize, me: usize, c: &[Word]) -> Verdict
             index: 0,
         };
     }
-    ask_circuit(parties, c)
+    Verdict::Accepted
 }
 
 // May a check share be held at this stage?
@@ -415,12 +416,6 @@ fn ask_receive_round(
     Verdict::Accepted
 }
 
-fn least(a: usize, b: usize) -> usize
-    ensures { λ r. ⌜ (r ≤ a) × (r ≤ b) × (a ≤ b → r ≡ a) ⌝ }
-{
-    if a <= b { a } else { b }
-}
-
 // Questions 1 to 12. One count along the circuit gives the lengths to ask for and the site of a gate.
 pub fn ask_lent(
     parties: usize,
@@ -434,36 +429,37 @@ pub fn ask_lent(
     ensures asked { λ r. ⌜ lentOf r ≡ askLent size (partyOf parties me (now (c .entry)) (now (prep .entry)) (now (inputs .entry))) (now (l .entry)) ⌝ }
     ensures accepted { λ r. ⌜ LentOk (now (c .entry)) me gate r ⌝ }
 {
-    match ask_party(parties, me, c) {
+    match ask_party(parties, me) {
         Verdict::Refused { number, index } => {
             return Lent::Refused { number, index };
         }
         Verdict::Accepted => {}
     }
-    let count = c.len() / reading::GATE_SIZE;
-    let stop = least(gate, count);
-    let here = gates::counting::tally_between(c, me, 0, stop, circuit::counting::no_tally());
-    let all = gates::counting::tally_between(c, me, stop, count, here);
-    let y = Layout {
-        gates: count,
-        capacity: all.openings + 1,
-    };
-    let size = protocol::size_of(y);
-    match ask_lists(prep, all.prep, inputs, all.inputs, l.len(), size) {
-        Verdict::Refused { number, index } => {
-            return Lent::Refused { number, index };
+    match gates::asking::survey(parties, field::index(field::SIZE), me, c, gate) {
+        Survey::Refused { number, index } => Lent::Refused { number, index },
+        Survey::Accepted(here, all) => {
+            let y = Layout {
+                gates: c.len() / reading::GATE_SIZE,
+                capacity: all.openings + 1,
+            };
+            let size = protocol::size_of(y);
+            match ask_lists(prep, all.prep, inputs, all.inputs, l.len(), size) {
+                Verdict::Refused { number, index } => {
+                    return Lent::Refused { number, index };
+                }
+                Verdict::Accepted => {}
+            }
+            Lent::Accepted(
+                y,
+                Site {
+                    gate,
+                    prep: here.prep,
+                    unchecked: here.unchecked,
+                    input: here.inputs,
+                },
+            )
         }
-        Verdict::Accepted => {}
     }
-    Lent::Accepted(
-        y,
-        Site {
-            gate,
-            prep: here.prep,
-            unchecked: here.unchecked,
-            input: here.inputs,
-        },
-    )
 }
 
 // Questions 1 to 13.

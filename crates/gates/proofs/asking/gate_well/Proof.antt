@@ -1,8 +1,9 @@
--- `gates::asking::gate_well` meets its contract: the kind is asked, the second number where its role is told, and then the other two.
+-- `gates::asking::gate_well` meets its contract: the kind is asked, the second number where its role is told, and then the other two; what is left is the weight.
 -- Assumes nothing.
+use mathlib.Core.Path.{refl}
 use native.Mathlib.Omega.{arith}
 use borrow.Author.Needs.{needs}
-use Rattle.circuit.proofs.Tests.{false-no}
+use borrow.Author.Tests.{not-false}
 use Rattle.circuit.proofs.Verdicts.{said-yes}
 use Rattle.circuit.proofs.Valid.{ref}
 use Rattle.gates.proofs.Well.{kind-shape, valid-gate}
@@ -13,29 +14,36 @@ kind-well-requires : tie.Need-kind-well-requires
 kind-well-requires c κs = kind-shape 0 0 _ _ _ (c .before .before .shape-at .ensures) (c .index .ensures)
 
 returns : tie.Need-returns
-returns c h = false-no h
+returns c = (λ h. absurd (h refl), λ h. absurd (h refl))
 
 returns-2 : tie.Need-returns-2
-returns-2 c h = false-no h
+returns-2 c = (λ h. absurd (h refl), λ h. absurd (h refl))
 
 returns-3 : tie.Need-returns-3
-returns-3 c h = false-no h
+returns-3 c = (λ h. absurd (h refl), λ h. absurd (h refl))
 
 returns-4 : tie.Need-returns-4
-returns-4 c h = valid-gate _ _ _ _ _ (c .before .before .before .before .before .before .before .before .before .shape-at .ensures) (c .before .before .before .before .before .before .before .index .ensures) (said-yes (c .before .before .before .before .before .before .kind-well .ensures) (c .before .before .before .before .before .if1 .left)) (c .ends-well .ensures .0 h) (c .before .before .before .before .second-at .ensures) (rw (c .before .before .enum-told .given .1) (omega (arith, c .before .if2 .left))) (c .ends-well .ensures .1 h)
+returns-4 c = (λ h. absurd (h refl), λ h. absurd (h refl))
 
 returns-5 : tie.Need-returns-5
-returns-5 c h = false-no h
+returns-5 c = (λ h. absurd (h refl), λ h. absurd (h refl))
 
 returns-6 : tie.Need-returns-6
-returns-6 c h = valid-gate _ _ _ _ _ (c .before .before .before .before .before .before .before .before .before .before .shape-at .ensures) (c .before .before .before .before .before .before .before .before .index .ensures) (said-yes (c .before .before .before .before .before .before .before .kind-well .ensures) (c .before .before .before .before .before .before .if1 .left)) (c .ends-well2 .ensures .0 h) (c .before .before .before .before .before .second-at .ensures) (rw (c .before .before .before .enum-told3 .given .1) (ref _ _ _ (said-yes (c .before .before .may-name .ensures) (c .before .if3 .left)))) (c .ends-well2 .ensures .1 h)
+returns-6 c = (λ h. valid-gate _ _ _ _ _ (c .before .before .before .before .before .before .before .before .before .before .before .shape-at .ensures) (c .before .before .before .before .before .before .before .before .before .index .ensures) (said-yes (c .before .before .before .before .before .before .before .before .kind-well .ensures) (c .before .before .before .before .before .before .before .if1 .left)) (c .before .before .ends-well .ensures .0 (not-false _ (c .before .if3 .left))) (c .before .before .before .before .before .before .second-at .ensures) (rw (c .before .before .before .before .enum-told .given .1) (omega (arith, c .before .before .before .if2 .left))) (c .before .before .ends-well .ensures .1 (not-false _ (c .before .if3 .left))), λ h. c .weigh .ensures)
 
 returns-7 : tie.Need-returns-7
-returns-7 c h = false-no h
+returns-7 c = (λ h. absurd (h refl), λ h. absurd (h refl))
+
+returns-8 : tie.Need-returns-8
+returns-8 c = (λ h. valid-gate _ _ _ _ _ (c .before .before .before .before .before .before .before .before .before .before .before .before .shape-at .ensures) (c .before .before .before .before .before .before .before .before .before .before .index .ensures) (said-yes (c .before .before .before .before .before .before .before .before .before .kind-well .ensures) (c .before .before .before .before .before .before .before .before .if1 .left)) (c .before .before .ends-well2 .ensures .0 (not-false _ (c .before .if5 .left))) (c .before .before .before .before .before .before .before .second-at .ensures) (rw (c .before .before .before .before .before .enum-told3 .given .1) (ref _ _ _ (said-yes (c .before .before .before .before .may-name .ensures) (c .before .before .before .if4 .left)))) (c .before .before .ends-well2 .ensures .1 (not-false _ (c .before .if5 .left))), λ h. c .weigh2 .ensures)
+
+returns-9 : tie.Need-returns-9
+returns-9 c = (λ h. absurd (h refl), λ h. absurd (h refl))
 
 pub gate-well-spec : {M : Type 1} → statement M
 gate-well-spec =
     tie.close
     (tie.spec (λ c. search needs) (λ c κs. search needs) (λ c. search needs) (λ c. search needs) (λ c κs. search needs) kind-well-requires
-    returns (λ c κs. search needs) (λ c. search needs) returns-2 (λ c κs. search needs) (λ c. search needs) (λ c. search needs)
-    (λ c κs. search needs) returns-3 (λ c κs. search needs) (λ c. search needs) returns-4 returns-5 returns-6 returns-7)
+    returns (λ c κs. search needs) (λ c. search needs) returns-2 (λ c κs. search needs) returns-3 (λ c κs. search needs) (λ c. search needs)
+    (λ c. search needs) (λ c κs. search needs) returns-4 (λ c κs. search needs) returns-5 (λ c κs. search needs) (λ c. search needs)
+    returns-6 returns-7 returns-8 returns-9)

@@ -1,42 +1,62 @@
--- `gates::asking::well` meets its contract: each gate before j is accepted.
+-- `gates::asking::well` meets its contract: the gates before j are valid, and the sum is their weight.
 -- Assumes nothing.
-use Prim.Native.Nat.{_≤_, _-_}
-use mathlib.Core.Path.{_≡_}
+use Prim.Native.Nat.{ℕ, _-_, _<_, _≤_}
+use mathlib.Core.Path.{_≡_, refl}
+use native.Mathlib.Omega.{arith}
 use borrow.Author.Needs.{needs}
-use borrow.Author.Tests.{not-false}
-use Rattle.circuit.specs.Verdict.{Accepted, each}
-use Rattle.circuit.specs.Accept.{askGate}
-use Rattle.circuit.proofs.Tests.{false-no}
-use Rattle.circuit.proofs.Verdicts.{each-below, each-none, each-more, each-done}
+use borrow.Author.Count.{below-more}
+use Rattle.circuit.specs.Valid.{ValidGate}
 use Rattle.circuit.proofs.Valid.{is-kind, gate-accepted}
+use Rattle.gates.specs.Weight.{weightBefore}
+use Rattle.gates.proofs.Weights.{weight-more, weight-room}
 use Rattle.gates.proofs.asking.well.Statement.{statement}
 use Rattle.gates.proofs.asking.well.Tie as tie
 
 abbrev Inv-loop : tie.InvT-loop
-Inv-loop parties size c count j₀ j = (j ≤ count) × (each j (askGate parties size c) ≡ Accepted)
+Inv-loop parties size me c from to start sum₀ j₀ sum j =
+    (j ≤ to) × ((i : ℕ) → i < j → ValidGate parties size c i) × (sum ≡ weightBefore c me j)
 
 abbrev μ-loop : tie.MeasureT-loop
-μ-loop parties size c count j₀ j = count - j
+μ-loop parties size me c from to start sum₀ j₀ sum j = to - j
 
 loop-holds : tie.Need-loop-holds Inv-loop μ-loop
-loop-holds c = (search needs, each-none _)
+loop-holds c = (c .before .pre .0, c .before .pre .3, c .before .pre .4)
 
 gate-well-requires : tie.Need-gate-well-requires Inv-loop μ-loop
-gate-well-requires c κs = (search needs, λ i l. is-kind _ _ _ i (each-below _ _ (c .before .loop .inv .1) i l))
+gate-well-requires c κs = (omega (arith, c .before .loop .inv .0, c .before .before .before .pre .1), λ i l. is-kind _ _ _ i (gate-accepted _ _ _ i (c .before .loop .inv .1 i l)))
 
 returns : tie.Need-returns Inv-loop μ-loop
-returns c h = false-no h
+returns c = (λ h. absurd (h refl), λ h. absurd (h refl))
+
+add-sum : tie.Need-add-sum Inv-loop μ-loop
+add-sum c = omega (arith, weight-room _ _ _ (c .before .before .before .loop .inv .2) (c .before .gate-well .ensures .1 (c .if1 .left)) (omega (arith, c .before .before .before .before .before .pre .2)))
+
+add-j : tie.Need-add-j Inv-loop μ-loop
+add-j c = omega (arith, c .before .before .before .loop .inv .0, c .before .before .before .before .before .pre .2)
 
 loop-less : tie.Need-loop-less Inv-loop μ-loop
 loop-less c = search needs
 
 loop-again : tie.Need-loop-again Inv-loop μ-loop
-loop-again c = (search needs, each-more _ _ (c .before .before .before .loop .inv .1) (gate-accepted _ _ _ _ (c .before .gate-well .ensures (not-false _ (c .if1 .left)))))
+loop-again c = (omega arith, below-more _ _ (c .before .before .before .loop .inv .1) (c .before .gate-well .ensures .0 (c .if1 .left)), weight-more _ _ _ (c .before .before .before .loop .inv .2) (c .before .gate-well .ensures .1 (c .if1 .left)))
 
 returns-2 : tie.Need-returns-2 Inv-loop μ-loop
-returns-2 c h = each-done _ _ _ (c .before .loop .inv .0) (c .loop-test .left) (c .before .loop .inv .1)
+returns-2 c =
+    let l = c .before .loop in
+    let e : l .j ≡ c .before .before .before .args .to = omega (arith, l .inv .0) in
+    (λ h. rw e at (l .inv .1), λ h. rw e at (l .inv .2))
 
 pub well-spec : {M : Type 1} → statement M
 well-spec =
     tie.close
-    (tie.spec Inv-loop μ-loop loop-holds gate-well-requires returns (λ c. search needs) loop-less loop-again returns-2)
+    (tie.spec
+    Inv-loop
+    μ-loop
+    loop-holds
+    gate-well-requires
+    returns
+    add-sum
+    add-j
+    loop-less
+    loop-again
+    returns-2)

@@ -1,7 +1,6 @@
 -- `gates::reading::class_at` meets its contract: the shape tells the class.
 -- Assumes nothing.
 use borrow.Author.Needs.{needs}
-use Rattle.circuit.specs.Gate.{gate}
 use Rattle.circuit.proofs.KindLaws.{shape-class}
 use Rattle.gates.proofs.reading.class_at.Statement.{statement}
 use Rattle.gates.proofs.reading.class_at.Tie as tie

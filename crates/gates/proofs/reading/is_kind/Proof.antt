@@ -1,9 +1,9 @@
--- `gates::asking::is_kind` meets its contract: its tests of the number are the definition's.
+-- `gates::reading::is_kind` meets its contract: its tests of the number are the definition's.
 -- Assumes nothing.
 use Rattle.circuit.specs.Accept.{isKind}
 use Rattle.circuit.proofs.Tests.{tests}
-use Rattle.gates.proofs.asking.is_kind.Statement.{statement}
-use Rattle.gates.proofs.asking.is_kind.Tie as tie
+use Rattle.gates.proofs.reading.is_kind.Statement.{statement}
+use Rattle.gates.proofs.reading.is_kind.Tie as tie
 
 returns : tie.Need-returns
 unfolding isKind
