@@ -7,33 +7,6 @@ use Rattle.sha256.proofs.OneBlock.{one-block}
 use Rattle.sha256.proofs.hash.Statement.{statement}
 use Rattle.sha256.proofs.hash.Tie as tie
 
-slice-aggregate-copy : tie.Need-slice-aggregate-copy
-slice-aggregate-copy c = search needs
-
-copy-requires : tie.Need-copy-requires
-copy-requires c κs = search needs
-
-mul-w : tie.Need-mul-w
-mul-w c = search needs
-
-array-write-w : tie.Need-array-write-w
-array-write-w c = search needs
-
-mul-w-2 : tie.Need-mul-w-2
-mul-w-2 c = search needs
-
-cast-w : tie.Need-cast-w
-cast-w c = search needs
-
-array-write-w-2 : tie.Need-array-write-w-2
-array-write-w-2 c = search needs
-
-slice-aggregate-compress : tie.Need-slice-aggregate-compress
-slice-aggregate-compress c = search needs
-
-compress-requires : tie.Need-compress-requires
-compress-requires c κs = search needs
-
 returns : tie.Need-returns
 unfolding H₀
 returns c =
@@ -45,14 +18,5 @@ returns c =
 pub hash-spec : {M : Type 1} → statement M
 hash-spec =
     tie.close
-    (tie.spec
-    slice-aggregate-copy
-    copy-requires
-    mul-w
-    array-write-w
-    mul-w-2
-    cast-w
-    array-write-w-2
-    slice-aggregate-compress
-    compress-requires
-    returns)
+    (tie.spec (λ c. search needs) (λ c κs. search needs) (λ c. search needs) (λ c. search needs) (λ c. search needs) (λ c. search needs)
+    (λ c. search needs) (λ c. search needs) (λ c κs. search needs) returns)
