@@ -43,9 +43,13 @@ unfolding total
 weight-parts c i zero = refl
 weight-parts c i (suc j) = omega (arith, weight-parts c i j, weight-is i (gate c j))
 
+-- no sum of weights comes to this
+abbrev weightRoom : ℕ
+weightRoom = inputUnit * (mostGates + 1)
+
 -- each of which is small
 module _ (c : List ℕ) (i j : ℕ) (h : j ≤ mostGates) where
-  pub weight-low : weightBefore c i j ≤ 1099646173184
+  pub weight-low : weightBefore c i j < weightRoom
   unfolding prepAt inputAt count
   weight-low = omega (arith, weight-parts c i j, prep-le c j, openings-le c j, input-le c i j)
 
@@ -65,7 +69,7 @@ module _ (c : List ℕ) (i j : ℕ) {s w : ℕ} (es : s ≡ weightBefore c i j) 
   pub weight-more : s + w ≡ weightBefore c i (j + 1)
   weight-more = omega (arith, es, ew, total-more (weight i) c j)
 
-  pub weight-room : j < mostGates → s + w ≤ 1099646173184
+  pub weight-room : j < mostGates → s + w < weightRoom
   weight-room h = omega (arith, weight-more, weight-low c i (j + 1) (omega arith))
 
 -- what waits before a gate, from the gate before it

@@ -1,5 +1,5 @@
 // Questions 3 to 7.
-use crate::Quick;
+use crate::Finding;
 use crate::Survey;
 use crate::counting;
 use crate::reading;
@@ -188,7 +188,7 @@ fn gate_well(parties: usize, size: usize, me: usize, c: &[Word], j: usize) -> us
             if !ends_well(parties, size, c, j, s) {
                 return counting::UNSURE;
             }
-            counting::weigh(c, me, j, s)
+            counting::weight_of(c, me, j, s)
         }
         Role::Party => counting::UNSURE,
         Role::Wire => {
@@ -198,7 +198,7 @@ fn gate_well(parties: usize, size: usize, me: usize, c: &[Word], j: usize) -> us
             if !ends_well(parties, size, c, j, s) {
                 return counting::UNSURE;
             }
-            counting::weigh(c, me, j, s)
+            counting::weight_of(c, me, j, s)
         }
         Role::Constant => counting::UNSURE,
     }
@@ -286,10 +286,10 @@ fn ask_all(parties: usize, size: usize, c: &[Word], yes: bool) -> Verdict
 }
 
 // Nothing is known of the gates.
-fn unknown() -> Quick
+fn unknown() -> Finding
     ensures { λ q. ⌜ q .yes ≡ false ⌝ }
 {
-    Quick {
+    Finding {
         yes: false,
         here: circuit::counting::no_tally(),
         all: circuit::counting::no_tally(),
@@ -297,7 +297,7 @@ fn unknown() -> Quick
 }
 
 // Questions 4 to 6 of all gates, and what is counted before a gate and in all, in one pass.
-fn quick(parties: usize, size: usize, me: usize, c: &[Word], gate: usize) -> Quick
+fn one_pass(parties: usize, size: usize, me: usize, c: &[Word], gate: usize) -> Finding
     ensures { λ q. ⌜ (q .yes ≡ true → ((j : ℕ) → j < gates (now (c .entry)) → ValidGate parties size (now (c .entry)) j)
         × Counted (now (c .entry)) me gate (q .here) (q .all)) ⌝ }
 {
@@ -314,7 +314,7 @@ fn quick(parties: usize, size: usize, me: usize, c: &[Word], gate: usize) -> Qui
     if all == counting::UNSURE {
         return unknown();
     }
-    Quick {
+    Finding {
         yes: true,
         here: counting::tally_of(here, counting::unchecked_before(c, stop)),
         all: counting::tally_of(all, counting::unchecked_before(c, count)),
@@ -358,7 +358,7 @@ pub fn survey(parties: usize, size: usize, me: usize, c: &[Word], gate: usize) -
     ensures asked { λ r. ⌜ surveyOf r ≡ askCircuit parties size (now (c .entry)) ⌝ }
     ensures accepted { λ r. ⌜ SurveyOk (now (c .entry)) me gate r ⌝ }
 {
-    let q = quick(parties, size, me, c, gate);
+    let q = one_pass(parties, size, me, c, gate);
     match ask_all(parties, size, c, q.yes) {
         Verdict::Refused { number, index } => {
             return Survey::Refused { number, index };

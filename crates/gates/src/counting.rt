@@ -121,7 +121,7 @@ const INPUT: usize = 4294967296;
 pub const UNSURE: usize = 18446744073709551615;
 
 // The weight of gate j, which has that shape, for party i.
-pub fn weigh(c: &[Word], i: usize, j: usize, s: Shape) -> usize
+pub fn weight_of(c: &[Word], i: usize, j: usize, s: Shape) -> usize
     requires { ⌜ (gateSize * j + gateSize ≤ length (now c)) × (shapeOf s ≡ shape (gate (now c) j)) ⌝ }
     ensures { λ r. ⌜ r ≡ weight i (gate (now (c .entry)) j) ⌝ }
 {

@@ -6,7 +6,7 @@ pub mod reading;
 use circuit::Tally;
 
 // What one pass over the gates finds: whether all are valid, and if so what is counted before a gate and in all.
-pub struct Quick {
+pub struct Finding {
     pub yes: bool,
     pub here: Tally,
     pub all: Tally,

@@ -8,12 +8,6 @@ use borrow.Author.Needs.{needs}
 use Rattle.gates.proofs.asking.counted.Statement.{statement}
 use Rattle.gates.proofs.asking.counted.Tie as tie
 
-least-requires : tie.Need-least-requires
-least-requires c κs = search needs
-
-no-tally-requires : tie.Need-no-tally-requires
-no-tally-requires c κs = search needs
-
 tally-between-requires : tie.Need-tally-between-requires
 unfolding gates
 tally-between-requires c κs = (omega arith, omega (arith, c .before .least .ensures .1), omega (arith, c .before .least .ensures .1, c .before .before .before .pre), c .no-tally .ensures _ _)
@@ -29,9 +23,4 @@ returns c = (refl, record { here = λ h. rw (c .before .before .before .least .e
 pub counted-spec : {M : Type 1} → statement M
 counted-spec =
     tie.close
-    (tie.spec
-    least-requires
-    no-tally-requires
-    tally-between-requires
-    tally-between-requires-2
-    returns)
+    (tie.spec (λ c κs. search needs) (λ c κs. search needs) tally-between-requires tally-between-requires-2 returns)

@@ -29,13 +29,13 @@ returns-5 : tie.Need-returns-5
 returns-5 c = (λ h. absurd (h refl), λ h. absurd (h refl))
 
 returns-6 : tie.Need-returns-6
-returns-6 c = (λ h. valid-gate _ _ _ _ _ (c .before .before .before .before .before .before .before .before .before .before .before .shape-at .ensures) (c .before .before .before .before .before .before .before .before .before .index .ensures) (said-yes (c .before .before .before .before .before .before .before .before .kind-well .ensures) (c .before .before .before .before .before .before .before .if1 .left)) (c .before .before .ends-well .ensures .0 (not-false _ (c .before .if3 .left))) (c .before .before .before .before .before .before .second-at .ensures) (rw (c .before .before .before .before .enum-told .given .1) (omega (arith, c .before .before .before .if2 .left))) (c .before .before .ends-well .ensures .1 (not-false _ (c .before .if3 .left))), λ h. c .weigh .ensures)
+returns-6 c = (λ h. valid-gate _ _ _ _ _ (c .before .before .before .before .before .before .before .before .before .before .before .shape-at .ensures) (c .before .before .before .before .before .before .before .before .before .index .ensures) (said-yes (c .before .before .before .before .before .before .before .before .kind-well .ensures) (c .before .before .before .before .before .before .before .if1 .left)) (c .before .before .ends-well .ensures .0 (not-false _ (c .before .if3 .left))) (c .before .before .before .before .before .before .second-at .ensures) (rw (c .before .before .before .before .enum-told .given .1) (omega (arith, c .before .before .before .if2 .left))) (c .before .before .ends-well .ensures .1 (not-false _ (c .before .if3 .left))), λ h. c .weight-of .ensures)
 
 returns-7 : tie.Need-returns-7
 returns-7 c = (λ h. absurd (h refl), λ h. absurd (h refl))
 
 returns-8 : tie.Need-returns-8
-returns-8 c = (λ h. valid-gate _ _ _ _ _ (c .before .before .before .before .before .before .before .before .before .before .before .before .shape-at .ensures) (c .before .before .before .before .before .before .before .before .before .before .index .ensures) (said-yes (c .before .before .before .before .before .before .before .before .before .kind-well .ensures) (c .before .before .before .before .before .before .before .before .if1 .left)) (c .before .before .ends-well2 .ensures .0 (not-false _ (c .before .if5 .left))) (c .before .before .before .before .before .before .before .second-at .ensures) (rw (c .before .before .before .before .before .enum-told3 .given .1) (ref _ _ _ (said-yes (c .before .before .before .before .may-name .ensures) (c .before .before .before .if4 .left)))) (c .before .before .ends-well2 .ensures .1 (not-false _ (c .before .if5 .left))), λ h. c .weigh2 .ensures)
+returns-8 c = (λ h. valid-gate _ _ _ _ _ (c .before .before .before .before .before .before .before .before .before .before .before .before .shape-at .ensures) (c .before .before .before .before .before .before .before .before .before .before .index .ensures) (said-yes (c .before .before .before .before .before .before .before .before .before .kind-well .ensures) (c .before .before .before .before .before .before .before .before .if1 .left)) (c .before .before .ends-well2 .ensures .0 (not-false _ (c .before .if5 .left))) (c .before .before .before .before .before .before .before .second-at .ensures) (rw (c .before .before .before .before .before .enum-told3 .given .1) (ref _ _ _ (said-yes (c .before .before .before .before .may-name .ensures) (c .before .before .before .if4 .left)))) (c .before .before .ends-well2 .ensures .1 (not-false _ (c .before .if5 .left))), λ h. c .weight-of2 .ensures)
 
 returns-9 : tie.Need-returns-9
 returns-9 c = (λ h. absurd (h refl), λ h. absurd (h refl))

@@ -1,4 +1,4 @@
--- `gates::asking::quick` meets its contract: the gates before the one that is asked for, and from there to the end; where both have a weight, it is read.
+-- `gates::asking::one_pass` meets its contract: the gates before the one that is asked for, and from there to the end; where both have a weight, it is read.
 -- Assumes nothing.
 use mathlib.Core.Path.{sym, _∙_}
 use native.Mathlib.Omega.{arith}
@@ -6,8 +6,8 @@ use borrow.Author.Needs.{needs}
 use Rattle.circuit.specs.Gate.{gates}
 use Rattle.circuit.proofs.Tests.{false-no}
 use Rattle.gates.proofs.Weights.{weight-none}
-use Rattle.gates.proofs.asking.quick.Statement.{statement}
-use Rattle.gates.proofs.asking.quick.Tie as tie
+use Rattle.gates.proofs.asking.one_pass.Statement.{statement}
+use Rattle.gates.proofs.asking.one_pass.Tie as tie
 
 returns : tie.Need-returns
 returns c h = false-no (sym (c .unknown .ensures) ∙ h)
@@ -37,8 +37,8 @@ returns-4 c h =
     let all = c .tally-of2 .ensures _ _ _ (c .before .before .before .before .before .before .before .before .before .if1 .left) (c .before .before .before .before .before .well2 .ensures .1 (c .before .before .before .before .if3 .left)) (c .before .unchecked-before2 .ensures) in
     (c .before .before .before .before .before .well2 .ensures .0 (c .before .before .before .before .if3 .left), record { here = λ g. rw (c .before .before .before .before .before .before .before .before .least .ensures .2 g) at here; all = all })
 
-pub quick-spec : {M : Type 1} → statement M
-quick-spec =
+pub one-pass-spec : {M : Type 1} → statement M
+one-pass-spec =
     tie.close
     (tie.spec (λ c κs. search needs) returns (λ c κs. search needs) well-requires (λ c κs. search needs) returns-2 well-requires-2
     (λ c κs. search needs) returns-3 unchecked-before-requires (λ c κs. search needs) unchecked-before-requires-2 (λ c κs. search needs)

@@ -9,7 +9,7 @@ use Rattle.gates.proofs.asking.survey.Statement.{statement}
 use Rattle.gates.proofs.asking.survey.Tie as tie
 
 ask-all-requires : tie.Need-ask-all-requires
-ask-all-requires c κs = λ e j h. c .quick .ensures e .0 j h
+ask-all-requires c κs = λ e j h. c .one-pass .ensures e .0 j h
 
 returns : tie.Need-returns
 unfolding surveyOf verdictOf
@@ -17,7 +17,7 @@ returns c = (rw (c .before .number .given .1) at (c .before .before .before .ask
 
 returns-2 : tie.Need-returns-2
 unfolding surveyOf verdictOf
-returns-2 c = (rw (c .before .before .before .enum-told .given .1) at (c .before .before .before .before .before .ask-all .ensures), c .before .before .before .before .before .before .quick .ensures (c .before .before .if1 .taken) .1)
+returns-2 c = (rw (c .before .before .before .enum-told .given .1) at (c .before .before .before .before .before .ask-all .ensures), c .before .before .before .before .before .before .one-pass .ensures (c .before .before .if1 .taken) .1)
 
 counted-requires : tie.Need-counted-requires
 unfolding verdictOf

@@ -34,9 +34,6 @@ add-sum c = omega (arith, weight-room _ _ _ (c .before .before .before .loop .in
 add-j : tie.Need-add-j Inv-loop μ-loop
 add-j c = omega (arith, c .before .before .before .loop .inv .0, c .before .before .before .before .before .pre .2)
 
-loop-less : tie.Need-loop-less Inv-loop μ-loop
-loop-less c = search needs
-
 loop-again : tie.Need-loop-again Inv-loop μ-loop
 loop-again c = (omega arith, below-more _ _ (c .before .before .before .loop .inv .1) (c .before .gate-well .ensures .0 (c .if1 .left)), weight-more _ _ _ (c .before .before .before .loop .inv .2) (c .before .gate-well .ensures .1 (c .if1 .left)))
 
@@ -49,14 +46,4 @@ returns-2 c =
 pub well-spec : {M : Type 1} → statement M
 well-spec =
     tie.close
-    (tie.spec
-    Inv-loop
-    μ-loop
-    loop-holds
-    gate-well-requires
-    returns
-    add-sum
-    add-j
-    loop-less
-    loop-again
-    returns-2)
+    (tie.spec Inv-loop μ-loop loop-holds gate-well-requires returns add-sum add-j (λ c. search needs) loop-again returns-2)

@@ -21,26 +21,11 @@ abbrev μ-loop : tie.MeasureT-loop
 loop-holds : tie.Need-loop-holds Inv-loop μ-loop
 loop-holds c = (omega arith, omega arith)
 
-sub-shape-at : tie.Need-sub-shape-at Inv-loop μ-loop
-sub-shape-at c = search needs
-
-shape-at-requires : tie.Need-shape-at-requires Inv-loop μ-loop
-shape-at-requires c κs = search needs
-
-is-out-requires : tie.Need-is-out-requires Inv-loop μ-loop
-is-out-requires c κs = search needs
-
 returns : tie.Need-returns Inv-loop μ-loop
 returns c = omega (arith, c .before .before .before .before .loop .inv .1, unchecked-back-out (c .before .before .before .before .before .before .args .c .now) (c .before .before .before .before .loop .i) (c .before .before .before .loop-test .taken) (sym (c .before .is-out .ensures ∙ ap (isClass Output) (shape-class _ _ (c .before .before .shape-at .ensures))) ∙ c .if1 .taken))
 
 add-waiting : tie.Need-add-waiting Inv-loop μ-loop
 add-waiting c = omega (arith, c .before .before .before .before .before .loop .inv .1, c .before .before .before .before .before .before .before .pre .1, c .before .before .before .before .before .loop .inv .0, unchecked-few (c .before .before .before .before .before .before .before .args .c .now) (c .before .before .before .before .before .before .before .args .j), shape-small _ _ (c .before .before .before .shape-at .ensures))
-
-sub-i : tie.Need-sub-i Inv-loop μ-loop
-sub-i c = search needs
-
-loop-less : tie.Need-loop-less Inv-loop μ-loop
-loop-less c = search needs
 
 loop-again : tie.Need-loop-again Inv-loop μ-loop
 loop-again c = (omega (arith, c .before .before .before .before .before .loop .inv .0), omega (arith, c .before .before .before .before .before .loop .inv .1, shape-openings _ _ (c .before .before .before .shape-at .ensures), unchecked-back (c .before .before .before .before .before .before .before .args .c .now) (c .before .before .before .before .before .loop .i) (c .before .before .before .before .loop-test .taken) (sym (c .before .before .is-out .ensures ∙ ap (isClass Output) (shape-class _ _ (c .before .before .before .shape-at .ensures))) ∙ c .before .if1 .left)))
@@ -51,16 +36,5 @@ returns-2 c = omega (arith, c .before .loop .inv .1, unchecked-none (c .before .
 pub unchecked-before-spec : {M : Type 1} → statement M
 unchecked-before-spec =
     tie.close
-    (tie.spec
-    Inv-loop
-    μ-loop
-    loop-holds
-    sub-shape-at
-    shape-at-requires
-    is-out-requires
-    returns
-    add-waiting
-    sub-i
-    loop-less
-    loop-again
-    returns-2)
+    (tie.spec Inv-loop μ-loop loop-holds (λ c. search needs) (λ c κs. search needs) (λ c κs. search needs) returns add-waiting
+    (λ c. search needs) (λ c. search needs) loop-again returns-2)
