@@ -12,7 +12,7 @@ use borrow.Author.Tests.{eqb-true, eqb-false}
 use Rattle.circuit.specs.Gate.{Kind, gate}
 use Rattle.circuit.specs.Kind.{Class, Local, Owned, Opens, Output, Shape, kindShape, shape, isClass}
 use Rattle.circuit.specs.Count.{unchecked, uncheckedAfter}
-use Rattle.circuit.specs.Round.{Check, First, Second, Round, Own, Open, Commit, Reveal, roundNumber, hasCheck, checkRounds, classRounds, rounds, among, following, shapeWords, words, coefficientsIn, overRounds, overRun}
+use Rattle.circuit.specs.Round.{Check, First, Second, Round, Own, Open, Commit, Reveal, roundNumber, isReveal, hasCheck, checkRounds, classRounds, rounds, among, following, shapeWords, words, commitWords, revealWords, commitsIn, coefficientsIn, overRounds, overRun}
 use Rattle.circuit.proofs.Tests.{false-no, by-cases}
 use Rattle.circuit.proofs.Counts.{unchecked-after-le, unchecked-out}
 use Rattle.circuit.proofs.KindLaws.{Low, class-is, kind-low, shape-low}
@@ -156,15 +156,15 @@ module _ (u : ℕ) where
     words-valued Opens e h = words-opens
     words-valued Output e h = false-no (sym h)
 
-    pub words-first : u ≡ 0 → overRounds (shapeWords s) (classRounds u Output) ≡ s .words + 2
+    pub words-first : u ≡ 0 → overRounds (shapeWords s) (classRounds u Output) ≡ s .words + (commitWords + revealWords)
     unfolding overRounds shapeWords classRounds checkRounds
     words-first z = rw z (omega arith)
 
-    pub words-later : eqb u 0 ≡ false → overRounds (shapeWords s) (classRounds u Output) ≡ 2 + s .words + 2
+    pub words-later : eqb u 0 ≡ false → overRounds (shapeWords s) (classRounds u Output) ≡ commitWords + revealWords + s .words + (commitWords + revealWords)
     unfolding overRounds shapeWords classRounds checkRounds
     words-later z = rw z (omega arith)
 
-    pub words-le : (k : Class) → overRounds (shapeWords s) (classRounds u k) ≤ s .words + 4
+    pub words-le : (k : Class) → overRounds (shapeWords s) (classRounds u k) ≤ s .words + 34
     words-le Local = omega (arith, words-local)
     words-le Owned = omega (arith, words-owned)
     words-le Opens = omega (arith, words-opens)
@@ -199,6 +199,28 @@ module _ (u : ℕ) where
   coefficients-class-le Opens = omega (arith, coefficients-opens)
   coefficients-class-le Output = omega (arith, coefficients-all)
 
+  -- an output has one check, or two where anything is opened and unchecked; other gates have none
+  pub checks-first : u ≡ 0 → overRounds commitsIn (classRounds u Output) ≡ 1
+  unfolding overRounds commitsIn classRounds checkRounds
+  checks-first z = rw z
+
+  pub checks-later : eqb u 0 ≡ false → overRounds commitsIn (classRounds u Output) ≡ 2
+  unfolding overRounds commitsIn classRounds checkRounds
+  checks-later z = rw z
+
+  pub checks-valued : (k : Class) → isClass Output k ≡ false → overRounds commitsIn (classRounds u k) ≡ 0
+  unfolding overRounds commitsIn classRounds isClass
+  checks-valued Local e = refl
+  checks-valued Owned e = refl
+  checks-valued Opens e = refl
+  checks-valued Output e = false-no (sym e)
+
+  pub checks-le : (k : Class) → overRounds commitsIn (classRounds u k) ≤ 2
+  checks-le Local = omega (arith, checks-valued Local (unfold isClass in refl))
+  checks-le Owned = omega (arith, checks-valued Owned (unfold isClass in refl))
+  checks-le Opens = omega (arith, checks-valued Opens (unfold isClass in refl))
+  checks-le Output = by-cases (eqb u 0) (λ h. omega (arith, checks-first (eqb-true u 0 h))) (λ h. omega (arith, checks-later h))
+
   -- every opened entry takes one coefficient, when it is checked
   coefficients-le : (k : Class) (s : Shape) → s .class ≡ k → Low s → overRounds (coefficientsIn u) (classRounds u k) + uncheckedAfter s u ≤ u + 2
   coefficients-le Local s e l = omega (arith, coefficients-local, unchecked-after-le s u, l .openings)
@@ -206,13 +228,21 @@ module _ (u : ℕ) where
   coefficients-le Opens s e l = omega (arith, coefficients-opens, unchecked-after-le s u, l .openings)
   coefficients-le Output s e l = omega (arith, coefficients-all, unchecked-out s u (class-is e))
 
--- no round has more than two words of a party
-pub few-words : (k : Kind) (r : Round) → shapeWords (kindShape k) r ≤ 2
+-- no round has more words of a party than a reveal
+pub few-words : (k : Kind) (r : Round) → shapeWords (kindShape k) r ≤ revealWords
 unfolding shapeWords
-few-words k Own = kind-low k .words
-few-words k Open = kind-low k .words
+few-words k Own = omega (arith, kind-low k .words)
+few-words k Open = omega (arith, kind-low k .words)
 few-words k (Commit h) = omega arith
 few-words k (Reveal h) = omega arith
+
+-- and a reveal has just these
+pub reveal-words : (s : Shape) (r : Round) → isReveal r ≡ true → shapeWords s r ≡ revealWords
+unfolding shapeWords
+reveal-words s Own e = false-no e
+reveal-words s Open e = false-no e
+reveal-words s (Commit k) e = false-no e
+reveal-words s (Reveal k) e = refl
 
 -- the same of gate j of a circuit
 module _ (c : List ℕ) (j : ℕ) where
@@ -241,7 +271,7 @@ module _ (c : List ℕ) where
   unfolding rounds
   coefficients-more = run-more (λ i r. coefficientsIn (unchecked c i) r) c
 
-  pub words-run-le : (j : ℕ) → overRun (λ i r. words (gate c i) r) c j ≤ 6 * j
+  pub words-run-le : (j : ℕ) → overRun (λ i r. words (gate c i) r) c j ≤ 36 * j
   unfolding overRun rounds
   words-run-le zero = omega arith
   words-run-le (suc j) = omega (arith, words-run-le j, words-le (unchecked c j) (shape (gate c j)) (shape (gate c j) .class), shape-low (gate c j) .words)
@@ -250,3 +280,12 @@ module _ (c : List ℕ) where
   unfolding overRun rounds unchecked
   coefficients-run-le zero = omega arith
   coefficients-run-le (suc j) = omega (arith, coefficients-run-le j, coefficients-le (unchecked c j) (shape (gate c j) .class) (shape (gate c j)) refl (shape-low (gate c j)))
+
+  pub checks-more : (j : ℕ) → overRun (λ i r. commitsIn r) c (j + 1) ≡ overRun (λ i r. commitsIn r) c j + overRounds commitsIn (classRounds (unchecked c j) (shape (gate c j) .class))
+  unfolding rounds
+  checks-more = run-more (λ i r. commitsIn r) c
+
+  pub checks-run-le : (j : ℕ) → overRun (λ i r. commitsIn r) c j ≤ 2 * j
+  unfolding overRun rounds
+  checks-run-le zero = omega arith
+  checks-run-le (suc j) = omega (arith, checks-run-le j, checks-le (unchecked c j) (shape (gate c j) .class))

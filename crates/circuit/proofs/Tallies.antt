@@ -9,14 +9,14 @@ use lib.Dec.{eqb}
 use Rattle.circuit.specs.Gate.{gate}
 use Rattle.circuit.specs.Kind.{Class, Local, Owned, Opens, Output, shape, isClass, isIn, isOut, ownedBy}
 use Rattle.circuit.specs.Count as N
-use Rattle.circuit.specs.Round.{classRounds, shapeWords, coefficientsIn, overRounds}
+use Rattle.circuit.specs.Round.{classRounds, shapeWords, coefficientsIn, commitsIn, overRounds}
 use Rattle.circuit.specs.Code.{classOf, shapeOf, Tallied, Totalled}
 use Rattle.circuit.specs.declared.Shape.{Shape}
 use Rattle.circuit.specs.declared.Tally.{Tally}
 use Rattle.circuit.specs.declared.Totals.{Totals}
 use Rattle.circuit.proofs.KindLaws.{is-class, class-is, local-no-in, local-no-out, owned-no-out, opens-no-in, opens-no-out, output-no-in, local-facts, owned-facts, output-facts, Idle, idle, shape-class, shape-prep, shape-openings}
 use Rattle.circuit.proofs.Counts.{prep-more, prep-le, openings-more, openings-le, unchecked-valued, unchecked-out, unchecked-more, unchecked-few, input-more, input-le, count-more, count-le}
-use Rattle.circuit.proofs.RoundLaws.{words-local, words-more, words-run-le, coefficients-local, coefficients-more, coefficients-run-le}
+use Rattle.circuit.proofs.RoundLaws.{words-local, words-more, words-run-le, coefficients-local, coefficients-more, coefficients-run-le, checks-valued, checks-more, checks-run-le}
 
 idle-shape : (c : List ℕ) (j : ℕ) (s : Shape) → shapeOf s ≡ shape (gate c j) → isClass Local (classOf (s .class)) ≡ true → Idle (gate c j)
 idle-shape c j s said e = idle (gate c j) (ap (isClass Local) (sym (shape-class s (gate c j .kind) said)) ∙ e)
@@ -89,11 +89,11 @@ module _ {c : List ℕ} {i j : ℕ} {t : Tally} (was : Tallied c i j t) where
         }
 
 module _ {c : List ℕ} {j : ℕ} {t : Totals} (was : Totalled c j t) where
-  pub totals-low : (t .prep ≤ 1 + 6 * j) × (t .openings ≤ 2 * j) × (t .ins ≤ j) × (t .outs ≤ j) × (t .words ≤ 6 * j) × (t .coefficients + N.unchecked c j ≤ 2 * j)
-  totals-low = (rw (was .prep) (prep-le c j), rw (was .openings) (openings-le c j), rw (was .ins) (count-le isIn c j), rw (was .outs) (count-le isOut c j), rw (was .words) (words-run-le c j), rw (was .coefficients) (coefficients-run-le c j))
+  pub totals-low : (t .prep ≤ 1 + 6 * j) × (t .openings ≤ 2 * j) × (t .ins ≤ j) × (t .outs ≤ j) × (t .words ≤ 36 * j) × (t .coefficients + N.unchecked c j ≤ 2 * j) × (t .checks ≤ 2 * j)
+  totals-low = (rw (was .prep) (prep-le c j), rw (was .openings) (openings-le c j), rw (was .ins) (count-le isIn c j), rw (was .outs) (count-le isOut c j), rw (was .words) (words-run-le c j), rw (was .coefficients) (coefficients-run-le c j), rw (was .checks) (checks-run-le c j))
 
   pub totals-more :
-      (s : Shape) {u a o w k : ℕ} {b d : Bool} →
+      (s : Shape) {u a o w k h : ℕ} {b d : Bool} →
       shapeOf s ≡ shape (gate c j) →
       u ≡ N.unchecked c j →
       b ≡ isClass Owned (classOf (s .class)) →
@@ -102,8 +102,9 @@ module _ {c : List ℕ} {j : ℕ} {t : Totals} (was : Totalled c j t) where
       o ≡ cond d 1 0 →
       w ≡ overRounds (shapeWords (shapeOf s)) (classRounds u (classOf (s .class))) →
       k ≡ overRounds (coefficientsIn u) (classRounds u (classOf (s .class))) →
-      Totalled c (j + 1) (record { prep = t .prep + s .prep; openings = t .openings + s .openings; ins = t .ins + a; outs = t .outs + o; words = t .words + w; coefficients = t .coefficients + k })
-  totals-more s said left isin one isout two sent taken =
+      h ≡ overRounds commitsIn (classRounds u (classOf (s .class))) →
+      Totalled c (j + 1) (record { prep = t .prep + s .prep; openings = t .openings + s .openings; ins = t .ins + a; outs = t .outs + o; words = t .words + w; coefficients = t .coefficients + k; checks = t .checks + h })
+  totals-more s said left isin one isout two sent taken made =
       let same : classOf (s .class) ≡ shape (gate c j) .class = shape-class s (gate c j .kind) said in
       record {
         prep = cc (was .prep, shape-prep s (gate c j .kind) said, prep-more c j);
@@ -112,6 +113,7 @@ module _ {c : List ℕ} {j : ℕ} {t : Totals} (was : Totalled c j t) where
         outs = cc (was .outs, count-more isOut c j);
         words = cc (was .words, words-more c j);
         coefficients = cc (was .coefficients, coefficients-more c j);
+        checks = cc (was .checks, checks-more c j);
       }
 
   pub totals-kept : (s : Shape) → shapeOf s ≡ shape (gate c j) → isClass Local (classOf (s .class)) ≡ true → Totalled c (j + 1) t
@@ -122,6 +124,7 @@ module _ {c : List ℕ} {j : ℕ} {t : Totals} (was : Totalled c j t) where
       let no-out : _≡_ {A = ℕ} (cond (isOut (gate c j)) 1 0) 0 = rw (q .no-out) in
       let no-words : overRounds (shapeWords (shape (gate c j))) (classRounds (N.unchecked c j) (shape (gate c j) .class)) ≡ 0 = rw k (words-local _ _) in
       let no-coefficients : overRounds (coefficientsIn (N.unchecked c j)) (classRounds (N.unchecked c j) (shape (gate c j) .class)) ≡ 0 = rw k (coefficients-local _) in
+      let no-checks : overRounds commitsIn (classRounds (N.unchecked c j) (shape (gate c j) .class)) ≡ 0 = checks-valued _ _ (q .no-out) in
       record {
         prep = omega (arith, was .prep, prep-more c j, q .prep);
         openings = omega (arith, was .openings, openings-more c j, q .openings);
@@ -129,4 +132,5 @@ module _ {c : List ℕ} {j : ℕ} {t : Totals} (was : Totalled c j t) where
         outs = omega (arith, was .outs, count-more isOut c j, no-out);
         words = omega (arith, was .words, words-more c j, no-words);
         coefficients = omega (arith, was .coefficients, coefficients-more c j, no-coefficients);
+        checks = omega (arith, was .checks, checks-more c j, no-checks);
       }

@@ -81,7 +81,7 @@ pub record Tallied (c : List ℕ) (i j : ℕ) (t : Tally) : Type 0 where
   pub inputs : t .inputs ≡ inputAt c i j
 
 -- what a run of the gates before j takes: the numbers of a party's preprocessing, the opened entries, its in and out gates, the words of a
--- party and the coefficients
+-- party, the coefficients and the checks
 pub record Totalled (c : List ℕ) (j : ℕ) (t : Totals) : Type 0 where
   pub prep : t .prep ≡ prepAt c j
   pub openings : t .openings ≡ total (λ g. K.shape g .openings) c j
@@ -89,3 +89,4 @@ pub record Totalled (c : List ℕ) (j : ℕ) (t : Totals) : Type 0 where
   pub outs : t .outs ≡ count K.isOut c j
   pub words : t .words ≡ R.overRun (λ i r. R.words (G.gate c i) r) c j
   pub coefficients : t .coefficients ≡ R.overRun (λ i r. R.coefficientsIn (unchecked c i) r) c j
+  pub checks : t .checks ≡ R.overRun (λ i r. R.commitsIn r) c j

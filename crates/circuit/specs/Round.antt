@@ -66,13 +66,20 @@ unfoldable pub following : Round → List Round → List Round
 following r [] = []
 following r (s ∷ rs) = cond (eqb (roundNumber r) (roundNumber s)) rs (following r rs)
 
--- a commitment is one word, the mark
+-- "The seal's words become the eight 32-bit words of SHA-256": a mark
 abbrev pub commitWords : ℕ
-commitWords = 1
+commitWords = 8
 
--- and a reveal one word, the check share
+-- "a 32-byte nonce handed over at the seal": so many bytes, which are so many words
+abbrev pub nonceSize : ℕ
+nonceSize = 32
+
+abbrev pub nonceWords : ℕ
+nonceWords = 8
+
+-- "The reveal posts the check word and the nonce as eight 32-bit words"
 abbrev pub revealWords : ℕ
-revealWords = 1
+revealWords = 9
 
 -- how many words a party sends in a round: the gate's own, or those of a check
 unfoldable pub shapeWords : Shape → Round → ℕ
@@ -100,6 +107,14 @@ openedIn u (Reveal k) = checked u k
 unfoldable pub coefficientsIn : ℕ → Round → ℕ
 coefficientsIn u r = cond (isCommit r) (openedIn u r) 0
 
+-- a check begins with its commitment
+unfoldable pub commitsIn : Round → ℕ
+commitsIn r = cond (isCommit r) 1 0
+
+-- "a nonce list of any length but 32 at a spoken seal, 0 in any other speaking": the bytes that are handed over
+unfoldable pub nonceIn : Round → ℕ
+nonceIn r = cond (isCommit r) nonceSize 0
+
 -- the sum of f over rounds
 unfoldable pub overRounds : (Round → ℕ) → List Round → ℕ
 overRounds f [] = 0
@@ -110,7 +125,7 @@ unfoldable pub overRun : (ℕ → Round → ℕ) → List ℕ → ℕ → ℕ
 overRun f c zero = 0
 overRun f c (suc j) = overRun f c j + overRounds (f j) (rounds c j)
 
--- what a whole run takes: rounds, words of one party, coefficients
+-- what a whole run takes: rounds, words of one party, coefficients, and how many checks it has
 unfoldable pub roundCount : List ℕ → ℕ
 roundCount c = overRun (λ j r. 1) c (gates c)
 
@@ -119,3 +134,6 @@ wordCount c = overRun (λ j r. words (gate c j) r) c (gates c)
 
 unfoldable pub coefficientCount : List ℕ → ℕ
 coefficientCount c = overRun (λ j r. coefficientsIn (unchecked c j) r) c (gates c)
+
+unfoldable pub checkCount : List ℕ → ℕ
+checkCount c = overRun (λ j r. commitsIn r) c (gates c)

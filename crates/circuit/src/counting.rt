@@ -8,7 +8,7 @@ ghost use mathlib.Core.Bool.{cond};
 ghost use mathlib.Core.List.{List};
 ghost use Prim.Native.Nat.{ℕ, _*_, _≤_};
 ghost use Rattle.circuit.specs.Count.{uncheckedAfter};
-ghost use Rattle.circuit.specs.Round.{shapeWords, coefficientsIn, classRounds, overRounds};
+ghost use Rattle.circuit.specs.Round.{shapeWords, coefficientsIn, commitsIn, classRounds, overRounds};
 ghost use Rattle.circuit.specs.Accept.{mostGates};
 ghost use Rattle.circuit.specs.Code.{classOf, shapeOf, Tallied};
 
@@ -62,6 +62,20 @@ pub fn coefficients_of(s: Shape, unchecked: usize) -> usize
         return unchecked + 1;
     }
     0
+}
+
+// How many checks a gate has.
+pub fn checks_of(s: Shape, unchecked: usize) -> usize
+    ensures { λ r. ⌜ r ≡ overRounds commitsIn (classRounds unchecked (classOf (s .class))) ⌝ }
+{
+    let class = s.class;
+    if !shapes::is_out(class) {
+        return 0;
+    }
+    if unchecked == 0 {
+        return 1;
+    }
+    2
 }
 
 // Nothing is counted yet.

@@ -62,7 +62,7 @@ pub enum Round {
     Reveal(Check),
 }
 
-// What a whole run takes: numbers of a party's preprocessing, opened entries, in gates, outputs, words of one party, coefficients.
+// What a whole run takes: numbers of a party's preprocessing, opened entries, in gates, outputs, words of one party, coefficients, checks.
 pub struct Totals {
     pub prep: usize,
     pub openings: usize,
@@ -70,6 +70,7 @@ pub struct Totals {
     pub outs: usize,
     pub words: usize,
     pub coefficients: usize,
+    pub checks: usize,
 }
 
 // What is counted of the gates before one, for one party.

@@ -5,14 +5,19 @@ use crate::Round;
 use crate::Shape;
 use crate::shapes;
 ghost use mathlib.Core.Path.{_≡_};
-ghost use Rattle.circuit.specs.Round.{isCommit, isReveal, shapeWords, checked, openedIn, coefficientsIn, hasCheck, classRounds, among};
+ghost use Rattle.circuit.specs.Round.{isCommit, isReveal, shapeWords, checked, openedIn, coefficientsIn, nonceIn, hasCheck, classRounds, among};
 ghost use Rattle.circuit.specs.Code.{classOf, checkOf, roundOf, shapeOf};
 
 // Words of a commitment.
-pub const COMMIT_WORDS: usize = 1;
+pub const COMMIT_WORDS: usize = 8;
+
+// Bytes of a nonce, and its words.
+pub const NONCE_SIZE: usize = 32;
+
+pub const NONCE_WORDS: usize = 8;
 
 // Words of a reveal.
-pub const REVEAL_WORDS: usize = 1;
+pub const REVEAL_WORDS: usize = 9;
 
 pub fn is_commit(r: Round) -> bool
     ensures { λ b. ⌜ b ≡ isCommit (roundOf r) ⌝ }
@@ -115,4 +120,14 @@ pub fn has_round(class: Class, unchecked: usize, r: Round) -> bool
             false
         }
     }
+}
+
+// How many bytes of a nonce are handed over in a round.
+pub fn nonce_in(r: Round) -> usize
+    ensures { λ k. ⌜ k ≡ nonceIn (roundOf r) ⌝ }
+{
+    if is_commit(r) {
+        return NONCE_SIZE;
+    }
+    0
 }

@@ -78,6 +78,7 @@ fn total_gate(c: &[Word], j: usize, s: Shape, waiting: usize, t: Totals) -> Tota
         outs: t.outs + counting::one_if(shapes::is_out(class)),
         words: t.words + counting::words_of(s, waiting),
         coefficients: t.coefficients + counting::coefficients_of(s, waiting),
+        checks: t.checks + counting::checks_of(s, waiting),
     }
 }
 
@@ -93,6 +94,7 @@ pub fn totals_before(c: &[Word], count: usize) -> Totals
         outs: 0,
         words: 0,
         coefficients: 0,
+        checks: 0,
     };
     let mut waiting = 0;
     let mut j = 0;

@@ -1,18 +1,18 @@
 -- What acceptance gives: everything that a step asks.
 -- Assumes nothing.
-use Prim.Native.Nat.{ℕ, _<_, _≤_}
+use Prim.Native.Nat.{ℕ, _*_, _<_, _≤_}
 use mathlib.Core.Path.{_≡_, refl}
 use mathlib.Core.Bool.{Bool, true, false, not, _||_}
 use mathlib.Core.List.{List}
 use native.Mathlib.Omega.{arith}
-use lib.ListN.{length}
+use lib.ListN.{length, getD}
 use lib.Dec.{ltb, leb}
 use borrow.Author.Tests.{ltb-true, leb-true, eqb-true}
-use Rattle.circuit.specs.Verdict.{Accepted, _then_}
+use Rattle.circuit.specs.Verdict.{Accepted, ask, _then_}
 use Rattle.circuit.specs.Gate.{gate, gates}
 use Rattle.circuit.specs.Kind.{hasValue}
 use Rattle.circuit.specs.Count.{prepSize, capacity, inputCount, unchecked}
-use Rattle.circuit.specs.Round.{Check, First, Second, Round, Own, Open, Commit, Reveal, rounds, among, checked, openedIn}
+use Rattle.circuit.specs.Round.{Check, First, Second, Round, Own, Open, Commit, Reveal, revealWords, rounds, among, checked, openedIn}
 use Rattle.circuit.specs.Accept.{askCircuit}
 use Rattle.circuit.specs.Valid.{Valid}
 use Rattle.circuit.proofs.Tests.{false-no, both-left, both-right}
@@ -24,10 +24,10 @@ use Rattle.protocol.specs.Position.{Position, stageOccurs, occurs}
 use Rattle.protocol.specs.Party.{Party}
 use Rattle.protocol.specs.Holding.{Below, Worked, Opened}
 use Rattle.protocol.specs.Code.{Sited, layoutOf}
-use Rattle.protocol.specs.Ready.{Ready, Sends, Receives}
+use Rattle.protocol.specs.Ready.{Ready, Sends, Receives, HeardLow}
 use Rattle.protocol.specs.declared.Layout.{Layout}
 use Rattle.protocol.specs.declared.Site.{Site}
-use Rattle.protocol.specs.Ask.{fewestParties, mostParties, askParties, slotQuestion, askSlots, askWorked, askSendRound, askReceiveRound, askLent}
+use Rattle.protocol.specs.Ask.{fewestParties, mostParties, askParties, slotQuestion, askSlots, askWorked, askSendRound, askReceiveRound, askHeard, askLent}
 
 -- what 1 to 12 make sure of, in a field of q elements
 pub record Lends (q : ℕ) (P : Party) (l : List ℕ) : Type 0 where
@@ -38,7 +38,7 @@ pub record Lends (q : ℕ) (P : Party) (l : List ℕ) : Type 0 where
   pub prep-low : Below q (P .prep)
   pub inputs-long : length (P .inputs) ≡ inputCount (P .circuit) (P .me)
   pub inputs-low : Below q (P .inputs)
-  pub room : scratchSize (layout (P .circuit)) ≤ length l
+  pub room : scratchSize (P .parties) (P .circuit) ≤ length l
 
 pub lends : {q : ℕ} → 0 < q → (P : Party) (l : List ℕ) → askLent q P l ≡ Accepted → Lends q P l
 unfolding askLent
@@ -151,14 +151,18 @@ module _ {q : ℕ} (some : 0 < q) (P : Party) (l : List ℕ) (y : Layout) (at : 
         opened = opened-low q (P .circuit) l (at .gate) r e (entries-fit (P .circuit) (at .gate) r (sited .within));
       }
 
-  pub sends : (held : ℕ) (coefficients : List ℕ) (room : ℕ) → askSendRound q (P .circuit) l (at .gate) coefficients room r ≡ Accepted → Sends q P l y at r held coefficients room
+  pub sends : (held : ℕ) (coefficients nonce : List ℕ) (room : ℕ) → askSendRound q (P .circuit) l (at .gate) coefficients nonce room r ≡ Accepted → Sends q P l y at r held coefficients nonce room
   unfolding askSendRound
-  sends held coefficients room e =
+  sends held coefficients nonce room e =
+      let after-15 = then-right _ _ e in
+      let after-16 = then-right _ _ after-15 in
+      let after-17 = then-right _ _ after-16 in
       record {
         ready = ready (then-left _ _ e);
-        coefficient-count = eqb-true _ _ (ask-true 16 0 _ (then-left _ _ (then-right _ _ e)));
-        coefficients-low = elements-below 17 q coefficients some (then-left _ _ (then-right _ _ (then-right _ _ e)));
-        space = leb-true _ _ (ask-true 18 0 _ (then-right _ _ (then-right _ _ (then-right _ _ e))));
+        coefficient-count = eqb-true _ _ (ask-true 16 0 _ (then-left _ _ after-15));
+        coefficients-low = elements-below 17 q coefficients some (then-left _ _ after-16);
+        nonce-long = eqb-true _ _ (ask-true 25 0 _ (then-left _ _ after-17));
+        space = leb-true _ _ (ask-true 18 0 _ (then-right _ _ after-17));
       }
 
   pub receives : (heard : List ℕ) → askReceiveRound q (P .circuit) (P .parties) l (at .gate) heard r ≡ Accepted → Receives q P l y at r heard
@@ -167,5 +171,13 @@ module _ {q : ℕ} (some : 0 < q) (P : Party) (l : List ℕ) (y : Layout) (at : 
       record {
         ready = ready (then-left _ _ e);
         whole = eqb-true _ _ (ask-true 19 0 _ (then-left _ _ (then-right _ _ e)));
-        heard-low = elements-below 20 q heard some (then-left _ _ (then-right _ _ (then-right _ _ e)));
+        heard-low = low r (then-right _ _ (then-right _ _ e));
       }
+    where
+      low : (r : Round) → askHeard q (P .parties) r heard ≡ Accepted → HeardLow q (P .parties) r heard
+      low Own h = elements-below 20 q heard some h
+      low Open h = elements-below 20 q heard some h
+      low (Commit k) h = tt
+      low (Reveal k) h =
+          λ i lt.
+          ltb-true _ _ (ask-true 20 _ _ (each-below (λ (i : ℕ). ask 20 (i * revealWords) (ltb (getD heard (i * revealWords) 0) q)) (P .parties) h i lt))

@@ -1,5 +1,6 @@
 -- What a reader will ask of the answers of a party's entries: an ended run is refused by both halves, an output is released exactly by a
--- passing second check of its own gate, and a run is stopped exactly by revealed words that do not sum to zero.
+-- passing second check of its own gate, and a run is stopped exactly by a reveal that does not fit its mark or by check shares that do not sum to
+-- zero.
 -- Assumes nothing.
 use Prim.Native.Nat.{ℕ}
 use mathlib.Core.Path.{_≡_, refl, sym, ap, _∙_}
@@ -7,18 +8,20 @@ use mathlib.Core.Logic.{_↔_}
 use mathlib.Core.Bool.{Bool, true, false, cond}
 use mathlib.Core.List.{List}
 use native.Mathlib.Omega.{arith}
+use lib.Dec.{eqb}
+use borrow.Author.Tests.{eqb-true, eqb-false}
 use Rattle.algebra.specs.Ops.{Ops}
 use Rattle.circuit.specs.Verdict.{Verdict, Accepted, Refused, ask, _then_}
 use Rattle.circuit.specs.Round.{First, Second, Round, Own, Open, Commit, Reveal, isReveal, revealWords}
 use Rattle.circuit.proofs.Tests.{false-no}
 use Rattle.circuit.proofs.Verdicts.{refused-no, ask-true, then-left, then-right}
-use Rattle.protocol.specs.Scratch.{layout, read, Value}
+use Rattle.protocol.specs.Scratch.{layout, read, Value, marksOf}
 use Rattle.protocol.specs.Position.{Position, Stage, Send, Receive, Finished, Aborted, holding, aborted, follow, keep, occurs, whenSending, whenReceiving}
 use Rattle.protocol.specs.Party.{Party}
-use Rattle.protocol.specs.Receive.{heardSum, passes, next}
-use Rattle.protocol.proofs.Following.{passes-zero, passes-not, zero-passed, nonzero-stopped, aborted-holds}
+use Rattle.protocol.specs.Receive.{Blame, Nobody, Blames, Ruling, Passed, Stopped, passed, misfit, weighs, heardSum, ruling, next, finds}
+use Rattle.protocol.proofs.Following.{ruling-reveals, ruling-fits, ruling-blames, weighs-zero, weighs-not, aborted-holds}
 use Rattle.protocol.specs.Ask.{askLent, askSend, askReceive}
-use Rattle.protocol.specs.Entry.{Answer, Refusal, Next, Output, Abort, answer, releases, sendAnswer, receiveAnswer, outcome, nextPosition}
+use Rattle.protocol.specs.Entry.{Answer, Refusal, Next, Output, Abort, answer, releases, sendAnswer, receiveAnswer, concludes, outcome, nextPosition}
 use Rattle.protocol.proofs.Entries.{refused-answer, accepted-answer, receiving-at, half-decides}
 
 -- an answer that is no refusal is that of an accepted call
@@ -50,17 +53,31 @@ unfolding whenReceiving
 ended-receiving finished other f = refl
 ended-receiving stopped other f = refl
 
--- an outcome, by whether the round passes and whether it releases
-output-only : (b d : Bool) (w : ℕ) (y : Position) {v : ℕ} {x : Position} → cond b (cond d (Output w y) (Next y)) (Abort y) ≡ Output v x
-    → (b ≡ true) × (d ≡ true) × (w ≡ v) × (y ≡ x)
-output-only true true w y h = (refl, refl, cc, cc)
-output-only true false w y h = let z : _≡_ {A = ℕ} 0 1 = cc in absurd (omega arith)
-output-only false d w y h = let z : _≡_ {A = ℕ} 0 1 = cc in absurd (omega arith)
+-- what a round that ends so leads to
+output-only : (O : Ops) (P : Party) (w j held : ℕ) (r : Round) (u : Ruling) {v : ℕ} {x : Position} → concludes O P w j held r u ≡ Output v x
+    → (u ≡ Passed) × (releases r ≡ true) × (w ≡ v) × (nextPosition O P j held r Passed ≡ x)
+unfolding concludes
+output-only O P w j held r Passed {v} {x} h = go (releases r) refl h
+  where
+    go : (d : Bool) → releases r ≡ d
+        → cond d (Output w (nextPosition O P j held r Passed)) (Next (nextPosition O P j held r Passed)) ≡ Output v x
+        → (Passed ≡ Passed) × (releases r ≡ true) × (w ≡ v) × (nextPosition O P j held r Passed ≡ x)
+    go true e h = (refl, e, cc, cc)
+    go false e h = let z : _≡_ {A = ℕ} 0 1 = cc in absurd (omega arith)
+output-only O P w j held r (Stopped b) h = let z : _≡_ {A = ℕ} 0 1 = cc in absurd (omega arith)
 
-abort-only : (b d : Bool) (w : ℕ) (y : Position) {x : Position} → cond b (cond d (Output w y) (Next y)) (Abort y) ≡ Abort x → (b ≡ false) × (y ≡ x)
-abort-only true true w y h = let z : _≡_ {A = ℕ} 0 1 = cc in absurd (omega arith)
-abort-only true false w y h = let z : _≡_ {A = ℕ} 0 1 = cc in absurd (omega arith)
-abort-only false d w y h = (refl, cc)
+abort-only : (O : Ops) (P : Party) (w j held : ℕ) (r : Round) (u : Ruling) {b : Blame} {x : Position} → concludes O P w j held r u ≡ Abort b x
+    → (u ≡ Stopped b) × (nextPosition O P j held r (Stopped b) ≡ x)
+unfolding concludes
+abort-only O P w j held r Passed {b} {x} h = go (releases r) h
+  where
+    go : (d : Bool) → cond d (Output w (nextPosition O P j held r Passed)) (Next (nextPosition O P j held r Passed)) ≡ Abort b x
+        → (Passed ≡ Stopped b) × (nextPosition O P j held r (Stopped b) ≡ x)
+    go true h = let z : _≡_ {A = ℕ} 0 1 = cc in absurd (omega arith)
+    go false h = let z : _≡_ {A = ℕ} 0 1 = cc in absurd (omega arith)
+abort-only O P w j held r (Stopped a) {b} {x} h =
+    let same : a ≡ b = cc in
+    (ap Stopped same, ap (λ (z : Blame). nextPosition O P j held r (Stopped z)) (sym same) ∙ (let e : nextPosition O P j held r (Stopped a) ≡ x = cc in e))
 
 -- only the second check's reveal releases
 release-second : (r : Round) → releases r ≡ true → r ≡ (Reveal Second)
@@ -78,40 +95,45 @@ module _ (O : Ops) (P : Party) (l : List ℕ) (at : Position) where
     half : (v : Verdict) → (askLent size P l then ask 13 0 (occurs size (P .circuit) at) then v) ≡ v
     half v = sym (half-decides size P l at v (then-left _ _ ok) (ask-true 13 0 _ (then-right (askLent size P l) _ ok)) refl)
 
-    pub ended-send-refused : (coefficients : List ℕ) (room : ℕ) → sendAnswer O P l at coefficients room ≡ Refusal 14 0
+    pub ended-send-refused : (coefficients nonce : List ℕ) (room : ℕ) → sendAnswer O P l at coefficients nonce room ≡ Refusal 14 0
     unfolding sendAnswer askSend
-    ended-send-refused coefficients room = sym (refused-answer _ (half _ ∙ ended-sending ended _ _))
+    ended-send-refused coefficients nonce room = sym (refused-answer _ (half _ ∙ ended-sending ended _ _))
 
     pub ended-receive-refused : (heard : List ℕ) → receiveAnswer O P l at heard ≡ Refusal 14 0
     unfolding receiveAnswer askReceive
     ended-receive-refused heard = sym (refused-answer _ (half _ ∙ ended-receiving ended _ _))
 
   module _ (heard : List ℕ) where
-    -- the sum of the revealed words
-    abbrev pub revealed : ℕ
-    revealed = heardSum O (P .parties) revealWords 0 heard
+    -- the sum of the revealed check shares, and the lowest party whose reveal does not fit the mark in this party's scratch
+    abbrev pub revealedSum : ℕ
+    revealedSum = heardSum O (P .parties) revealWords 0 heard
 
-    -- where the position goes from round r
-    abbrev goesTo : Round → Position
-    goesTo r = nextPosition O P (at .gate) (at .held) heard r
+    abbrev pub misfitting : Blame
+    misfitting = misfit (P .parties) (marksOf (P .parties) (layout (P .circuit)) l) heard
 
     -- "Passing the second check releases the sum as the score": no question refuses, the round is the second reveal of the position's gate,
-    -- its words sum to zero, v is the number at opened index 0, and x is the position that follows the gate
+    -- every reveal fits its mark, the check shares sum to zero, v is the number at opened index 0, and x is the position that follows the gate
     pub record Releases (v : ℕ) (x : Position) : Type 0 where
       pub accepts : askReceive size P l at heard ≡ Accepted
       pub second-reveal : at .stage ≡ Receive (Reveal Second)
-      pub zero-sum : revealed ≡ 0
+      pub all-fit : misfitting ≡ Nobody
+      pub zero-sum : revealedSum ≡ 0
       pub output : v ≡ read (layout (P .circuit)) l (Value 0)
       pub position : x ≡ holding (follow (P .circuit) (at .gate) (Reveal Second)) 0
 
-    -- "else the run is stopped": no question refuses, the round is a reveal, its words do not sum to zero, and x is stopped at the
-    -- position's gate
-    pub record Stops (x : Position) : Type 0 where
+    -- why a reveal stops a run: "A reveal whose hash is not the mark written for its seat stops the run before the sum is asked, naming the lowest
+    -- such seat"; "else the sum alone decides"
+    abbrev pub Because : Blame → Type 0
+    Because (Blames i) = misfitting ≡ Blames i
+    Because Nobody = (misfitting ≡ Nobody) × (revealedSum ≡ 0 → ⊥)
+
+    -- "else the run is stopped": no question refuses, the round is a reveal, b is named for that reason, and x is stopped at the position's gate
+    pub record Stops (b : Blame) (x : Position) : Type 0 where
       pub accepts : askReceive size P l at heard ≡ Accepted
       pub round : Round
       pub receives : at .stage ≡ Receive round
       pub reveals : isReveal round ≡ true
-      pub nonzero : revealed ≡ 0 → ⊥
+      pub because : Because b
       pub position : x ≡ record { gate = at .gate; stage = Aborted; held = 0 }
 
     -- an accepted receiving of a round has the round's outcome
@@ -129,60 +151,98 @@ module _ (O : Ops) (P : Party) (l : List ℕ) (at : Position) where
         let (r, e) = receives-at (at .stage) _ (then-right _ _ (then-right _ _ ok)) in
         (r, e, ok, sym (receives-outcome ok r e) ∙ h)
 
-    -- the position after a second check that passes, and after a round that does not
-    goes-on : passes O (P .parties) (Reveal Second) heard ≡ true → goesTo (Reveal Second) ≡ holding (follow (P .circuit) (at .gate) (Reveal Second)) 0
-    unfolding nextPosition next keep
-    goes-on e = rw e
+    -- a reveal passes exactly if all fit and the sum is zero, and stops exactly for one of the reasons
+    weighed : (b : Blame) (z : ℕ) → weighs b (eqb z 0) ≡ Passed → (b ≡ Nobody) × (z ≡ 0)
+    weighed (Blames i) z e = let w : _≡_ {A = ℕ} 0 1 = cc in absurd (omega arith)
+    weighed Nobody z e = go (eqb z 0) refl e
+      where
+        go : (t : Bool) → eqb z 0 ≡ t → weighs Nobody t ≡ Passed → (Nobody ≡ Nobody) × (z ≡ 0)
+        go true q e = (refl, eqb-true z 0 q)
+        go false q e = let w : _≡_ {A = ℕ} 0 1 = cc in absurd (omega arith)
 
-    goes-nowhere : (r : Round) → passes O (P .parties) r heard ≡ false → goesTo r ≡ record { gate = at .gate; stage = Aborted; held = 0 }
+    passed-found : (r : Round) → isReveal r ≡ true → finds O P l r heard ≡ Passed → (misfitting ≡ Nobody) × (revealedSum ≡ 0)
+    unfolding finds ruling
+    passed-found r e h = weighed misfitting revealedSum (rw e at h)
+
+    stopped-found : (r : Round) (b : Blame) → isReveal r ≡ true → finds O P l r heard ≡ Stopped b → Because b
+    unfolding finds ruling
+    stopped-found r b e h = go misfitting (eqb revealedSum 0) refl refl b (rw e at h)
+      where
+        go : (m : Blame) (t : Bool) → misfitting ≡ m → eqb revealedSum 0 ≡ t → (b : Blame) → weighs m t ≡ Stopped b → Because b
+        go (Blames i) t q w (Blames k) e = q ∙ (let same : i ≡ k = cc in ap Blames same)
+        go (Blames i) t q w Nobody e = let z : _≡_ {A = ℕ} 0 1 = cc in absurd (omega arith)
+        go Nobody true q w b e = let z : _≡_ {A = ℕ} 0 1 = cc in absurd (omega arith)
+        go Nobody false q w (Blames k) e = let z : _≡_ {A = ℕ} 0 1 = cc in absurd (omega arith)
+        go Nobody false q w Nobody e = (q, eqb-false revealedSum 0 w)
+
+    found-passed : (r : Round) → isReveal r ≡ true → misfitting ≡ Nobody → revealedSum ≡ 0 → finds O P l r heard ≡ Passed
+    unfolding finds
+    found-passed r e m z = ruling-fits O (P .parties) _ heard r e m ∙ weighs-zero revealedSum z
+
+    found-stopped : (r : Round) (b : Blame) → isReveal r ≡ true → Because b → finds O P l r heard ≡ Stopped b
+    unfolding finds
+    found-stopped r (Blames i) e h = ruling-blames O (P .parties) _ heard r i e h
+    found-stopped r Nobody e h = ruling-fits O (P .parties) _ heard r e (h .0) ∙ weighs-not revealedSum (h .1)
+
+    -- the position after a second check that passes, and after a round that does not
+    goes-on : nextPosition O P (at .gate) (at .held) (Reveal Second) Passed ≡ holding (follow (P .circuit) (at .gate) (Reveal Second)) 0
+    unfolding nextPosition next keep
+    goes-on = refl
+
+    goes-nowhere : (r : Round) (b : Blame) → isReveal r ≡ true
+        → nextPosition O P (at .gate) (at .held) r (Stopped b) ≡ record { gate = at .gate; stage = Aborted; held = 0 }
     unfolding nextPosition next keep holding aborted
-    goes-nowhere r e = rw (e, ← aborted-holds (P .circuit) O (P .parties) (at .gate) heard r e)
+    goes-nowhere r b e = rw (← aborted-holds (P .circuit) (at .gate) (Stopped b) r (λ z. e) refl)
+
+    found-reveals : (r : Round) (b : Blame) → finds O P l r heard ≡ Stopped b → isReveal r ≡ true
+    unfolding finds
+    found-reveals r b h = ruling-reveals O (P .parties) _ heard r (ap passed h)
 
     -- "no score is released before its own check"
     pub output-exactly : (v : ℕ) (x : Position) → (receiveAnswer O P l at heard ≡ Output v x) ↔ Releases v x
-    unfolding outcome
+    unfolding outcome concludes
     output-exactly v x = (there, back)
       where
         there : receiveAnswer O P l at heard ≡ Output v x → Releases v x
         there h =
             let (r, e, ok, is) = outcome-of h (λ number index q. let z : _≡_ {A = ℕ} 0 1 = cc in omega arith) in
-            let (passed, released, v-is, x-is) = output-only (passes O (P .parties) r heard) (releases r) _ _ is in
+            let (found, released, v-is, x-is) = output-only O P _ (at .gate) (at .held) r (finds O P l r heard) is in
             let second = release-second r released in
-            let p : passes O (P .parties) (Reveal Second) heard ≡ true = ap (λ (r : Round). passes O (P .parties) r heard) (sym second) ∙ passed in
+            let (fit, zero) = passed-found (Reveal Second) refl (ap (λ (r : Round). finds O P l r heard) (sym second) ∙ found) in
             record {
               accepts = ok;
               second-reveal = e ∙ ap Receive second;
-              zero-sum = zero-passed O (P .parties) heard (Reveal Second) refl p;
+              all-fit = fit;
+              zero-sum = zero;
               output = sym v-is;
-              position = sym x-is ∙ ap goesTo second ∙ goes-on p;
+              position = sym x-is ∙ ap (λ (r : Round). nextPosition O P (at .gate) (at .held) r Passed) second ∙ goes-on;
             }
 
         back : Releases v x → receiveAnswer O P l at heard ≡ Output v x
         back h =
-            let p = passes-zero O (P .parties) heard (Reveal Second) refl refl (h .zero-sum) in
             receives-outcome (h .accepts) (Reveal Second) (h .second-reveal)
-            ∙ rw (p, goes-on p, h .output, h .position)
+            ∙ rw (found-passed (Reveal Second) refl (h .all-fit) (h .zero-sum), goes-on, h .output, h .position)
 
-    -- "A check stops a run exactly if the revealed words do not sum to zero"
-    pub abort-exactly : (x : Position) → (receiveAnswer O P l at heard ≡ Abort x) ↔ Stops x
-    unfolding outcome
-    abort-exactly x = (there, back)
+    -- "A reveal whose hash is not the mark written for its seat stops the run before the sum is asked ..; else the sum alone decides"
+    pub abort-exactly : (b : Blame) (x : Position) → (receiveAnswer O P l at heard ≡ Abort b x) ↔ Stops b x
+    unfolding outcome concludes
+    abort-exactly b x = (there, back)
       where
-        there : receiveAnswer O P l at heard ≡ Abort x → Stops x
+        there : receiveAnswer O P l at heard ≡ Abort b x → Stops b x
         there h =
             let (r, e, ok, is) = outcome-of h (λ number index q. let z : _≡_ {A = ℕ} 0 1 = cc in omega arith) in
-            let (failed, x-is) = abort-only (passes O (P .parties) r heard) (releases r) _ _ is in
-            let (reveals, nonzero) = nonzero-stopped O (P .parties) heard r failed in
+            let (found, x-is) = abort-only O P _ (at .gate) (at .held) r (finds O P l r heard) is in
+            let reveals = found-reveals r b found in
             record {
               accepts = ok;
               round = r;
               receives = e;
               reveals = reveals;
-              nonzero = nonzero;
-              position = sym x-is ∙ goes-nowhere r failed;
+              because = stopped-found r b reveals found;
+              position = sym x-is ∙ goes-nowhere r b reveals;
             }
 
-        back : Stops x → receiveAnswer O P l at heard ≡ Abort x
+        back : Stops b x → receiveAnswer O P l at heard ≡ Abort b x
         back h =
-            let f = passes-not O (P .parties) heard (h .round) (h .reveals) refl (h .nonzero) in
-            receives-outcome (h .accepts) (h .round) (h .receives) ∙ rw (f, goes-nowhere (h .round) f, h .position)
+            receives-outcome (h .accepts) (h .round) (h .receives)
+            ∙ rw (found-stopped (h .round) b (h .reveals) (h .because), goes-nowhere (h .round) b (h .reveals), h .position)

@@ -8,7 +8,8 @@ use native.Mathlib.Nat.{mul-le-mul-right, suc-mul}
 use native.Mathlib.Omega.{arith}
 use lib.ListN.{length, drop, length-drop, take-append-drop}
 use lib.Seq.{take-all, take-append-le, drop-append-le, drop-at, drop-drop}
-use Rattle.protocol.specs.Joint.{joined, band}
+use Rattle.protocol.specs.Scratch.{band}
+use Rattle.protocol.specs.Joint.{joined}
 use Rattle.protocol.proofs.Words.{length-joined}
 
 -- The end of a party's part lies within the whole.

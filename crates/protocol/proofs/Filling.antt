@@ -9,7 +9,8 @@ use native.Mathlib.Omega.{arith}
 use lib.ListN.{length, take, drop, length-append, length-drop}
 use lib.Seq.{take-at, drop-at, drop-drop}
 use borrow.Rule.Slice.PartMut.{putMid}
-use Rattle.protocol.specs.Joint.{joined, band}
+use Rattle.protocol.specs.Scratch.{band}
+use Rattle.protocol.specs.Joint.{joined}
 use Rattle.protocol.proofs.Words.{length-joined}
 use Rattle.protocol.proofs.Bands.{band-end}
 

@@ -1,7 +1,7 @@
 -- What follows a round: which gates have it, which round or gate comes next, and that every point so reached can occur.
 -- Assumes nothing.
 use Prim.Native.Nat.{ℕ, zero, suc, _-_, _<_, _≤_}
-use mathlib.Core.Path.{_≡_, refl, sym, _∙_}
+use mathlib.Core.Path.{_≡_, refl, sym, ap, _∙_}
 use mathlib.Core.Bool.{Bool, true, false, cond}
 use mathlib.Core.List.{List, [], _∷_}
 use native.Mathlib.Omega.{arith}
@@ -19,7 +19,7 @@ use Rattle.circuit.proofs.Counts.{unchecked-valued}
 use Rattle.circuit.proofs.Gates.{gate-zero}
 use Rattle.circuit.proofs.RoundLaws.{Has, after, is-among, class-at-round, after-round}
 use Rattle.protocol.specs.Position.{Send, Point, finished, aborted, begin, reach, enter, resume, start, proceed, follow, stageOccurs, mayHold}
-use Rattle.protocol.specs.Receive.{heardSum, passes, next}
+use Rattle.protocol.specs.Receive.{Nobody, Blames, Ruling, Passed, Stopped, passed, misfit, weighs, heardSum, ruling, next}
 
 -- what follows a check, and each round, that stops no run
 abbrev pub followedCheck : List ℕ → ℕ → Check → Point
@@ -57,28 +57,32 @@ module _ (c : List ℕ) (j : ℕ) where
       go (Reveal First) = refl
       go (Reveal Second) = refl
 
-module _ (O : Ops) (n : ℕ) (heard : List ℕ) where
-  -- a reveal stops a run unless the words sum to zero, and no other round does
-  pub passes-zero : (r : Round) {v : ℕ} → isReveal r ≡ true → v ≡ heardSum O n revealWords 0 heard → v ≡ 0 → passes O n r heard ≡ true
-  unfolding passes
-  passes-zero r e s z = rw e (eq-eqb _ _ (sym s ∙ z))
+module _ (O : Ops) (n : ℕ) (marks heard : List ℕ) where
+  -- no round but a reveal stops a run
+  pub ruling-other : (r : Round) → isReveal r ≡ false → ruling O n r marks heard ≡ Passed
+  unfolding ruling
+  ruling-other r e = rw e
 
-  pub passes-not : (r : Round) {v : ℕ} → isReveal r ≡ true → v ≡ heardSum O n revealWords 0 heard → (v ≡ 0 → ⊥) → passes O n r heard ≡ false
-  unfolding passes
-  passes-not r e s z = rw e (ne-eqb _ _ (λ h. z (s ∙ h)))
+  pub ruling-reveals : (r : Round) → passed (ruling O n r marks heard) ≡ false → isReveal r ≡ true
+  ruling-reveals r h = by-cases (isReveal r) (λ e. e) (λ e. false-no (sym h ∙ ap passed (ruling-other r e)))
 
-  pub passes-other : (r : Round) → isReveal r ≡ false → passes O n r heard ≡ true
-  unfolding passes
-  passes-other r e = rw e
+  -- a reveal of which all parties' words fit their marks is decided by the sum alone
+  pub ruling-fits : (r : Round) → isReveal r ≡ true → misfit n marks heard ≡ Nobody
+      → ruling O n r marks heard ≡ weighs Nobody (eqb (heardSum O n revealWords 0 heard) 0)
+  unfolding ruling
+  ruling-fits r e m = rw (e, m)
 
-  -- so a reveal that passes has a zero sum, and a round that does not pass is a reveal whose sum is not zero
-  pub zero-passed : (r : Round) → isReveal r ≡ true → passes O n r heard ≡ true → heardSum O n revealWords 0 heard ≡ 0
-  unfolding passes
-  zero-passed r e h = eqb-true _ 0 (rw e at h)
+  -- and one of which some do not names the lowest of these parties
+  pub ruling-blames : (r : Round) (i : ℕ) → isReveal r ≡ true → misfit n marks heard ≡ Blames i → ruling O n r marks heard ≡ Stopped (Blames i)
+  unfolding ruling
+  ruling-blames r i e m = rw (e, m)
 
-  pub nonzero-stopped : (r : Round) → passes O n r heard ≡ false → (isReveal r ≡ true) × (heardSum O n revealWords 0 heard ≡ 0 → ⊥)
-  nonzero-stopped r h =
-      by-cases (isReveal r) (λ e. (e, λ z. false-no (sym h ∙ passes-zero r e refl z))) (λ e. false-no (sym h ∙ passes-other r e))
+-- a sum decides by whether it is zero
+pub weighs-zero : (v : ℕ) → v ≡ 0 → weighs Nobody (eqb v 0) ≡ Passed
+weighs-zero v e = rw (eq-eqb v 0 e)
+
+pub weighs-not : (v : ℕ) → (v ≡ 0 → ⊥) → weighs Nobody (eqb v 0) ≡ Stopped Nobody
+weighs-not v e = rw (ne-eqb v 0 e)
 
 -- linear gates open nothing
 linear-unchecked : (g : Gate) (u : ℕ) → isLinear g ≡ true → uncheckedAfter (shape g) u ≡ u
@@ -174,52 +178,52 @@ module _ (c : List ℕ) where
   followed-holds j (Reveal First) = refl
   followed-holds j (Reveal Second) = resume-free (suc j)
 
-  module _ (O : Ops) (n j : ℕ) (heard : List ℕ) where
-    aborted-possible : (r : Round) → among r (rounds c j) ≡ true → passes O n r heard ≡ false → j < gates c → Possible (aborted j)
-    unfolding passes aborted stageOccurs isClass
-    aborted-possible Own e z h = false-no (sym z)
-    aborted-possible Open e z h = false-no (sym z)
-    aborted-possible (Commit k) e z h = false-no (sym z)
-    aborted-possible (Reveal k) e z h =
-        record { within = h; occurs = output-has j (class-at-round c j (Reveal k) e) (Reveal Second) refl }
+  module _ (j : ℕ) (v : Ruling) where
+    aborted-possible : (r : Round) → among r (rounds c j) ≡ true → (passed v ≡ false → isReveal r ≡ true) → passed v ≡ false → j < gates c → Possible (aborted j)
+    unfolding aborted stageOccurs isClass
+    aborted-possible Own e k z h = false-no (k z)
+    aborted-possible Open e k z h = false-no (k z)
+    aborted-possible (Commit t) e k z h = false-no (k z)
+    aborted-possible (Reveal t) e k z h =
+        record { within = h; occurs = output-has j (class-at-round c j (Reveal t) e) (Reveal Second) refl }
 
     -- a check share is held after a commitment alone, so a commitment is followed by its reveal or by nothing
-    pub aborted-holds : (r : Round) → passes O n r heard ≡ false → false ≡ isCommit r
-    unfolding passes
-    aborted-holds Own z = refl
-    aborted-holds Open z = refl
-    aborted-holds (Commit k) z = false-no (sym z)
-    aborted-holds (Reveal k) z = refl
+    pub aborted-holds : (r : Round) → (passed v ≡ false → isReveal r ≡ true) → passed v ≡ false → false ≡ isCommit r
+    aborted-holds Own k z = refl
+    aborted-holds Open k z = refl
+    aborted-holds (Commit t) k z = false-no (k z)
+    aborted-holds (Reveal t) k z = refl
 
-    pub next-stops : (r : Round) → passes O n r heard ≡ false → {x : Point} → x ≡ aborted j → x ≡ next O n c j r heard
+    pub next-stops : (r : Round) → passed v ≡ false → {x : Point} → x ≡ aborted j → x ≡ next c j r v
     unfolding next
     next-stops r e d = d ∙ rw e
 
     module _ (r : Round) (has : among r (rounds c j) ≡ true) where
       -- the point after a round, by whether it stops the run
-      pub next-followed : passes O n r heard ≡ true → next O n c j r heard ≡ followed c j r
+      pub next-followed : passed v ≡ true → next c j r v ≡ followed c j r
       unfolding next
       next-followed e = rw e (follow-is c j r has)
 
-      pub next-aborted : passes O n r heard ≡ false → next O n c j r heard ≡ aborted j
+      pub next-aborted : passed v ≡ false → next c j r v ≡ aborted j
       unfolding next
       next-aborted e = rw e
 
-      pub next-follows : passes O n r heard ≡ true → {x : Point} → x ≡ followed c j r → x ≡ next O n c j r heard
+      pub next-follows : passed v ≡ true → {x : Point} → x ≡ followed c j r → x ≡ next c j r v
       next-follows e d = d ∙ sym (next-followed e)
 
-      -- the point after a round that the gate has can occur
-      pub next-possible : j < gates c → Possible (next O n c j r heard)
-      next-possible h =
-          by-cases (passes O n r heard) (λ z. rw (next-followed z) (followed-possible j r has h))
-          (λ z. rw (next-aborted z) (aborted-possible r has z h))
+      module _ (lawful : passed v ≡ false → isReveal r ≡ true) where
+        -- the point after a round that the gate has can occur
+        pub next-possible : j < gates c → Possible (next c j r v)
+        next-possible h =
+            by-cases (passed v) (λ z. rw (next-followed z) (followed-possible j r has h))
+            (λ z. rw (next-aborted z) (aborted-possible r has lawful z h))
 
-      -- a check share may be held there just where the round was a commitment
-      pub next-holds : mayHold (next O n c j r heard .stage) ≡ isCommit r
-      unfolding mayHold aborted
-      next-holds =
-          by-cases (passes O n r heard) (λ z. rw (next-followed z) (followed-holds j r))
-          (λ z. rw (next-aborted z) (aborted-holds r z))
+        -- a check share may be held there just where the round was a commitment
+        pub next-holds : mayHold (next c j r v .stage) ≡ isCommit r
+        unfolding mayHold aborted
+        next-holds =
+            by-cases (passed v) (λ z. rw (next-followed z) (followed-holds j r))
+            (λ z. rw (next-aborted z) (aborted-holds r lawful z))
 
   -- the first gate of an accepted circuit is an input, where a run starts
   pub start-is : (n q : ℕ) → Valid n q c → start c ≡ record { gate = 0; stage = Send Own }

@@ -1,6 +1,6 @@
 -- The invariant of a run: receiving a round leaves what the next round asks.
 -- Assumes nothing.
-use Prim.Native.Nat.{ℕ, suc, _+_, _-_, _<_, _≤_}
+use Prim.Native.Nat.{ℕ, suc, _+_, _-_, _*_, _<_, _≤_}
 use mathlib.Core.Path.{_≡_, refl, sym, _∙_, subst}
 use mathlib.Core.Logic.{_⊎_, inl, inr}
 use mathlib.Core.Bool.{true, false}
@@ -14,17 +14,20 @@ use Rattle.algebra.proofs.Sums.{sum-lt}
 use Rattle.circuit.specs.Gate.{gate, gates}
 use Rattle.circuit.specs.Kind.{Class, Local, Owned, Opens, Output, shape, isClass}
 use Rattle.circuit.specs.Count.{unchecked}
-use Rattle.circuit.specs.Round.{First, Second, Round, Own, Open, Commit, Reveal, checkRounds, classRounds, rounds, among, openedIn}
+use Rattle.circuit.specs.Round.{First, Second, Round, Own, Open, Commit, Reveal, isCommit, isReveal, checkRounds, classRounds, rounds, among, shapeWords, words, checked, openedIn, nonceIn, nonceSize, nonceWords}
 use Rattle.circuit.specs.Valid.{Valid}
 use Rattle.circuit.proofs.Counts.{unchecked-valued, unchecked-out, unchecked-fits, unchecked-within}
 use Rattle.circuit.proofs.KindLaws.{class-is, owned-no-out, opens-no-out, owned-facts, opens-facts}
 use Rattle.circuit.proofs.Gates.{output-named}
 use Rattle.circuit.proofs.RoundLaws.{class-at-round}
 use Rattle.circuit.proofs.Tests.{false-no, by-cases}
-use Rattle.protocol.specs.Scratch.{layout, scratchSize}
+use Rattle.protocol.specs.Scratch.{layout, slotsSize, scratchSize, putNonce}
+use Rattle.sha256.specs.Sha256.{wordsOf}
+use Rattle.sha256.proofs.Bytes.{length-words}
+use Rattle.protocol.specs.Send.{noted}
 use Rattle.protocol.specs.Position.{Stage, stageOccurs, Send, Receive, Finished, Aborted, Point, finished, aborted, begin, reach, enter, resume}
 use Rattle.protocol.specs.Party.{Party, key}
-use Rattle.protocol.specs.Receive.{heardSum, passes, next, onward, ownReceived, revealed, received}
+use Rattle.protocol.specs.Receive.{Ruling, passed, heardSum, next, onward, ownReceived, checkPassed, received, left}
 use Rattle.protocol.specs.declared.Layout.{Layout}
 use Rattle.protocol.specs.declared.Site.{Site}
 use Rattle.protocol.specs.Holding.{Held, Worked}
@@ -32,6 +35,7 @@ use Rattle.protocol.specs.Code.{Sited}
 use Rattle.protocol.specs.Ready.{Ready, Receives}
 use Rattle.protocol.proofs.Following.{followed, unchecked-reach, next-followed, next-aborted, next-possible}
 use Rattle.protocol.proofs.Writing.{OpenedTo, worked-skip}
+use Rattle.protocol.proofs.Tails.{slots-room, marks-room, nonce-room, nonce-length, marks-length, read-nonce, read-marks, worked-same, opened-same}
 use Rattle.protocol.proofs.Settling.{Keeps, settle-keeps}
 use Rattle.protocol.proofs.Steps.{input-keeps, opening-keeps, open-output-keeps}
 
@@ -50,11 +54,15 @@ pub record Standing (q : ℕ) (c : List ℕ) (l₀ l : List ℕ) (x : Point) : T
 -- what a round asks of a circuit of n parties and of the scratch l: r is a round of gate j, and what lies before it is worked out
 pub record Stood (n q : ℕ) (c l : List ℕ) (j : ℕ) (r : Round) : Type 0 where
   pub valid : Valid n q c
-  pub room : scratchSize (layout c) ≤ length l
+  pub room : scratchSize n c ≤ length l
   pub within : j < gates c
   pub occurs : among r (rounds c j) ≡ true
   pub worked : Worked q c (layout c) l j
   pub opened : OpenedTo q (layout c) l (openedIn (unchecked c j) r)
+
+-- the slots lie in the scratch
+pub stood-room : {n q : ℕ} {c l : List ℕ} {j : ℕ} {r : Round} → Stood n q c l j r → slotsSize (layout c) ≤ length l
+stood-room {n} {c = c} k = slots-room n c (k .room)
 
 -- what a step asks has that
 pub ready-stood : {q : ℕ} {P : Party} {l : List ℕ} {y : Layout} {at : Site} {r : Round} → Ready q P l y at r
@@ -116,7 +124,7 @@ module _ {O : Ops} (F : Field O) where
   unfolding heardSum
   heard-low n k t heard = sum-lt F n _
 
-  module _ (P : Party) (l : List ℕ) (j : ℕ) (room : scratchSize (layout (P .circuit)) ≤ length l) (within : j < gates (P .circuit)) where
+  module _ (P : Party) (l : List ℕ) (j : ℕ) (room : slotsSize (layout (P .circuit)) ≤ length l) (within : j < gates (P .circuit)) where
     -- once gate j is done, the linear gates after it lead to a point where all that is asked is there
     onward-stands : (u : ℕ) (l′ : List ℕ)
         → Keeps size (P .circuit) (layout (P .circuit)) u l (suc j) l′
@@ -140,8 +148,8 @@ module _ {O : Ops} (F : Field O) where
         → Standing size (P .circuit) l (ownReceived O P l j heard Owned) (resume (P .circuit) (suc j))
     unfolding ownReceived layout
     owned-stands k e =
-        onward-stands P l j (k .room) (k .within) (unchecked (P .circuit) j) _
-        (input-keeps F (P .circuit) (layout (P .circuit)) l j (k .room) (k .worked) (unchecked (P .circuit) j) _ _ _ _ (k .within) (k .opened))
+        onward-stands P l j (stood-room k) (k .within) (unchecked (P .circuit) j) _
+        (input-keeps F (P .circuit) (layout (P .circuit)) l j (stood-room k) (k .worked) (unchecked (P .circuit) j) _ _ _ _ (k .within) (k .opened))
         (omega (arith, after-valued (P .circuit) j (owned-no-out e), owned-facts (gate (P .circuit) j) e .openings))
 
     opens-stands : Stood (P .parties) size (P .circuit) l j Own
@@ -150,8 +158,8 @@ module _ {O : Ops} (F : Field O) where
     unfolding ownReceived layout
     opens-stands k e =
         let f = opens-facts (gate (P .circuit) j) e in
-        onward-stands P l j (k .room) (k .within) (unchecked (P .circuit) j + shape (gate (P .circuit) j) .openings) _
-        (opening-keeps F (P .circuit) (layout (P .circuit)) l j (k .room) (k .worked) _ _ _ _ _ (shape (gate (P .circuit) j) .openings)
+        onward-stands P l j (stood-room k) (k .within) (unchecked (P .circuit) j + shape (gate (P .circuit) j) .openings) _
+        (opening-keeps F (P .circuit) (layout (P .circuit)) l j (stood-room k) (k .worked) _ _ _ _ _ (shape (gate (P .circuit) j) .openings)
         (unchecked (P .circuit) j) _ _ (f .some) (f .few) (k .within) (omega (arith, entries k)) (heard-low _ _ _ _) (heard-low _ _ _ _) (k .opened))
         (after-valued (P .circuit) j (opens-no-out e))
 
@@ -165,48 +173,61 @@ module _ {O : Ops} (F : Field O) where
     -- the point after a round that does not stop the run
     followed-stands : (r : Round)
         → Stood (P .parties) size (P .circuit) l j r
-        → passes O (P .parties) r heard ≡ true
+        → length heard ≡ P .parties * words (gate (P .circuit) j) r
         → Standing size (P .circuit) l (received O P l j r heard) (followed (P .circuit) j r)
-    unfolding received revealed layout
+    unfolding received checkPassed layout
     followed-stands Own k e = own-stands k (class-at-round (P .circuit) j Own (k .occurs))
     followed-stands Open k e =
         let s =
-        open-output-keeps F (P .circuit) (layout (P .circuit)) l j (k .room) (k .worked) _ _
+        open-output-keeps F (P .circuit) (layout (P .circuit)) l j (stood-room k) (k .worked) _ _
         (omega (arith, unchecked-fits (P .circuit) j (omega (arith, k .within)))) (heard-low _ _ _ _) (shown-held k) in
         record { len = s .len; stands = (s .worked, s .opened) }
-    followed-stands (Commit h) k e = record { len = refl; stands = (k .worked, k .opened) }
+    followed-stands (Commit h) k e =
+        let s = read-marks (layout (P .circuit)) l (P .parties) heard (unfold shapeWords in e) (marks-room (P .parties) (P .circuit) (k .room)) in
+        record {
+          len = marks-length (layout (P .circuit)) l heard;
+          stands = (worked-same (P .circuit) j s (k .worked), opened-same (checked (unchecked (P .circuit) j) h) s (k .opened));
+        }
     followed-stands (Reveal First) k e = record { len = refl; stands = (k .worked, λ t h. absurd (omega arith)) }
     followed-stands (Reveal Second) k e =
         let o = class-at-round (P .circuit) j (Reveal Second) (k .occurs) in
-        rw e
-        (onward-stands P l j (k .room) (k .within) 0 l
+        onward-stands P l j (stood-room k) (k .within) 0 l
         (record {
           len = refl;
           worked = worked-skip (layout (P .circuit)) l (P .circuit) j (rw (class-is o)) (k .worked);
           opened = λ t h. absurd (omega arith);
         })
-        (after-out (P .circuit) j o))
-
-    -- a round that stops the run writes nothing
-    pub stopped : (r : Round) → passes O (P .parties) r heard ≡ false → received O P l j r heard ≡ l
-    unfolding received revealed passes
-    stopped Own e = false-no (sym e)
-    stopped Open e = false-no (sym e)
-    stopped (Commit k) e = refl
-    stopped (Reveal First) e = refl
-    stopped (Reveal Second) e = rw e
+        (after-out (P .circuit) j o)
 
     -- receiving leaves what is asked at the point that follows
     pub received-stands : (r : Round)
         → Stood (P .parties) size (P .circuit) l j r
-        → Standing size (P .circuit) l (received O P l j r heard) (next O (P .parties) (P .circuit) j r heard)
-    unfolding aborted
-    received-stands r k =
-        by-cases (passes O (P .parties) r heard)
-        (λ e. rw (next-followed (P .circuit) O (P .parties) j heard r (k .occurs) e) (followed-stands r k e))
-        (λ e.
-        rw (next-aborted (P .circuit) O (P .parties) j heard r (k .occurs) e, stopped r e)
-        (record { len = refl; stands = tt }))
+        → length heard ≡ P .parties * words (gate (P .circuit) j) r
+        → (v : Ruling)
+        → Standing size (P .circuit) l (left O P v l j r heard) (next (P .circuit) j r v)
+    unfolding aborted left
+    received-stands r k e v =
+        by-cases (passed v)
+        (λ z. rw (next-followed (P .circuit) j v r (k .occurs) z, z) (followed-stands r k e))
+        (λ z. rw (next-aborted (P .circuit) j v r (k .occurs) z, z) (record { len = refl; stands = tt }))
+
+    -- and so does sending
+    pub noted-stood : (r : Round) (nonce : List ℕ) → length nonce ≡ nonceIn r
+        → Stood (P .parties) size (P .circuit) l j r → Stood (P .parties) size (P .circuit) (noted O P l r nonce) j r
+    unfolding noted nonceIn
+    noted-stood r nonce e k = by-cases (isCommit r) (λ c. rw c (put (rw c at e))) (λ c. rw c k)
+      where
+        put : length nonce ≡ nonceSize → Stood (P .parties) size (P .circuit) (putNonce (layout (P .circuit)) l (wordsOf nonce)) j r
+        put long =
+            let s = read-nonce (layout (P .circuit)) l (wordsOf nonce) (length-words nonceWords nonce long) (nonce-room (P .parties) (P .circuit) (k .room)) in
+            record {
+              valid = k .valid;
+              room = rw (nonce-length (layout (P .circuit)) l (wordsOf nonce)) (k .room);
+              within = k .within;
+              occurs = k .occurs;
+              worked = worked-same (P .circuit) j s (k .worked);
+              opened = opened-same _ s (k .opened);
+            }
 
 -- what stands at a sending half is what a step there asks, of the same party with the same lists
 pub ready-next : {q : ℕ} (P : Party) (l₀ l : List ℕ) (y : Layout) (at₀ at : Site) (r₀ r : Round) (x : Point)
@@ -240,14 +261,16 @@ ready-next {q} P l₀ l y at₀ at r₀ r x k s o sited e f =
 -- the invariant: what is asked of one round and its words gives what is asked of the round that follows
 pub received-ready : {O : Ops} (F : Field O) (P : Party) (l : List ℕ) (y : Layout) (at at′ : Site) (r r′ : Round) (heard : List ℕ)
     → Receives (O .size) P l y at r heard
+    → (v : Ruling)
+    → (passed v ≡ false → isReveal r ≡ true)
     → Sited (P .circuit) (P .me) at′
-    → at′ .gate ≡ next O (P .parties) (P .circuit) (at .gate) r heard .gate
-    → next O (P .parties) (P .circuit) (at .gate) r heard .stage ≡ Send r′
-    → Ready (O .size) P (received O P l (at .gate) r heard) y at′ r′
-received-ready {O} F P l y at at′ r r′ heard s sited e f =
+    → at′ .gate ≡ next (P .circuit) (at .gate) r v .gate
+    → next (P .circuit) (at .gate) r v .stage ≡ Send r′
+    → Ready (O .size) P (left O P v l (at .gate) r heard) y at′ r′
+received-ready {O} F P l y at at′ r r′ heard s v lawful sited e f =
     let k = s .ready in
-    let o = next-possible (P .circuit) O (P .parties) (at .gate) heard r (k .occurs) (k .sited .within) in
-    ready-next P l _ y at at′ r r′ _ k (received-stands F P l (at .gate) heard r (ready-stood k)) (o .occurs) sited e f
+    let o = next-possible (P .circuit) (at .gate) v r (k .occurs) lawful (k .sited .within) in
+    ready-next P l _ y at at′ r r′ _ k (received-stands F P l (at .gate) heard r (ready-stood k) (s .whole) v) (o .occurs) sited e f
 
 -- nothing is asked of the scratch where a run starts
 pub start-stands : (q : ℕ) (c l : List ℕ) → Stands q c l 0 (Send Own)

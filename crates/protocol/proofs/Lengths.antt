@@ -8,12 +8,14 @@ use lib.Dec.{eqb}
 use Rattle.algebra.specs.Ops.{Ops}
 use Rattle.circuit.specs.Gate.{Gate, gate}
 use Rattle.circuit.specs.Kind.{Class, Local, Owned, Opens, Output, shape, isLinear}
-use Rattle.circuit.specs.Round.{First, Second, Round, Own, Open, Commit, Reveal}
+use Rattle.circuit.specs.Round.{First, Second, Round, Own, Open, Commit, Reveal, isCommit}
 use Rattle.circuit.proofs.Tests.{by-cases}
 use Rattle.protocol.specs.Scratch.{Layout}
 use Rattle.protocol.specs.Party.{Party}
-use Rattle.protocol.specs.Receive.{afterInput, putDifferences, afterOpening, afterOpenOutput, afterLinear, settle, passes, onward, ownReceived, revealed, received}
+use Rattle.protocol.specs.Receive.{afterInput, putDifferences, afterOpening, afterOpenOutput, afterLinear, Ruling, passed, settle, onward, ownReceived, checkPassed, received, left}
+use Rattle.protocol.specs.Send.{noted}
 use Rattle.protocol.proofs.Slots.{length-put, length-opened}
+use Rattle.protocol.proofs.Tails.{nonce-length, marks-length}
 
 module _ (O : Ops) where
   -- One or two opened entries are written in place.
@@ -52,10 +54,18 @@ module _ (O : Ops) where
 
     -- .. and so does receiving any round.
     pub length-received : (l : List ℕ) (j : ℕ) (r : Round) (heard : List ℕ) → length (received O P l j r heard) ≡ length l
-    unfolding received revealed afterOpenOutput
+    unfolding received checkPassed afterOpenOutput
     length-received l j Own heard = length-own l j heard (shape (gate (P .circuit) j) .class)
     length-received l j Open heard = length-opened _ l _ _ _
-    length-received l j (Commit k) heard = refl
+    length-received l j (Commit k) heard = marks-length _ l heard
     length-received l j (Reveal First) heard = refl
-    length-received l j (Reveal Second) heard =
-        by-cases (passes O (P .parties) (Reveal Second) heard) (λ b. rw b (length-onward j l)) (λ b. rw b)
+    length-received l j (Reveal Second) heard = length-onward j l
+
+    -- So does a round, however it ends, and sending.
+    pub length-left : (v : Ruling) (l : List ℕ) (j : ℕ) (r : Round) (heard : List ℕ) → length (left O P v l j r heard) ≡ length l
+    unfolding left
+    length-left v l j r heard = by-cases (passed v) (λ b. rw b (length-received l j r heard)) (λ b. rw b)
+
+    pub length-noted : (l : List ℕ) (r : Round) (nonce : List ℕ) → length (noted O P l r nonce) ≡ length l
+    unfolding noted
+    length-noted l r nonce = by-cases (isCommit r) (λ b. rw b (nonce-length _ l _)) (λ b. rw b)

@@ -6,6 +6,7 @@ pub mod Following
 pub mod InOrder
 pub mod Points
 pub mod Writing
+pub mod Tails
 pub mod Lengths
 pub mod Words
 pub mod Bands
@@ -26,6 +27,7 @@ pub mod Received
 pub mod Keeping
 pub mod Front
 pub mod Said
+pub mod Marks
 pub mod Gathering
 pub mod Dues
 pub mod Runs

@@ -10,16 +10,16 @@ use borrow.Author.Tests.{lt-ltb, le-leb, eq-eqb}
 use Rattle.circuit.specs.Verdict.{Accepted, ask, each}
 use Rattle.circuit.specs.Gate.{gate, gates}
 use Rattle.circuit.specs.Count.{prepSize, inputCount, unchecked}
-use Rattle.circuit.specs.Round.{Round, isCommit, isReveal, rounds, among, words, openedIn, coefficientsIn}
+use Rattle.circuit.specs.Round.{Round, Own, Open, Commit, Reveal, isCommit, isReveal, revealWords, rounds, among, words, openedIn, coefficientsIn, nonceIn}
 use Rattle.circuit.specs.Accept.{askCircuit}
 use Rattle.circuit.proofs.Verdicts.{ask-yes, then-both, each-all, elements-all}
 use Rattle.protocol.specs.Scratch.{Slot, Share, Mac, Value, ValueMac, layout, scratchSize, read}
 use Rattle.protocol.specs.Position.{Stage, Send, Receive, stageOccurs, mayHold, occurs, whenSending, whenReceiving}
 use Rattle.protocol.specs.Party.{Party}
-use Rattle.protocol.specs.Send.{mark}
+use Rattle.protocol.specs.Ready.{HeardLow}
 use Rattle.protocol.specs.Holding.{Below, Worked}
 use Rattle.protocol.proofs.Writing.{OpenedTo}
-use Rattle.protocol.specs.Ask.{askParties, slotQuestion, askSlots, askWorked, askMarks, askSendRound, askReceiveRound, askLent, askSend, askReceive}
+use Rattle.protocol.specs.Ask.{askParties, slotQuestion, askSlots, askWorked, askHeard, askSendRound, askReceiveRound, askLent, askSend, askReceive}
 
 -- Questions 1 to 12 look at the length of the scratch alone.
 pub lent-alike : (q : ℕ) (P : Party) (l l′ : List ℕ) → length l′ ≡ length l → askLent q P l′ ≡ askLent q P l
@@ -34,7 +34,7 @@ pub lent-passes : {q : ℕ} (P : Party) (l : List ℕ) → askParties (P .partie
     → Below q (P .prep)
     → length (P .inputs) ≡ inputCount (P .circuit) (P .me)
     → Below q (P .inputs)
-    → scratchSize (layout (P .circuit)) ≤ length l
+    → scratchSize (P .parties) (P .circuit) ≤ length l
     → askLent q P l ≡ Accepted
 unfolding askLent
 lent-passes {q} P l parties me circuit prep-long prep-low inputs-long inputs-low room =
@@ -84,33 +84,35 @@ module _ {q : ℕ} (P : Party) (l : List ℕ) (j held : ℕ) (r : Round)
     (opened : OpenedTo q (layout (P .circuit)) l (openedIn (unchecked (P .circuit) j) r))
     (low : held < q) where
   -- Sending is not refused.
-  pub send-passes : (isReveal r ≡ false → held ≡ 0) → (coefficients : List ℕ) (room : ℕ)
+  pub send-passes : (isReveal r ≡ false → held ≡ 0) → (coefficients nonce : List ℕ) (room : ℕ)
       → length coefficients ≡ coefficientsIn (unchecked (P .circuit) j) r
       → Below q coefficients
+      → length nonce ≡ nonceIn r
       → words (gate (P .circuit) j) r ≤ room
-      → askSend q P l (record { gate = j; stage = Send r; held = held }) coefficients room ≡ Accepted
+      → askSend q P l (record { gate = j; stage = Send r; held = held }) coefficients nonce room ≡ Accepted
   unfolding askSend askSendRound whenSending stageOccurs mayHold
-  send-passes none coefficients room count below space =
+  send-passes none coefficients nonce room count below long space =
       then-both lent
       (then-both (ask-yes 13 0 (passes-13 q (P .circuit) j held within (Send r) has low none))
       (then-both (worked-passes (P .circuit) l j r worked opened)
       (then-both (ask-yes 16 0 (eq-eqb _ _ count))
-      (then-both (elements-all 17 q coefficients below) (ask-yes 18 0 (le-leb _ _ space))))))
+      (then-both (elements-all 17 q coefficients below)
+      (then-both (ask-yes 25 0 (eq-eqb _ _ long)) (ask-yes 18 0 (le-leb _ _ space)))))))
 
   -- Receiving is not refused.
   pub receive-passes : (isCommit r ≡ false → held ≡ 0) → (heard : List ℕ)
       → length heard ≡ P .parties * words (gate (P .circuit) j) r
-      → Below q heard
-      → (isCommit r ≡ true → (k : ℕ) → k < length heard → getD heard k 0 ≡ mark)
+      → HeardLow q (P .parties) r heard
       → askReceive q P l (record { gate = j; stage = Receive r; held = held }) heard ≡ Accepted
   unfolding askReceive askReceiveRound whenReceiving stageOccurs mayHold
-  receive-passes none heard count below marks =
+  receive-passes none heard count below =
       then-both lent
       (then-both (ask-yes 13 0 (passes-13 q (P .circuit) j held within (Receive r) has low none))
       (then-both (worked-passes (P .circuit) l j r worked opened)
-      (then-both (ask-yes 19 0 (eq-eqb _ _ count))
-      (then-both (elements-all 20 q heard below) (unfold askMarks in go (isCommit r) refl)))))
+      (then-both (ask-yes 19 0 (eq-eqb _ _ count)) (go r below))))
     where
-      go : (b : Bool) → isCommit r ≡ b → cond b (each (length heard) (λ k. ask 21 k (eqb (getD heard k 0) mark))) Accepted ≡ Accepted
-      go true e = each-all _ (length heard) (λ k h. ask-yes 21 k (eq-eqb _ _ (marks e k h)))
-      go false e = refl
+      go : (r : Round) → HeardLow q (P .parties) r heard → askHeard q (P .parties) r heard ≡ Accepted
+      go Own h = elements-all 20 q heard h
+      go Open h = elements-all 20 q heard h
+      go (Commit k) h = refl
+      go (Reveal k) h = each-all _ (P .parties) (λ i li. ask-yes 20 (i * revealWords) (lt-ltb _ q (h i li)))

@@ -14,7 +14,7 @@ use Rattle.algebra.specs.Field.{Field}
 use Rattle.circuit.specs.Gate.{Gate, gateSize, gate, gates}
 use Rattle.circuit.specs.Kind.{Class, Owned, Opens, Output, Shape, shape, isClass, factor}
 use Rattle.circuit.specs.Count.{capacity, unchecked, uncheckedAfter}
-use Rattle.circuit.specs.Round.{Second, Round, Own, Open, Reveal, shapeWords, words, openedIn}
+use Rattle.circuit.specs.Round.{Second, Round, Own, Open, Reveal, shapeWords, words, openedIn, commitWords}
 use Rattle.circuit.proofs.Counts.{prep-within, prep-positive, unchecked-within}
 use Rattle.circuit.proofs.KindLaws.{is-class, class-is, owned-facts, opens-facts, output-facts}
 use Rattle.circuit.proofs.Gates.{opens-named, factor-named, output-named}
@@ -30,6 +30,7 @@ use Rattle.protocol.specs.Holding.{Below, Held, Worked}
 use Rattle.protocol.specs.Code.{layoutOf}
 use Rattle.protocol.specs.Ready.{Opening, Settles, Ready, Named}
 use Rattle.protocol.proofs.Following.{unchecked-reach}
+use Rattle.protocol.proofs.Tails.{slots-room, marks-room}
 use Rattle.protocol.proofs.Writing.{OpenedTo, worked-skip}
 use Rattle.protocol.proofs.Steps.{input-keeps, opening-keeps}
 
@@ -79,8 +80,12 @@ module _ {q : ℕ} (P : Party) (l : List ℕ) (y : Layout) (at : Site) where
     pub record-fits : at .prep + shape (gate (P .circuit) (at .gate)) .prep ≤ length (P .prep)
     record-fits = omega (arith, k .sited .prep, k .prep-long, prep-within (P .circuit) (at .gate) (k .sited .within))
 
-    pub room-there : S.scratchSize (layoutOf y) ≤ length l
-    room-there = rw (k .lay) (k .room)
+    pub room-there : S.slotsSize (layoutOf y) ≤ length l
+    room-there = rw (k .lay) (slots-room (P .parties) (P .circuit) (k .room))
+
+    -- and so do the nonce and the marks
+    pub tail-there : S.marksAt (layoutOf y) + P .parties * commitWords ≤ length l
+    tail-there = rw (k .lay) (marks-room (P .parties) (P .circuit) (k .room))
 
     pub worked-there : Worked q (P .circuit) (layoutOf y) l (at .gate)
     worked-there = rw (k .lay) (k .worked)

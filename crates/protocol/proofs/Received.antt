@@ -16,7 +16,7 @@ use Rattle.circuit.proofs.KindLaws.{owned-facts}
 use Rattle.protocol.specs.Scratch as S
 use Rattle.protocol.specs.Party.{Party, key, recordIn, recordOf}
 use Rattle.protocol.specs.Position.{reach}
-use Rattle.protocol.specs.Receive.{afterInput, afterOpening, afterOpenOutput, settle, passes, onward, ownReceived, revealed, received}
+use Rattle.protocol.specs.Receive.{afterInput, afterOpening, afterOpenOutput, Ruling, passed, settle, onward, ownReceived, checkPassed, received, left}
 use Rattle.protocol.specs.declared.Layout.{Layout}
 use Rattle.protocol.specs.declared.Site.{Site}
 use Rattle.protocol.specs.Holding.{Below, Held}
@@ -26,10 +26,10 @@ use Rattle.protocol.proofs.HeardWords.{owner-heard, first-heard, second
 use Rattle.protocol.proofs.Readiness.{lay-gates, room-there, within-there, capacity-some, part-long, part-low, class-of, output-held}
 
 module _ {q : ℕ} (P : Party) (l : List ℕ) (y : Layout) (at : Site) where
-  -- what summing the words asks
-  pub hears : {r : Round} {heard : List ℕ} → Receives q P l y at r heard → Hears q (P .parties) (P .circuit) (at .gate) r heard
-  hears s =
-      record { valid = s .ready .valid; within = s .ready .sited .within; occurs = s .ready .occurs; whole = s .whole; heard-low = s .heard-low }
+  -- what summing the words asks, where all are elements
+  pub hears : {r : Round} {heard : List ℕ} → Receives q P l y at r heard → Below q heard → Hears q (P .parties) (P .circuit) (at .gate) r heard
+  hears s low =
+      record { valid = s .ready .valid; within = s .ready .sited .within; occurs = s .ready .occurs; whole = s .whole; heard-low = low }
 
   -- and finding the next stop
   pub reach-asks : {r : Round} → Ready q P l y at r → (gateSize * (y .gates) ≤ length (P .circuit)) × (at .gate + 1 ≤ y .gates)
@@ -49,14 +49,14 @@ module _ {q : ℕ} (P : Party) (l : List ℕ) (y : Layout) (at : Site) where
       → {e : ℕ} {m : List ℕ}
       → e < q
       → m ≡ drop (at .prep) (P .prep)
-      → (getD (P .prep) 0 0 < q) × (e < q) × (1 < length m) × Below q m × (S.scratchSize (layoutOf y) ≤ length l) × (at .gate < y .gates)
+      → (getD (P .prep) 0 0 < q) × (e < q) × (1 < length m) × Below q m × (S.slotsSize (layoutOf y) ≤ length l) × (at .gate < y .gates)
   input-asks k c h e =
       (k .prep-low 0, h, omega (arith, part-long P l y at Own k e, owned-facts (gate (P .circuit) (at .gate)) c .prep), part-low P l y at Own k e, room-there P l y at Own k, within-there P l y at Own k)
 
   pub output-asks : Ready q P l y at Open
       → {x : ℕ}
       → x ≡ gate (P .circuit) (at .gate) .first
-      → (S.scratchSize (layoutOf y) ≤ length l) × (0 < y .capacity) × Held q (layoutOf y) l x
+      → (S.slotsSize (layoutOf y) ≤ length l) × (0 < y .capacity) × Held q (layoutOf y) l x
   output-asks k e = (room-there P l y at Open k, capacity-some P l y at Open k, rw e (output-held P l y at k))
 
 module _ (O : Ops) (P : Party) (l : List ℕ) (y : Layout) (at : Site) (heard : List ℕ) where
@@ -116,31 +116,33 @@ module _ (O : Ops) (P : Party) (l : List ℕ) (y : Layout) (at : Site) (heard : 
       e ∙ rw (ee, ex, output-heard O (P .parties) heard Open (gate (P .circuit) (at .gate)) (class-of P l y at Open k), k .lay)
 
   pub reveal-received : Ready (O .size) P l y at (Reveal Second)
-      → passes O (P .parties) (Reveal Second) heard ≡ true
       → {l₁ : List ℕ}
       → l₁ ≡ settle O (P .me) (getD (P .prep) 0 0) (P .circuit) (layoutOf y) (y .gates - (at .gate + 1)) (at .gate + 1) l
       → l₁ ≡ received O P l (at .gate) (Reveal Second) heard
-  unfolding received revealed
-  reveal-received k h e = onward-is (Reveal Second) k l e ∙ rw h
+  unfolding received checkPassed
+  reveal-received k e = onward-is (Reveal Second) k l e
 
--- a commitment, the reveal of what was opened, an abort, and the own round of a class that has none write nothing
-module _ (O : Ops) (P : Party) (l : List ℕ) (j : ℕ) (heard : List ℕ) where
-  pub commit-received : (k : Check) → l ≡ received O P l j (Commit k) heard
+  -- a commitment's marks
+  pub commit-received : (t : Check) → Ready (O .size) P l y at (Commit t)
+      → {l₁ : List ℕ}
+      → l₁ ≡ S.putMarks (layoutOf y) l heard
+      → l₁ ≡ received O P l (at .gate) (Commit t) heard
   unfolding received
-  commit-received k = refl
+  commit-received t k e = e ∙ rw (k .lay)
 
+-- the reveal of what was opened, a stop, and the own round of a class that has none write nothing
+module _ (O : Ops) (P : Party) (l : List ℕ) (j : ℕ) (heard : List ℕ) where
   pub first-received : l ≡ received O P l j (Reveal First) heard
-  unfolding received revealed
+  unfolding received checkPassed
   first-received = refl
 
-  pub revealed-not : passes O (P .parties) (Reveal Second) heard ≡ false → l ≡ received O P l j (Reveal Second) heard
-  unfolding received revealed
-  revealed-not h = rw h
+  pub left-passed : (v : Ruling) (r : Round) → passed v ≡ true → {l₁ : List ℕ} → l₁ ≡ received O P l j r heard → l₁ ≡ left O P v l j r heard
+  unfolding left
+  left-passed v r h e = e ∙ rw h
 
-  -- whichever check it is of
-  pub stopped-received : (k : Check) → passes O (P .parties) (Reveal k) heard ≡ false → l ≡ received O P l j (Reveal k) heard
-  stopped-received First h = first-received
-  stopped-received Second h = revealed-not h
+  pub left-stopped : (v : Ruling) (r : Round) → passed v ≡ false → l ≡ left O P v l j r heard
+  unfolding left
+  left-stopped v r h = rw h
 
   pub received-nothing : (shape (gate (P .circuit) j) .class ≡ Local) ⊎ (shape (gate (P .circuit) j) .class ≡ Output)
       → l ≡ received O P l j Own heard

@@ -12,17 +12,17 @@ use Rattle.algebra.specs.Field.{Field}
 use Rattle.algebra.proofs.Ring.{sub-lt}
 use Rattle.circuit.specs.Verdict.{Verdict, Accepted, Refused}
 use Rattle.circuit.specs.Gate.{gates}
-use Rattle.circuit.specs.Round.{Round, isCommit, rounds, among}
+use Rattle.circuit.specs.Round.{Round, isCommit, isReveal, rounds, among}
 use Rattle.circuit.proofs.Tests.{by-cases, both-right}
 use Rattle.circuit.proofs.Verdicts.{refused-no, then-left, then-right, ask-true}
-use Rattle.protocol.specs.Scratch.{layout, read, Value}
+use Rattle.protocol.specs.Scratch.{layout, read, Value, marksOf}
 use Rattle.protocol.specs.Position.{Position, Stage, Send, Receive, Finished, Aborted, holding, keep, occurs, stageOccurs, mayHold, whenSending, whenReceiving}
 use Rattle.protocol.specs.Party.{Party}
 use Rattle.protocol.specs.Send.{checkShare, holds}
-use Rattle.protocol.specs.Receive.{passes}
+use Rattle.protocol.specs.Receive.{Ruling, Passed, Stopped, passed, ruling, finds}
 use Rattle.protocol.specs.Ask.{askSend, askReceive}
-use Rattle.protocol.specs.Entry.{Answer, Refusal, Next, Output, Abort, answer, releases, sendAnswer, receiveAnswer, nextPosition, outcome}
-use Rattle.protocol.proofs.Following.{next-possible, next-holds}
+use Rattle.protocol.specs.Entry.{Answer, Refusal, Next, Output, Abort, answer, releases, sendAnswer, receiveAnswer, nextPosition, concludes, outcome}
+use Rattle.protocol.proofs.Following.{ruling-reveals, next-possible, next-holds}
 use Rattle.protocol.proofs.Occurring.{held-some, held-none}
 use Rattle.protocol.proofs.Accepted.{gate-occurs, stage-occurs}
 use Rattle.protocol.proofs.Entries.{sending-at, receiving-at}
@@ -49,12 +49,16 @@ abbrev pub Yields : Position → Answer → Type 0
 Yields x (Refusal number index) = ⊥
 Yields x (Next y) = y ≡ x
 Yields x (Output v y) = y ≡ x
-Yields x (Abort y) = y ≡ x
+Yields x (Abort b y) = y ≡ x
 
-yielded : (b d : Bool) (v : ℕ) (n x : Position) → Yields x (cond b (cond d (Output v n) (Next n)) (Abort n)) → n ≡ x
-yielded true true v n x y = y
-yielded true false v n x y = y
-yielded false d v n x y = y
+yielded : (O : Ops) (P : Party) (w j held : ℕ) (r : Round) (v : Ruling) (x : Position) → Yields x (concludes O P w j held r v) → nextPosition O P j held r v ≡ x
+unfolding concludes
+yielded O P w j held r Passed x y = go (releases r) y
+  where
+    go : (b : Bool) → Yields x (cond b (Output w (nextPosition O P j held r Passed)) (Next (nextPosition O P j held r Passed))) → nextPosition O P j held r Passed ≡ x
+    go true y = y
+    go false y = y
+yielded O P w j held r (Stopped b) x y = y
 
 module _ {O : Ops} (F : Field O) (P : Party) (l : List ℕ) (at : Position) where
   open Ops O using (size)
@@ -80,9 +84,9 @@ module _ {O : Ops} (F : Field O) (P : Party) (l : List ℕ) (at : Position) wher
   sends-at Finished f e = refused-no e
   sends-at Aborted f e = refused-no e
 
-  pub sent-position-occurs : (coefficients : List ℕ) (room : ℕ) {x : Position} → sendAnswer O P l at coefficients room ≡ Next x → occurs size (P .circuit) x ≡ true
+  pub sent-position-occurs : (coefficients nonce : List ℕ) (room : ℕ) {x : Position} → sendAnswer O P l at coefficients nonce room ≡ Next x → occurs size (P .circuit) x ≡ true
   unfolding sendAnswer askSend
-  sent-position-occurs coefficients room {x} e =
+  sent-position-occurs coefficients nonce room {x} e =
       let (ok, is) = answered _ _ _ e (not-refusal x) in
       let here : occurs size (P .circuit) at ≡ true = ask-true 13 0 _ (then-left _ _ (then-right _ _ ok)) in
       let (r, sends) = sends-at (at .stage) _ (then-right _ _ (then-right _ _ ok)) in
@@ -98,13 +102,13 @@ module _ {O : Ops} (F : Field O) (P : Party) (l : List ℕ) (at : Position) wher
       occurs-too r e h = unfold stageOccurs in (rw e at h)
 
   -- the position that follows a round of the circuit
-  next-occurs : (heard : List ℕ) (r : Round) → occurs size (P .circuit) at ≡ true → at .stage ≡ Receive r → occurs size (P .circuit) (nextPosition O P (at .gate) (at .held) heard r) ≡ true
+  next-occurs : (r : Round) (v : Ruling) → (passed v ≡ false → isReveal r ≡ true) → occurs size (P .circuit) at ≡ true → at .stage ≡ Receive r → occurs size (P .circuit) (nextPosition O P (at .gate) (at .held) r v) ≡ true
   unfolding nextPosition holding
-  next-occurs heard r here e =
+  next-occurs r v lawful here e =
       let l : at .gate < gates (P .circuit) = gate-occurs size (P .circuit) at here in
       let has : among r (rounds (P .circuit) (at .gate)) ≡ true = among-of (stage-occurs size (P .circuit) at here) in
-      let can = next-possible (P .circuit) O (P .parties) (at .gate) heard r has l in
-      let holding-is = next-holds (P .circuit) O (P .parties) (at .gate) heard r has in
+      let can = next-possible (P .circuit) (at .gate) v r has lawful l in
+      let holding-is = next-holds (P .circuit) (at .gate) v r has lawful in
       can-occur size (P .circuit) _ (can .within) (can .occurs)
       (λ m. kept-low (sym holding-is ∙ m)) (λ m. kept-none (sym holding-is ∙ m))
     where
@@ -118,12 +122,15 @@ module _ {O : Ops} (F : Field O) (P : Party) (l : List ℕ) (at : Position) wher
       kept-none c = unfold keep in (rw c)
 
   pub received-position-occurs : (heard : List ℕ) (x : Position) → Yields x (receiveAnswer O P l at heard) → occurs size (P .circuit) x ≡ true
-  unfolding receiveAnswer askReceive answer outcome
+  unfolding receiveAnswer askReceive answer outcome finds
   received-position-occurs heard x y = go (askReceive size P l at heard) refl y
     where
       at-round : (r : Round) → at .stage ≡ Receive r → occurs size (P .circuit) at ≡ true → Yields x (outcome O P l (at .gate) (at .held) heard r) → occurs size (P .circuit) x ≡ true
       at-round r e here y =
-          subst (λ (z : Position). occurs size (P .circuit) z ≡ true) (yielded (passes O (P .parties) r heard) (releases r) (read (layout (P .circuit)) l (Value 0)) (nextPosition O P (at .gate) (at .held) heard r) x y) (next-occurs heard r here e)
+          let marks = marksOf (P .parties) (layout (P .circuit)) l in
+          subst (λ (z : Position). occurs size (P .circuit) z ≡ true)
+          (yielded O P (read (layout (P .circuit)) l (Value 0)) (at .gate) (at .held) r (ruling O (P .parties) r marks heard) x y)
+          (next-occurs r (ruling O (P .parties) r marks heard) (ruling-reveals O (P .parties) marks heard r) here e)
 
       go : (v : Verdict) → askReceive size P l at heard ≡ v → Yields x (answer v (whenReceiving (at .stage) (Next at) (outcome O P l (at .gate) (at .held) heard))) → occurs size (P .circuit) x ≡ true
       go Accepted e y =

@@ -9,10 +9,10 @@ use lib.ListN.{length}
 use Rattle.algebra.specs.Ops.{Ops}
 use Rattle.circuit.specs.Round.{Round}
 use Rattle.protocol.specs.Position.{Stage, Send, Receive, Finished, Aborted, aborted, follow, whenSending}
-use Rattle.protocol.specs.Receive.{passes, next}
+use Rattle.protocol.specs.Receive.{Ruling, passed, next}
 use Rattle.protocol.specs.Entry.{releases}
 use Rattle.protocol.specs.Joint.{Joint}
-use Rattle.protocol.specs.Run.{State, Run, said, step, released, still, ahead, run}
+use Rattle.protocol.specs.Run.{State, Run, ends, step, released, still, ahead, run}
 
 -- nothing is sent at a stage
 abbrev pub Over : Stage → Type 1
@@ -38,16 +38,16 @@ run-over O J zero s h = refl
 run-over O J (suc k) s h = h Run _ _
 
 -- Only a round that stops no run leads to a sending half.
-module _ (O : Ops) (n : ℕ) (c : List ℕ) (j : ℕ) (r : Round) (heard : List ℕ) (r′ : Round) (e : next O n c j r heard .stage ≡ Send r′) where
-  pub next-passed : passes O n r heard ≡ true
+module _ (c : List ℕ) (j : ℕ) (r : Round) (v : Ruling) (r′ : Round) (e : next c j r v .stage ≡ Send r′) where
+  pub next-passed : passed v ≡ true
   unfolding next aborted
-  next-passed = go (passes O n r heard) e
+  next-passed = go (passed v) e
     where
       go : (b : Bool) → cond b (follow c j r) (aborted j) .stage ≡ Send r′ → b ≡ true
       go true h = refl
       go false h = let z : _≡_ {A = ℕ} 0 1 = cc in absurd (omega arith)
 
-  pub next-goes : next O n c j r heard ≡ follow c j r
+  pub next-goes : next c j r v ≡ follow c j r
   unfolding next
   next-goes = rw next-passed
 
@@ -55,14 +55,14 @@ module _ (O : Ops) (n : ℕ) (c : List ℕ) (j : ℕ) (r : Round) (heard : List 
 module _ (O : Ops) (J : Joint) (s : State) (r : Round) where
   pub released-fits : (k m : ℕ) → k ≤ m → (releases r ≡ true → k < m) → k + length (released O J s r) ≤ m
   unfolding released
-  released-fits k m h g = go (releases r) (passes O (J .parties) r (said O J s r)) _ g
+  released-fits k m h g = go (releases r) (passed (ends O J s r)) _ g
     where
       go : (a b : Bool) (x : ℕ) → (a ≡ true → k < m) → k + length (cond (a && b) (x ∷ []) []) ≤ m
       go true true x g = omega (arith, g refl)
       go true false x g = omega arith
       go false b x g = omega arith
 
-  pub released-one : passes O (J .parties) r (said O J s r) ≡ true → length (released O J s r) ≡ cond (releases r) 1 0
+  pub released-one : passed (ends O J s r) ≡ true → length (released O J s r) ≡ cond (releases r) 1 0
   unfolding released
   released-one e = rw e (go (releases r) _)
     where

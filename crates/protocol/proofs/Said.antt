@@ -1,11 +1,12 @@
 -- The words of a round: how many there are, and that they are elements.
 -- Assumes nothing.
 use Prim.Native.Nat.{ℕ, zero, suc, _+_, _-_, _*_, _<_, _≤_}
-use mathlib.Core.Path.{_≡_, refl, sym, _∙_}
+use mathlib.Core.Path.{_≡_, refl, sym, ap, _∙_}
 use mathlib.Core.Logic.{_⊎_, inl, inr}
 use mathlib.Core.Bool.{Bool, true, false, cond}
 use mathlib.Core.List.{List, [], _∷_, _++_}
 use native.Mathlib.Decide.{decLt}
+use native.Mathlib.Nat.{add-zero}
 use native.Mathlib.Omega.{arith}
 use lib.Dec.{eqb}
 use borrow.Author.Tests.{eqb-true, eqb-false}
@@ -16,22 +17,25 @@ use Rattle.algebra.specs.Field.{Field}
 use Rattle.algebra.proofs.Ring.{sub-lt}
 use Rattle.circuit.specs.Gate.{gate}
 use Rattle.circuit.specs.Kind.{Class, Local, Owned, Opens, Output, shape}
-use Rattle.circuit.specs.Round.{Round, Own, Open, Commit, Reveal, rounds, among, shapeWords, words}
+use Rattle.circuit.specs.Round.{Round, Own, Open, Commit, Reveal, revealWords, rounds, among, shapeWords, words}
 use Rattle.circuit.proofs.KindLaws.{owned-facts, opens-facts, output-facts}
 use Rattle.circuit.proofs.RoundLaws.{RoundClass, class-at-round}
 use Rattle.circuit.proofs.Tests.{by-cases}
-use Rattle.protocol.specs.Scratch.{layout}
+use Rattle.sha256.specs.Digest.Laws.{digest-long}
+use Rattle.protocol.specs.Scratch.{layout, marksAt}
 use Rattle.protocol.specs.Party.{Party, wholeMaskAt}
-use Rattle.protocol.specs.Send.{inputWord, masked, opening, ownWords, sent}
+use Rattle.protocol.specs.Send.{inputWord, masked, opening, ownWords, mark, sent}
 use Rattle.protocol.specs.Holding.{Below}
+use Rattle.protocol.specs.Ready.{HeardLow}
 use Rattle.protocol.proofs.Writing.{minus-elements, wire-elements}
 use Rattle.protocol.proofs.Keeping.{Stood, shown-held}
-use Rattle.protocol.specs.Joint.{Joint, joined, party}
-use Rattle.protocol.specs.Run.{State, said}
-use Rattle.protocol.proofs.Words.{length-joined}
+use Rattle.protocol.specs.Joint.{Joint, joined, party, nonceFor}
+use Rattle.protocol.specs.Run.{State, taken, said}
+use Rattle.protocol.proofs.Tails.{length-nonce, nonce-room}
+use Rattle.protocol.proofs.Words.{length-joined, getD-joined}
 
 -- A party sends as many words as the round has.
-module _ (O : Ops) (P : Party) (l : List ℕ) (j held : ℕ) where
+module _ (O : Ops) (P : Party) (l : List ℕ) (j held : ℕ) (coefficients nonce : List ℕ) where
   length-opening : (k : ℕ) → 1 ≤ k → k ≤ 2 → length (opening O P l j k) ≡ k
   unfolding opening
   length-opening k some few =
@@ -43,23 +47,26 @@ module _ (O : Ops) (P : Party) (l : List ℕ) (j held : ℕ) where
   length-own (inl e) = rw e (sym (owned-facts (gate (P .circuit) j) e .words))
   length-own (inr e) = let f = opens-facts (gate (P .circuit) j) e in rw e (length-opening _ (f .some) (f .few) ∙ sym (f .words))
 
-  length-of : (r : Round) → RoundClass r (shape (gate (P .circuit) j) .class) → length (sent O P l j held r) ≡ words (gate (P .circuit) j) r
-  unfolding sent shapeWords
-  length-of Own h = length-own h
-  length-of Open h = sym (output-facts (gate (P .circuit) j) h .words)
-  length-of (Commit k) h = refl
-  length-of (Reveal k) h = refl
+  length-of : (r : Round) → RoundClass r (shape (gate (P .circuit) j) .class) → marksAt (layout (P .circuit)) ≤ length l
+      → length (sent O P l j held coefficients nonce r) ≡ words (gate (P .circuit) j) r
+  unfolding sent shapeWords mark
+  length-of Own h room = length-own h
+  length-of Open h room = sym (output-facts (gate (P .circuit) j) h .words)
+  length-of (Commit k) h room = digest-long _
+  length-of (Reveal k) h room = ap suc (length-nonce (layout (P .circuit)) l room)
 
-  pub length-sent : (r : Round) → among r (rounds (P .circuit) j) ≡ true → length (sent O P l j held r) ≡ words (gate (P .circuit) j) r
+  pub length-sent : (r : Round) → among r (rounds (P .circuit) j) ≡ true → marksAt (layout (P .circuit)) ≤ length l
+      → length (sent O P l j held coefficients nonce r) ≡ words (gate (P .circuit) j) r
   length-sent r e = length-of r (class-at-round (P .circuit) j r e)
 
 -- So all parties together send as many words each as the round has.
 pub length-said : (O : Ops) (J : Joint) (s : State) (r : Round) → among r (rounds (J .circuit) (s .point .gate)) ≡ true
+    → ((i : ℕ) → i < J .parties → marksAt (layout (J .circuit)) ≤ length (s .scratch i))
     → length (said O J s r) ≡ J .parties * words (gate (J .circuit) (s .point .gate)) r
 unfolding said party
-length-said O J s r h =
+length-said O J s r h rooms =
     length-joined (J .parties) _ _
-    (λ i l. length-sent O (party J i) (s .scratch i) (s .point .gate) (s .held i) r h)
+    (λ i l. length-sent O (party J i) (s .scratch i) (s .point .gate) (s .held i) (taken O J s r) (nonceFor J (s .checks) i) r h (rooms i l))
 
 -- Past the end of a list of numbers below q stands 0, which is below q.
 pub below-of : {q : ℕ} (xs : List ℕ) → 0 < q → ((k : ℕ) → k < length xs → getD xs k 0 < q) → Below q xs
@@ -124,11 +131,25 @@ module _ {O : Ops} (F : Field O) where
   own-low P l j Opens k = opening-low P l j _ k
   own-low P l j Output k = omega (arith, F .one-lt)
 
-  -- The words of a party are elements.
-  pub sent-low : (P : Party) (l : List ℕ) (j held : ℕ) (r : Round) → Stood (P .parties) size (P .circuit) l j r → held < size
-      → Below size (sent O P l j held r)
-  unfolding sent
-  sent-low P l j held Own k h = own-low P l j _
-  sent-low P l j held Open k h = below-one (wire-elements (layout (P .circuit)) l (gate (P .circuit) j .first) (shown-held k) .share)
-  sent-low P l j held (Commit x) k h = below-one (F .one-lt)
-  sent-low P l j held (Reveal x) k h = below-one h
+  -- The words of parties are elements in the rounds of which that is asked, and in a reveal their check shares are.
+  module _ (n j : ℕ) (P : ℕ → Party) (l : ℕ → List ℕ) (held : ℕ → ℕ) (coefficients nonce : ℕ → List ℕ) where
+    abbrev words-of : Round → ℕ → List ℕ
+    words-of r i = sent O (P i) (l i) j (held i) (coefficients i) (nonce i) r
+
+    pub sent-low : (r : Round)
+        → ((i : ℕ) → i < n → Stood (P i .parties) size (P i .circuit) (l i) j r)
+        → ((i : ℕ) → i < n → held i < size)
+        → HeardLow size n r (joined n (λ i. sent O (P i) (l i) j (held i) (coefficients i) (nonce i) r))
+    unfolding sent
+    sent-low Own k h = below-joined (omega (arith, F .one-lt)) n _ (λ i li. own-low (P i) (l i) j _)
+    sent-low Open k h =
+        below-joined (omega (arith, F .one-lt)) n _
+        (λ i li. below-one (wire-elements (layout (P i .circuit)) (l i) (gate (P i .circuit) j .first) (shown-held (k i li)) .share))
+    sent-low (Commit x) k h = tt
+    sent-low (Reveal x) k h =
+        λ i li.
+        rw (
+          ← add-zero (i * revealWords),
+          getD-joined n revealWords (words-of (Reveal x))
+              (λ m lm. ap suc (length-nonce (layout (P m .circuit)) (l m) (nonce-room (P m .parties) (P m .circuit) (k m lm .room)))) i 0 li (omega arith),
+        ) (h i li)

@@ -14,7 +14,7 @@ use Rattle.algebra.specs.Element.{Is}
 use Rattle.circuit.specs.Gate.{gateSize, gate}
 use Rattle.circuit.specs.Kind.{Local, Owned, Opens, Output, shape}
 use Rattle.circuit.specs.Count.{unchecked}
-use Rattle.circuit.specs.Round.{Round, Own, Open, isCommit, words, openedIn, coefficientsIn}
+use Rattle.circuit.specs.Round.{Round, Own, Open, isCommit, words, openedIn, coefficientsIn, nonceIn}
 use Rattle.circuit.proofs.KindLaws.{owned-facts, opens-facts}
 use Rattle.protocol.specs.Scratch as S
 use Rattle.protocol.specs.Party.{Party, key, recordIn, recordOf, inputOf, aAt, bAt}
@@ -50,16 +50,17 @@ module _ (O : Ops) (y : S.Layout) (l : List ℕ) (x z : ℕ) (m : List ℕ) (k :
   pub opening-two : {d : ℕ} → k ≡ 2 → d ≡ masked O y l z m (bAt k) .share → 1 < length out → set (set out 0 e) 1 d ≡ overwrite (openingWords O y l x z m k) out
   opening-two {d} ek ed h = rw (eq-eqb k 2 ek, ← ee, ← ed) (overwrite-two e d out h)
 
--- a gate's own round takes no coefficients
+-- a gate's own round takes neither coefficients nor a nonce
 pub own-sends : {q : ℕ} (P : Party) (l : List ℕ) (y : Layout) (at : Site) {room : ℕ} → Ready q P l y at Own
     → words (gate (P .circuit) (at .gate)) Own ≤ room
-    → Sends q P l y at Own 0 [] room
-unfolding coefficientsIn
-own-sends P l y at k h = record { ready = k; coefficient-count = refl; coefficients-low = λ t. omega (arith, k .prep-low 0); space = h }
+    → Sends q P l y at Own 0 [] [] room
+unfolding coefficientsIn nonceIn
+own-sends P l y at k h =
+    record { ready = k; coefficient-count = refl; coefficients-low = λ t. omega (arith, k .prep-low 0); nonce-long = refl; space = h }
 
 -- what the steps ask
-module _ {q : ℕ} (P : Party) (l : List ℕ) (y : Layout) (at : Site) (held : ℕ) (coefficients : List ℕ) (room : ℕ) where
-  module _ (s : Sends q P l y at Own held coefficients room) where
+module _ {q : ℕ} (P : Party) (l : List ℕ) (y : Layout) (at : Site) (held : ℕ) (coefficients nonce : List ℕ) (room : ℕ) where
+  module _ (s : Sends q P l y at Own held coefficients nonce room) where
     pub sends-input : shape (gate (P .circuit) (at .gate)) .class ≡ Owned
         → (gateSize * (at .gate) + gateSize ≤ length (P .circuit)) × (at .prep + 2 < length (P .prep)) × Below q (P .prep) × Below q (P .inputs) × (0 < room)
     sends-input c =
@@ -75,7 +76,7 @@ module _ {q : ℕ} (P : Party) (l : List ℕ) (y : Layout) (at : Site) (held : �
         × (o ≤ 2)
         × (at .prep + (2 * o + 1) < length (P .prep))
         × Below q (P .prep)
-        × (S.scratchSize (layoutOf y) ≤ length l)
+        × (S.slotsSize (layoutOf y) ≤ length l)
         × Held q (layoutOf y) l x
         × Held q (layoutOf y) l z
         × (o ≤ room)
@@ -95,19 +96,19 @@ module _ {q : ℕ} (P : Party) (l : List ℕ) (y : Layout) (at : Site) (held : �
           omega (arith, n .openings, s .space, opening-words g c),
         )
 
-  pub sends-output : Sends q P l y at Open held coefficients room
+  pub sends-output : Sends q P l y at Open held coefficients nonce room
       → (gateSize * (at .gate) + gateSize ≤ length (P .circuit))
-      × (S.scratchSize (layoutOf y) ≤ length l)
+      × (S.slotsSize (layoutOf y) ≤ length l)
       × Held q (layoutOf y) l (gate (P .circuit) (at .gate) .first)
       × (0 < room)
   sends-output s =
       let k = s .ready in
       (gate-there P l y at Open k, room-there P l y at Open k, output-held P l y at k, omega (arith, s .space, output-words (gate (P .circuit) (at .gate)) (class-of P l y at Open k)))
 
-  module _ (r : Round) (s : Sends q P l y at r held coefficients room) where
+  module _ (r : Round) (s : Sends q P l y at r held coefficients nonce room) where
     -- a commitment has a coefficient for each entry that it checks
     pub sends-check : {k : ℕ} → isCommit r ≡ true → k ≡ openedIn (unchecked (P .circuit) (at .gate)) r
-        → (S.scratchSize (layoutOf y) ≤ length l) × (getD (P .prep) 0 0 < q) × (k ≤ length coefficients) × Below q coefficients × OpenedTo q (layoutOf y) l k
+        → (S.slotsSize (layoutOf y) ≤ length l) × (getD (P .prep) 0 0 < q) × (k ≤ length coefficients) × Below q coefficients × OpenedTo q (layoutOf y) l k
     unfolding coefficientsIn
     sends-check {k} c e =
         let d : length coefficients ≡ openedIn (unchecked (P .circuit) (at .gate)) r = s .coefficient-count ∙ rw c in
@@ -128,11 +129,11 @@ module _ (O : Ops) (P : Party) (l : List ℕ) (y : Layout) (at : Site) (r : Roun
   holds-none c = record { is = rw c; below = omega (arith, k .prep-low 0) }
 
 -- what the code wrote is what is defined
-module _ (O : Ops) (P : Party) (l : List ℕ) (y : Layout) (at : Site) (held : ℕ) (out : List ℕ) {ws : List ℕ} where
+module _ (O : Ops) (P : Party) (l : List ℕ) (y : Layout) (at : Site) (held : ℕ) (coefficients nonce out : List ℕ) {ws : List ℕ} where
   pub sent-input : Ready (O .size) P l y at Own
       → shape (gate (P .circuit) (at .gate)) .class ≡ Owned
       → ws ≡ overwrite (inputWord O (P .me) (gate (P .circuit) (at .gate) .first) (drop (at .prep) (P .prep)) (getD (P .inputs) (at .input) 0) ∷ []) out
-      → ws ≡ overwrite (sent O P l (at .gate) held Own) out
+      → ws ≡ overwrite (sent O P l (at .gate) held coefficients nonce Own) out
   unfolding sent ownWords recordOf recordIn inputOf
   sent-input k c e = e ∙ rw (c, k .sited .prep, k .sited .input)
 
@@ -141,20 +142,20 @@ module _ (O : Ops) (P : Party) (l : List ℕ) (y : Layout) (at : Site) (held : �
       → {x z o : ℕ}
       → Named (gate (P .circuit) (at .gate)) x z o
       → ws ≡ overwrite (openingWords O (layoutOf y) l x z (drop (at .prep) (P .prep)) o) out
-      → ws ≡ overwrite (sent O P l (at .gate) held Own) out
+      → ws ≡ overwrite (sent O P l (at .gate) held coefficients nonce Own) out
   unfolding sent ownWords opening recordOf recordIn
   sent-opening k c n e = e ∙ rw (c, n .first, n .second, n .openings, k .sited .prep, k .lay)
 
   -- the other classes have no round of their own
   pub sent-nothing : (shape (gate (P .circuit) (at .gate)) .class ≡ Local) ⊎ (shape (gate (P .circuit) (at .gate)) .class ≡ Output)
       → ws ≡ out
-      → ws ≡ overwrite (sent O P l (at .gate) held Own) out
+      → ws ≡ overwrite (sent O P l (at .gate) held coefficients nonce Own) out
   unfolding sent ownWords
   sent-nothing (inl c) e = rw c (e ∙ overwrite-none out)
   sent-nothing (inr c) e = rw c (e ∙ overwrite-none out)
 
   pub sent-output : Ready (O .size) P l y at Open
       → ws ≡ overwrite (S.wire (layoutOf y) l (gate (P .circuit) (at .gate) .first) .share ∷ []) out
-      → ws ≡ overwrite (sent O P l (at .gate) held Open) out
+      → ws ≡ overwrite (sent O P l (at .gate) held coefficients nonce Open) out
   unfolding sent
   sent-output k e = e ∙ rw (k .lay)

@@ -14,7 +14,7 @@ use Rattle.circuit.specs.Kind.{Local, Role, Unused, Party, Wire, Constant, kind
 use Rattle.circuit.specs.Valid.{Fits, ValidGate}
 use Rattle.circuit.proofs.Tests.{false-no}
 use Rattle.protocol.specs.Part.{Part, plus, minus}
-use Rattle.protocol.specs.Scratch.{Layout, scratchSize, putWire}
+use Rattle.protocol.specs.Scratch.{Layout, slotsSize, putWire}
 use Rattle.protocol.specs.Position.{reach}
 use Rattle.protocol.specs.Receive.{linear, afterLinear, settle}
 use Rattle.protocol.specs.Holding.{Worked, Read, Reads}
@@ -90,7 +90,7 @@ pub record Keeps (q : ℕ) (c : List ℕ) (y : Layout) (u : ℕ) (l₀ : List �
 module _ {q : ℕ} (c : List ℕ) (y : Layout) where
   pub written-keeps : (u : ℕ) (l : List ℕ) (j : ℕ) (l′ : List ℕ)
       → Written q y l j l′
-      → scratchSize y ≤ length l
+      → slotsSize y ≤ length l
       → j < y .gates
       → Worked q c y l j
       → OpenedTo q y l u
@@ -154,7 +154,7 @@ module _ (c : List ℕ) (n b : ℕ) where
 -- the linear gates keep what was worked out and opened
 pub settle-keeps : {O : Ops} (F : Field O) (c : List ℕ) (y : Layout) (i key u left j : ℕ) (l : List ℕ)
     → j + left ≤ y .gates
-    → scratchSize y ≤ length l
+    → slotsSize y ≤ length l
     → Worked (O .size) c y l j
     → OpenedTo (O .size) y l u
     → Keeps (O .size) c y u l (reach c left j) (settle O i key c y left j l)
@@ -169,7 +169,7 @@ settle-keeps {O} F c y i key u (suc left) j l e room w o =
     go : (b : Bool)
         → isLinear (gate c j) ≡ b
         → (suc j + left ≤ y .gates
-        → scratchSize y ≤ length l′
+        → slotsSize y ≤ length l′
         → Worked (O .size) c y l′ (suc j)
         → OpenedTo (O .size) y l′ u
         → Keeps (O .size) c y u l′ (reach c left (suc j)) (settle O i key c y left (suc j) l′))
@@ -216,12 +216,12 @@ module _ {O : Ops} (c : List ℕ) (y : Layout) (i key b : ℕ) (l₀ : List ℕ)
         → j < y .gates
         → {g : Gate}
         → g ≡ gate c j
-        → (scratchSize y ≤ length l) × Reads (O .size) y l g
+        → (slotsSize y ≤ length l) × Reads (O .size) y l g
     settling-asks s h e =
         (rw (inv .len) (s .room), rw e (reads (s .parties) (O .size) c j y l (s .valid .each j (omega (arith, s .count))) (inv .worked)))
 
     pub settling-again : Field O
-        → scratchSize y ≤ length l₀
+        → slotsSize y ≤ length l₀
         → j < y .gates
         → isLinear (gate c j) ≡ true
         → {l′ : List ℕ}

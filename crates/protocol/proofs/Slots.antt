@@ -8,19 +8,19 @@ use native.Mathlib.Omega.{arith}
 use lib.ListN.{length, set, length-set}
 use lib.Seq.{getD-set-same, getD-set-other, set-set, set-comm}
 use Rattle.protocol.specs.Part.{Part}
-use Rattle.protocol.specs.Scratch.{Layout, Slot, Share, Mac, Value, ValueMac, offset, scratchSize, read, write, wire, putWire, putOpened}
+use Rattle.protocol.specs.Scratch.{Layout, Slot, Share, Mac, Value, ValueMac, offset, slotsSize, read, write, wire, putWire, putOpened}
 use Rattle.protocol.specs.Holding.{Within}
 
 module _ (y : Layout) where
-  offset-lt : (s : Slot) → Within y s → offset y s < scratchSize y
-  unfolding offset scratchSize
+  offset-lt : (s : Slot) → Within y s → offset y s < slotsSize y
+  unfolding offset slotsSize
   offset-lt (Share j) w = omega arith
   offset-lt (Mac j) w = omega arith
   offset-lt (Value j) w = omega arith
   offset-lt (ValueMac j) w = omega arith
 
   -- the slot's place is in a list of n numbers that holds the scratch
-  pub slot-fits : (s : Slot) {n : ℕ} → scratchSize y ≤ n → Within y s → offset y s < n
+  pub slot-fits : (s : Slot) {n : ℕ} → slotsSize y ≤ n → Within y s → offset y s < n
   slot-fits s h w = omega (arith, offset-lt s w)
 
   pub length-write : (l : List ℕ) (s : Slot) (x : ℕ) → length (write y l s x) ≡ length l
@@ -35,7 +35,7 @@ module _ (y : Layout) where
   unfolding putOpened
   length-opened l t v m = simp length-write
 
-  pub read-same : (l : List ℕ) (s : Slot) (x : ℕ) → scratchSize y ≤ length l → Within y s → read y (write y l s x) s ≡ x
+  pub read-same : (l : List ℕ) (s : Slot) (x : ℕ) → slotsSize y ≤ length l → Within y s → read y (write y l s x) s ≡ x
   unfolding read write
   read-same l s x h w = getD-set-same l (offset y s) x 0 (slot-fits s h w)
 
@@ -44,7 +44,7 @@ module _ (y : Layout) where
   read-other l s t x a = getD-set-other l (offset y t) (offset y s) x 0 a
 
   -- a wire written is read back
-  pub wire-put-same : (l : List ℕ) (j : ℕ) (x : Part) → scratchSize y ≤ length l → j < y .gates → wire y (putWire y l j x) j ≡ x
+  pub wire-put-same : (l : List ℕ) (j : ℕ) (x : Part) → slotsSize y ≤ length l → j < y .gates → wire y (putWire y l j x) j ≡ x
   unfolding wire putWire offset
   wire-put-same l j x h w =
       λ i.
@@ -89,12 +89,12 @@ module _ (y : Layout) where
       }
 
   -- an opened entry written is read back, and the others stay
-  pub value-opened-same : (l : List ℕ) (t v m : ℕ) → scratchSize y ≤ length l → t < y .capacity → read y (putOpened y l t v m) (Value t) ≡ v
+  pub value-opened-same : (l : List ℕ) (t v m : ℕ) → slotsSize y ≤ length l → t < y .capacity → read y (putOpened y l t v m) (Value t) ≡ v
   unfolding putOpened offset
   value-opened-same l t v m h z = read-other _ (Value t) (ValueMac t) _ (omega arith) ∙ read-same l (Value t) v h z
 
   pub value-mac-opened-same : (l : List ℕ) (t v m : ℕ)
-      → scratchSize y ≤ length l
+      → slotsSize y ≤ length l
       → t < y .capacity
       → read y (putOpened y l t v m) (ValueMac t) ≡ m
   unfolding putOpened offset

@@ -27,9 +27,9 @@ module _ (O : Ops) (P : Party) (l : List ℕ) (j : ℕ) (e : gate (P .circuit) j
   factorOf k = cond (eqb (kindShape k .openings) 2) (theGate .second) (theGate .first)
 
   -- what a party sends
-  pub square-sent : (held : ℕ) → sent O P l j held Own ≡ squareWords O (layout (P .circuit)) l (theGate .first) (recordOf P j)
+  pub square-sent : (held : ℕ) (coefficients nonce : List ℕ) → sent O P l j held coefficients nonce Own ≡ squareWords O (layout (P .circuit)) l (theGate .first) (recordOf P j)
   unfolding sent ownWords opening factor kindShape squareWords
-  square-sent held =
+  square-sent held coefficients nonce =
       rw e
       (subst
       (λ (k : Kind).

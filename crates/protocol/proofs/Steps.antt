@@ -13,7 +13,7 @@ use Rattle.algebra.specs.Ops.{Ops}
 use Rattle.algebra.specs.Field.{Field}
 use Rattle.circuit.proofs.Tests.{by-cases}
 use Rattle.protocol.specs.Part.{Part, partAt, minus, product}
-use Rattle.protocol.specs.Scratch.{Layout, scratchSize, wire, putWire, putOpened}
+use Rattle.protocol.specs.Scratch.{Layout, slotsSize, wire, putWire, putOpened}
 use Rattle.protocol.specs.Party.{aAt, bAt, cAt}
 use Rattle.protocol.specs.Send.{masked}
 use Rattle.protocol.specs.Receive.{afterInput, putDifferences, afterOpening, afterOpenOutput}
@@ -22,7 +22,7 @@ use Rattle.protocol.proofs.Slots.{length-opened, length-put, opened-twi
 use Rattle.protocol.proofs.Writing.{OpenedTo, worked-put, opened-put, worked-opened, opened-more, wire-elements, minus-elements, shift-elements, product-elements}
 use Rattle.protocol.proofs.Settling.{Keeps, written-keeps}
 
-module _ {O : Ops} (F : Field O) (c : List ℕ) (y : Layout) (l : List ℕ) (j : ℕ) (room : scratchSize y ≤ length l)
+module _ {O : Ops} (F : Field O) (c : List ℕ) (y : Layout) (l : List ℕ) (j : ℕ) (room : slotsSize y ≤ length l)
     (worked : Worked (O .size) c y l j) where
   open Ops O using (size)
 

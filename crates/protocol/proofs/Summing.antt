@@ -13,7 +13,7 @@ use Rattle.algebra.specs.Field.{Field}
 use Rattle.algebra.proofs.Ring.{add-lt}
 use Rattle.algebra.proofs.Sums.{sum-ext}
 use Rattle.algebra.specs.Sum.{sum}
-use Rattle.protocol.specs.Scratch.{Layout, Value, ValueMac, offset, scratchSize, read}
+use Rattle.protocol.specs.Scratch.{Layout, Value, ValueMac, offset, slotsSize, read}
 use Rattle.protocol.specs.Holding.{Opened}
 use Rattle.protocol.specs.Send.{checkShare}
 use Rattle.protocol.specs.Receive.{heardSum}
@@ -61,7 +61,7 @@ module _ {O : Ops} (F : Field O) (y : Layout) (l : List ℕ) (k : ℕ) (coeffici
   macs-weighed e = sum-ext F k _ _ (λ t h. ap (λ (i : ℕ). O .mul (getD coefficients t 0) (getD l i 0)) (omega (arith, e)))
 
 -- and the list holds them
-module _ {q : ℕ} (y : Layout) (l : List ℕ) (k : ℕ) (some : 0 < y .capacity) (room : scratchSize y ≤ length l) (h : (t : ℕ) → t < k → Opened q y l t) where
+module _ {q : ℕ} (y : Layout) (l : List ℕ) (k : ℕ) (some : 0 < y .capacity) (room : slotsSize y ≤ length l) (h : (t : ℕ) → t < k → Opened q y l t) where
   few : k ≤ y .capacity
   few = go k h
     where
@@ -70,11 +70,11 @@ module _ {q : ℕ} (y : Layout) (l : List ℕ) (k : ℕ) (some : 0 < y .capacity
       go (suc k) h = h k (omega arith) .within
 
   pub values-there : {at : ℕ} → at ≡ offset y (Value 0) → (at + k ≤ length l) × ((t : ℕ) → t < k → getD l (at + t) 0 < q)
-  unfolding read offset scratchSize
+  unfolding read offset slotsSize
   values-there {at} e = (omega (arith, few, e), λ t l′. let z : at + t ≡ y .gates + y .gates + t = omega (arith, e) in rw z (h t l′ .value))
 
   pub macs-there : {at : ℕ} → at ≡ offset y (ValueMac 0) → (at + k ≤ length l) × ((t : ℕ) → t < k → getD l (at + t) 0 < q)
-  unfolding read offset scratchSize
+  unfolding read offset slotsSize
   macs-there {at} e = (omega (arith, few, e), λ t l′. let z : at + t ≡ y .gates + y .gates + y .capacity + t = omega (arith, e) in rw z (h t l′ .mac))
 
 -- the check share from its two sums

@@ -13,7 +13,8 @@ use Rattle.algebra.specs.Field.{Field}
 use Rattle.algebra.specs.Sum.{sum}
 use Rattle.algebra.proofs.Sums.{sum-ext}
 use Rattle.protocol.specs.Receive.{heardSum}
-use Rattle.protocol.specs.Joint.{joined, band}
+use Rattle.protocol.specs.Scratch.{band}
+use Rattle.protocol.specs.Joint.{joined}
 
 -- Each party's part of a list that is long enough has k numbers.
 pub length-band : (k n : ℕ) (l : List ℕ) → n * k ≤ length l → (i : ℕ) → i < n → length (band k l i) ≡ k

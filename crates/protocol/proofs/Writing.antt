@@ -14,7 +14,7 @@ use Rattle.circuit.specs.Gate.{gate}
 use Rattle.circuit.specs.Kind.{hasValue}
 use Rattle.circuit.proofs.Tests.{false-no}
 use Rattle.protocol.specs.Part.{Part, plus, minus, scale, shift, product}
-use Rattle.protocol.specs.Scratch.{Layout, scratchSize, wire, putWire, putOpened}
+use Rattle.protocol.specs.Scratch.{Layout, slotsSize, wire, putWire, putOpened}
 use Rattle.protocol.specs.Holding.{Held, Worked, Opened}
 use Rattle.protocol.proofs.Slots.{wire-put-same, wire-put-other, wire-opened, value-put, value-mac-put, value-opened-same, value-mac-opened-same, value-opened-other, value-mac-opened-other}
 
@@ -67,7 +67,7 @@ module _ {q : ℕ} (y : Layout) (l : List ℕ) where
   unfolding wire
   wire-elements x h = record { share = h .share; mac = h .mac }
 
-  module _ (j : ℕ) (r : Part) (room : scratchSize y ≤ length l) (within : j < y .gates) (low : Elements q r) where
+  module _ (j : ℕ) (r : Part) (room : slotsSize y ≤ length l) (within : j < y .gates) (low : Elements q r) where
     held-put : Held q y (putWire y l j r) j
     unfolding wire
     held-put =
@@ -103,7 +103,7 @@ module _ {q : ℕ} (y : Layout) (l : List ℕ) where
         let h = w x lx a in held-alike (putOpened y l u v m) x (wire-opened y l x u v m (h .within) within) h
 
     -- one opened entry more
-    pub opened-more : scratchSize y ≤ length l → v < q → m < q → OpenedTo q y l u → OpenedTo q y (putOpened y l u v m) (suc u)
+    pub opened-more : slotsSize y ≤ length l → v < q → m < q → OpenedTo q y l u → OpenedTo q y (putOpened y l u v m) (suc u)
     opened-more room lv lm o t h = go (ℕ-discrete t u)
       where
         go : Dec (t ≡ u) → Opened q y (putOpened y l u v m) t

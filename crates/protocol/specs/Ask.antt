@@ -1,4 +1,4 @@
--- The questions at a party's entries: 1 to 21 of document 01.
+-- The questions at a party's entries: 1 to 20 of document 01, and 25 of document 02.
 -- Assumes nothing.
 use Prim.Native.Nat.{ℕ, _*_}
 use mathlib.Core.Bool.{Bool, true, cond, not, _&&_, _||_}
@@ -9,12 +9,11 @@ use Rattle.circuit.specs.Verdict.{Verdict, Accepted, Refused, ask, _then_, each
 use Rattle.circuit.specs.Gate.{gate}
 use Rattle.circuit.specs.Kind.{hasValue}
 use Rattle.circuit.specs.Count.{prepSize, inputCount, unchecked}
-use Rattle.circuit.specs.Round.{Round, isCommit, words, openedIn, coefficientsIn}
+use Rattle.circuit.specs.Round.{Round, Own, Open, Commit, Reveal, revealWords, words, openedIn, coefficientsIn, nonceIn}
 use Rattle.circuit.specs.Accept.{askCircuit}
 use Rattle.protocol.specs.Scratch.{Slot, Share, Mac, Value, ValueMac, layout, offset, scratchSize, read}
 use Rattle.protocol.specs.Position.{Position, occurs, whenSending, whenReceiving}
 use Rattle.protocol.specs.Party.{Party}
-use Rattle.protocol.specs.Send.{mark}
 
 -- "Are there 2 to 8 seats? 1."
 abbrev pub fewestParties : ℕ
@@ -26,9 +25,13 @@ mostParties = 8
 unfoldable pub askParties : ℕ → Verdict
 askParties n = ask 1 0 (leb fewestParties n && leb n mostParties)
 
--- "At a seal, all 1? 21."
-unfoldable pub askMarks : Round → List ℕ → Verdict
-askMarks r heard = cond (isCommit r) (each (length heard) (λ k. ask 21 k (eqb (getD heard k 0) mark))) Accepted
+-- "All below p? 20." "Mark and nonce words are any 32-bit numbers": of a reveal the check shares of n parties are asked, of a commitment no word; q is
+-- the size of the field
+abbrev pub askHeard : ℕ → ℕ → Round → List ℕ → Verdict
+askHeard q n Own heard = elements 20 q heard
+askHeard q n Open heard = elements 20 q heard
+askHeard q n (Commit k) heard = Accepted
+askHeard q n (Reveal k) heard = each n (λ i. ask 20 (i * revealWords) (ltb (getD heard (i * revealWords) 0) q))
 
 -- q is the size of the field, document 01's p
 module _ (q : ℕ) (c : List ℕ) where
@@ -48,21 +51,22 @@ module _ (q : ℕ) (c : List ℕ) where
       then askSlots l (openedIn (unchecked c j) r) (λ t. true) Value
       then askSlots l (openedIn (unchecked c j) r) (λ t. true) ValueMac
 
-  -- "Speaking: exactly the draws wanted (none outside a seal)? 16. Below p? 17. Does the outgoing list hold the words? 18."
-  unfoldable pub askSendRound : List ℕ → ℕ → List ℕ → ℕ → Round → Verdict
-  askSendRound l j coefficients room r =
+  -- "Speaking: exactly the draws wanted (none outside a seal)? 16. Below p? 17. Does the outgoing list hold the words? 18."; "a nonce list of any
+  -- length but 32 at a spoken seal, 0 in any other speaking .. is 25, asked after 17"
+  unfoldable pub askSendRound : List ℕ → ℕ → List ℕ → List ℕ → ℕ → Round → Verdict
+  askSendRound l j coefficients nonce room r =
       askWorked l j r
       then ask 16 0 (eqb (length coefficients) (coefficientsIn (unchecked c j) r))
       then elements 17 q coefficients
+      then ask 25 0 (eqb (length nonce) (nonceIn r))
       then ask 18 0 (leb (words (gate c j) r) room)
 
-  -- "Hearing: exactly seats × words of this round? 19. All below p? 20. At a seal, all 1? 21." Of n parties
+  -- "Hearing: exactly seats × words of this round? 19. All below p? 20."; "Question 21 is dropped". Of n parties
   unfoldable pub askReceiveRound : ℕ → List ℕ → ℕ → List ℕ → Round → Verdict
   askReceiveRound n l j heard r =
       askWorked l j r
       then ask 19 0 (eqb (length heard) (n * words (gate c j) r))
-      then elements 20 q heard
-      then askMarks r heard
+      then askHeard q n r heard
 
 module _ (q : ℕ) (P : Party) where
   -- "Opening, speaking and hearing ask 1 to 12 of all that is lent"
@@ -75,14 +79,14 @@ module _ (q : ℕ) (P : Party) where
       then elements 9 q (P .prep)
       then ask 10 0 (eqb (length (P .inputs)) (inputCount (P .circuit) (P .me)))
       then elements 11 q (P .inputs)
-      then ask 12 0 (leb (scratchSize (layout (P .circuit))) (length scratch))
+      then ask 12 0 (leb (scratchSize (P .parties) (P .circuit)) (length scratch))
 
   -- "Can the place occur in this circuit, its held word below p? 13. Is it the half that is called? 14 (a finished or stopped place has neither)."
-  unfoldable pub askSend : List ℕ → Position → List ℕ → ℕ → Verdict
-  askSend l at coefficients room =
+  unfoldable pub askSend : List ℕ → Position → List ℕ → List ℕ → ℕ → Verdict
+  askSend l at coefficients nonce room =
       askLent l
       then ask 13 0 (occurs q (P .circuit) at)
-      then whenSending (at .stage) (Refused 14 0) (askSendRound q (P .circuit) l (at .gate) coefficients room)
+      then whenSending (at .stage) (Refused 14 0) (askSendRound q (P .circuit) l (at .gate) coefficients nonce room)
 
   unfoldable pub askReceive : List ℕ → Position → List ℕ → Verdict
   askReceive l at heard =

@@ -2,15 +2,13 @@
 -- Assumes nothing.
 use Prim.Native.Nat.{ℕ, _<_}
 use mathlib.Core.Path.{_≡_}
-use mathlib.Core.Bool.{cond}
 use mathlib.Core.List.{List}
 use Rattle.circuit.specs.Gate.{gates}
 use Rattle.circuit.specs.Count.{prepAt, inputAt, unchecked}
-use Rattle.circuit.specs.Round.{Round}
 use Rattle.circuit.specs.Code.{roundOf}
 use Rattle.protocol.specs.Scratch as S
 use Rattle.protocol.specs.Position as P
-use Rattle.protocol.specs.Entry as E
+use Rattle.protocol.specs.Receive as R
 use Rattle.protocol.specs.declared.Layout.{Layout}
 use Rattle.protocol.specs.declared.Slot.{Slot}
 use Rattle.protocol.specs.declared.Slot.the-variants.{Share, Mac, Value, ValueMac}
@@ -18,6 +16,10 @@ use Rattle.protocol.specs.declared.Stage.{Stage}
 use Rattle.protocol.specs.declared.Stage.the-variants.{Send, Receive, Finished, Aborted}
 use Rattle.protocol.specs.declared.Point.{Point}
 use Rattle.protocol.specs.declared.Site.{Site}
+use Rattle.protocol.specs.declared.Blame.{Blame}
+use Rattle.protocol.specs.declared.Blame.the-variants.{Nobody, Blames}
+use Rattle.protocol.specs.declared.Ruling.{Ruling}
+use Rattle.protocol.specs.declared.Ruling.the-variants.{Passed, Stopped}
 
 unfoldable pub layoutOf : Layout → S.Layout
 layoutOf y = record { gates = y .gates; capacity = y .capacity }
@@ -44,12 +46,11 @@ pub record Sited (c : List ℕ) (i : ℕ) (at : Site) : Type 0 where
   pub unchecked : at .unchecked ≡ unchecked c (at .gate)
   pub input : at .input ≡ inputAt c i (at .gate)
 
--- the answer by the point that follows round r: an abort, or else that point, with the output where r releases one
-unfoldable pub leadsBy : Round → ℕ → P.Position → P.Stage → E.Answer
-leadsBy r output at (P.Send s) = cond (E.releases r) (E.Output output at) (E.Next at)
-leadsBy r output at (P.Receive s) = cond (E.releases r) (E.Output output at) (E.Next at)
-leadsBy r output at P.Finished = cond (E.releases r) (E.Output output at) (E.Next at)
-leadsBy r output at P.Aborted = E.Abort at
+-- whom a stop names, and how a round ends
+unfoldable pub blameOf : Blame → R.Blame
+blameOf Nobody = R.Nobody
+blameOf (Blames i) = R.Blames i
 
-unfoldable pub leadsTo : Round → ℕ → ℕ → P.Point → E.Answer
-leadsTo r held output x = leadsBy r output (P.holding x (P.keep r held)) (x .stage)
+unfoldable pub rulingOf : Ruling → R.Ruling
+rulingOf Passed = R.Passed
+rulingOf (Stopped b) = R.Stopped (blameOf b)

@@ -10,8 +10,8 @@ use Rattle.circuit.specs.Round.{First, Second, Round, Own, Open, Commit, Reveal
 use Rattle.protocol.specs.Scratch.{layout, Value, read}
 use Rattle.protocol.specs.Position.{Position, holding, Receive, start, keep, whenSending, whenReceiving}
 use Rattle.protocol.specs.Party.{Party}
-use Rattle.protocol.specs.Send.{overwrite, sent, holds}
-use Rattle.protocol.specs.Receive.{passes, next, received}
+use Rattle.protocol.specs.Send.{overwrite, sent, holds, noted}
+use Rattle.protocol.specs.Receive.{Blame, Ruling, Passed, Stopped, next, finds, left}
 use Rattle.protocol.specs.Ask.{askLent, askSend, askReceive}
 
 -- what an entry answers
@@ -22,8 +22,8 @@ pub data Answer : Type 0 where
   Next : Position → Answer
   -- "Passing the second check releases the sum as the score": the output and the next position
   Output : ℕ → Position → Answer
-  -- "Stopped is no refusal.": the position names the gate
-  Abort : Position → Answer
+  -- "Stopped is no refusal.": the position names the gate; "naming the lowest such seat beside the line", or nobody
+  Abort : Blame → Position → Answer
 
 -- what an accepted call gives, and otherwise the refusal
 unfoldable pub answer : Verdict → Answer → Answer
@@ -51,30 +51,37 @@ module _ (O : Ops) (P : Party) where
   openAnswer scratch = answer (askLent size P scratch) (Next (holding (start (P .circuit)) 0))
 
   -- Speaking: the receiving half of the same round, with the check share now held
-  unfoldable pub sendAnswer : List ℕ → Position → List ℕ → ℕ → Answer
-  sendAnswer l at coefficients room =
-      answer (askSend size P l at coefficients room)
+  unfoldable pub sendAnswer : List ℕ → Position → List ℕ → List ℕ → ℕ → Answer
+  sendAnswer l at coefficients nonce room =
+      answer (askSend size P l at coefficients nonce room)
       (Next (whenSending (at .stage) at
       (λ r. record { gate = at .gate; stage = Receive r; held = holds O P l (at .gate) r coefficients })))
 
   -- "a speaking half, which writes the seat's words": the outgoing list afterwards
-  unfoldable pub sendOut : List ℕ → Position → List ℕ → List ℕ → List ℕ
-  sendOut l at coefficients out =
-      leave (askSend size P l at coefficients (length out))
-      (overwrite (whenSending (at .stage) [] (sent O P l (at .gate) (at .held))) out) out
+  unfoldable pub sendOut : List ℕ → Position → List ℕ → List ℕ → List ℕ → List ℕ
+  sendOut l at coefficients nonce out =
+      leave (askSend size P l at coefficients nonce (length out))
+      (overwrite (whenSending (at .stage) [] (sent O P l (at .gate) (at .held) coefficients nonce)) out) out
 
-  -- the position once round r of gate j is received, where held was held
-  unfoldable pub nextPosition : ℕ → ℕ → List ℕ → Round → Position
-  nextPosition j held heard r = holding (next O (P .parties) (P .circuit) j r heard) (keep r held)
+  -- the scratch afterwards
+  unfoldable pub sendScratch : List ℕ → Position → List ℕ → List ℕ → ℕ → List ℕ
+  sendScratch l at coefficients nonce room =
+      leave (askSend size P l at coefficients nonce room)
+      (whenSending (at .stage) l (λ r. noted O P l r nonce)) l
+
+  -- the position once round r of gate j is received and ends so, where held was held
+  unfoldable pub nextPosition : ℕ → ℕ → Round → Ruling → Position
+  nextPosition j held r v = holding (next (P .circuit) j r v) (keep r held)
+
+  -- what a round r of gate j that ends so leads to, where output is the value at opened index 0
+  unfoldable pub concludes : ℕ → ℕ → ℕ → Round → Ruling → Answer
+  concludes output j held r Passed =
+      cond (releases r) (Output output (nextPosition j held r Passed)) (Next (nextPosition j held r Passed))
+  concludes output j held r (Stopped b) = Abort b (nextPosition j held r (Stopped b))
 
   -- what receiving round r of gate j leads to
   unfoldable pub outcome : List ℕ → ℕ → ℕ → List ℕ → Round → Answer
-  outcome l j held heard r =
-      cond (passes O (P .parties) r heard)
-      (cond (releases r)
-      (Output (read (layout (P .circuit)) l (Value 0)) (nextPosition j held heard r))
-      (Next (nextPosition j held heard r)))
-      (Abort (nextPosition j held heard r))
+  outcome l j held heard r = concludes (read (layout (P .circuit)) l (Value 0)) j held r (finds O P l r heard)
 
   -- Hearing: "a hearing half, which reads all seats' words in seat order"
   unfoldable pub receiveAnswer : List ℕ → Position → List ℕ → Answer
@@ -86,4 +93,4 @@ module _ (O : Ops) (P : Party) where
   unfoldable pub receiveScratch : List ℕ → Position → List ℕ → List ℕ
   receiveScratch l at heard =
       leave (askReceive size P l at heard)
-      (whenReceiving (at .stage) l (λ r. received O P l (at .gate) r heard)) l
+      (whenReceiving (at .stage) l (λ r. left O P (finds O P l r heard) l (at .gate) r heard)) l

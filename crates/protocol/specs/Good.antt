@@ -11,7 +11,7 @@ use Rattle.circuit.specs.Kind.{Class, Local, Owned, Opens, Output, shape}
 use Rattle.circuit.specs.Count.{prepSize}
 use Rattle.protocol.specs.Part.{partAt}
 use Rattle.protocol.specs.Party.{recordIn, maskAt, wholeMaskAt, aAt, bAt, cAt}
-use Rattle.protocol.specs.Joint.{band}
+use Rattle.protocol.specs.Scratch.{band}
 
 -- the preprocessing of n parties for circuit c, joined in party order
 module _ (O : Ops) (n : ℕ) (c preps : List ℕ) where

@@ -10,7 +10,7 @@ use Rattle.algebra.specs.Element.{Is}
 use Rattle.circuit.specs.Gate.{gateSize, Gate, gate, gates}
 use Rattle.circuit.specs.Kind.{shape, isIn, opens, factor}
 use Rattle.circuit.specs.Count.{prepSize, inputCount, unchecked}
-use Rattle.circuit.specs.Round.{Round, rounds, among, words, openedIn, coefficientsIn}
+use Rattle.circuit.specs.Round.{Round, Own, Open, Commit, Reveal, revealWords, rounds, among, words, openedIn, coefficientsIn, nonceIn}
 use Rattle.circuit.specs.Accept.{mostGates}
 use Rattle.circuit.specs.Valid.{Valid}
 use Rattle.protocol.specs.Scratch as S
@@ -31,7 +31,7 @@ pub record Opening (q key : ℕ) (y : S.Layout) (l : List ℕ) (j x z : ℕ) (m 
   pub d-low : d < q
   pub prep-long : 2 * k + 1 < length m
   pub prep-low : Below q m
-  pub room : S.scratchSize y ≤ length l
+  pub room : S.slotsSize y ≤ length l
   pub within : j < y .gates
   pub first-held : Held q y l x
   pub second-held : Held q y l z
@@ -43,7 +43,7 @@ pub record Settles (q : ℕ) (c : List ℕ) (y : S.Layout) (key : ℕ) (l : List
   pub valid : Valid parties q c
   pub count : y .gates ≡ gates c
   pub key-low : key < q
-  pub room : S.scratchSize y ≤ length l
+  pub room : S.slotsSize y ≤ length l
   pub upto : j ≤ y .gates
   pub worked : Worked q c y l j
 
@@ -65,24 +65,32 @@ pub record Ready (q : ℕ) (P : Party) (l : List ℕ) (y : Layout) (at : Site) (
   pub inputs-long : length (P .inputs) ≡ inputCount (P .circuit) (P .me)
   pub inputs-low : Below q (P .inputs)
   pub lay : layoutOf y ≡ S.layout (P .circuit)
-  pub room : S.scratchSize (S.layout (P .circuit)) ≤ length l
+  pub room : S.scratchSize (P .parties) (P .circuit) ≤ length l
   pub sited : Sited (P .circuit) (P .me) at
   pub occurs : among r (rounds (P .circuit) (at .gate)) ≡ true
   pub worked : Worked q (P .circuit) (S.layout (P .circuit)) l (at .gate)
   pub opened : (t : ℕ) → t < openedIn (unchecked (P .circuit) (at .gate)) r → Opened q (S.layout (P .circuit)) l t
 
--- and of sending, 16 to 18; room is the length of the outgoing list
-pub record Sends (q : ℕ) (P : Party) (l : List ℕ) (y : Layout) (at : Site) (r : Round) (held : ℕ) (coefficients : List ℕ) (room : ℕ) : Type 0 where
+-- and of sending, 16 to 18 and 25; room is the length of the outgoing list
+pub record Sends (q : ℕ) (P : Party) (l : List ℕ) (y : Layout) (at : Site) (r : Round) (held : ℕ) (coefficients nonce : List ℕ) (room : ℕ) : Type 0 where
   pub ready : Ready q P l y at r
   pub coefficient-count : length coefficients ≡ coefficientsIn (unchecked (P .circuit) (at .gate)) r
   pub coefficients-low : Below q coefficients
+  pub nonce-long : length nonce ≡ nonceIn r
   pub space : words (gate (P .circuit) (at .gate)) r ≤ room
+
+-- the words heard of n parties that are numbers below q: of a reveal the check shares, of a commitment none, and else all
+abbrev pub HeardLow : ℕ → ℕ → Round → List ℕ → Type 0
+HeardLow q n Own heard = Below q heard
+HeardLow q n Open heard = Below q heard
+HeardLow q n (Commit k) heard = Unit {0}
+HeardLow q n (Reveal k) heard = (i : ℕ) → i < n → getD heard (i * revealWords) 0 < q
 
 -- and of receiving, 19 and 20
 pub record Receives (q : ℕ) (P : Party) (l : List ℕ) (y : Layout) (at : Site) (r : Round) (heard : List ℕ) : Type 0 where
   pub ready : Ready q P l y at r
   pub whole : length heard ≡ P .parties * words (gate (P .circuit) (at .gate)) r
-  pub heard-low : Below q heard
+  pub heard-low : HeardLow q (P .parties) r heard
 
 -- gate g names x and z, and opens k values
 pub record Named (g : Gate) (x z k : ℕ) : Type 0 where

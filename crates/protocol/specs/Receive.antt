@@ -1,7 +1,7 @@
 -- What a party works out of the words of all, in party order.
 -- Assumes nothing.
 use Prim.Native.Nat.{ℕ, zero, suc, _+_, _-_, _*_}
-use mathlib.Core.Bool.{Bool, true, cond}
+use mathlib.Core.Bool.{Bool, true, false, cond}
 use mathlib.Core.List.{List}
 use lib.ListN.{getD}
 use lib.Dec.{eqb}
@@ -10,12 +10,50 @@ use Rattle.algebra.specs.Sum.{sum}
 use Rattle.circuit.specs.Gate.{Kind, In, Add, Sub, Plus, Times, Mul, Out, Sq, Gate, gate, gates}
 use Rattle.circuit.specs.Kind.{Class, Local, Owned, Opens, Output, shape, isLinear, factor}
 use Rattle.circuit.specs.Count.{unchecked}
-use Rattle.circuit.specs.Round.{Check, First, Second, Round, Own, Open, Commit, Reveal, isReveal, revealWords, words}
+use Rattle.circuit.specs.Round.{Check, First, Second, Round, Own, Open, Commit, Reveal, isReveal, commitWords, revealWords, words}
+use Rattle.sha256.specs.Digest.{same}
 use Rattle.protocol.specs.Part.{Part, partAt, plus, minus, scale, shift, product}
-use Rattle.protocol.specs.Scratch.{Layout, layout, wire, putWire, putOpened}
+use Rattle.protocol.specs.Scratch.{Layout, layout, wire, putWire, putOpened, band, marksOf, putMarks}
 use Rattle.protocol.specs.Position.{Point, aborted, follow}
 use Rattle.protocol.specs.Party.{Party, key, recordOf, maskAt, aAt, bAt, cAt}
-use Rattle.protocol.specs.Send.{masked}
+use Rattle.protocol.specs.Send.{mark, masked}
+
+-- whom a stop names: the party whose reveal does not fit its mark, or nobody
+pub data Blame : Type 0 where
+  Nobody : Blame
+  Blames : ℕ → Blame
+
+-- how a round ends
+pub data Ruling : Type 0 where
+  Passed : Ruling
+  Stopped : Blame → Ruling
+
+abbrev pub passed : Ruling → Bool
+passed Passed = true
+passed (Stopped b) = false
+
+-- does what party i reveals fit its mark? "A reveal whose hash is not the mark written for its seat"
+unfoldable pub fits : List ℕ → List ℕ → ℕ → Bool
+fits marks heard i = same (mark (band revealWords heard i)) (band commitWords marks i)
+
+abbrev pub firstBlame : Blame → Blame → Blame
+firstBlame Nobody b = b
+firstBlame (Blames i) b = Blames i
+
+-- "naming the lowest such seat": of the first n parties
+unfoldable pub misfit : ℕ → List ℕ → List ℕ → Blame
+misfit zero marks heard = Nobody
+misfit (suc n) marks heard = firstBlame (misfit n marks heard) (cond (fits marks heard n) Nobody (Blames n))
+
+-- "stops the run before the sum is asked ..; else the sum alone decides"
+abbrev pub weighs : Blame → Bool → Ruling
+weighs (Blames i) zeroSum = Stopped (Blames i)
+weighs Nobody true = Passed
+weighs Nobody false = Stopped Nobody
+
+-- the point after round r of gate j, which ends so
+unfoldable pub next : List ℕ → ℕ → Round → Ruling → Point
+next c j r v = cond (passed v) (follow c j r) (aborted j)
 
 module _ (O : Ops) where
   open Ops O using (mul)
@@ -71,13 +109,10 @@ module _ (O : Ops) where
   settle i key c y (suc left) j l =
       cond (isLinear (gate c j)) (settle i key c y left (suc j) (afterLinear i key y l j (gate c j))) l
 
-  -- "A zero sum of the revealed words passes .. else the run is stopped." Other rounds stop no run
-  unfoldable pub passes : ℕ → Round → List ℕ → Bool
-  passes n r heard = cond (isReveal r) (eqb (heardSum n revealWords 0 heard) 0) true
-
-  -- the point after round r of gate j: it depends on the circuit and the words heard alone
-  unfoldable pub next : ℕ → List ℕ → ℕ → Round → List ℕ → Point
-  next n c j r heard = cond (passes n r heard) (follow c j r) (aborted j)
+  -- how the hearing of round r by one of n parties ends, in whose scratch these marks stand. Only a reveal stops a run
+  unfoldable pub ruling : ℕ → Round → List ℕ → List ℕ → Ruling
+  ruling n r marks heard =
+      cond (isReveal r) (weighs (misfit n marks heard) (eqb (heardSum n revealWords 0 heard) 0)) Passed
 
   module _ (P : Party) where
     -- the scratch once the gates after j are done up to the next stop
@@ -102,16 +137,23 @@ module _ (O : Ops) where
         (heardSum (P .parties) (words g Own) (k - 1) heard))
     ownReceived l j heard Output = l
 
-    -- the scratch after a reveal
-    unfoldable pub revealed : List ℕ → ℕ → List ℕ → Check → List ℕ
-    revealed l j heard First = l
-    revealed l j heard Second = cond (passes (P .parties) (Reveal Second) heard) (onward j l) l
+    -- the scratch after a check that passes
+    unfoldable pub checkPassed : List ℕ → ℕ → Check → List ℕ
+    checkPassed l j First = l
+    checkPassed l j Second = onward j l
 
-    -- the scratch after round r of gate j. "A hearing that stops a run .. writes nothing in the scratch"
+    -- the scratch after round r of gate j, where it stops no run. A commitment's marks are "written at hearing"
     unfoldable pub received : List ℕ → ℕ → Round → List ℕ → List ℕ
     received l j Own heard = ownReceived l j heard (shape (gate (P .circuit) j) .class)
     received l j Open heard =
         afterOpenOutput (layout (P .circuit)) l (gate (P .circuit) j .first)
         (heardSum (P .parties) (words (gate (P .circuit) j) Open) 0 heard)
-    received l j (Commit k) heard = l
-    received l j (Reveal k) heard = revealed l j heard k
+    received l j (Commit k) heard = putMarks (layout (P .circuit)) l heard
+    received l j (Reveal k) heard = checkPassed l j k
+
+    -- how this party's hearing ends, and the scratch by that. "A hearing that stops a run .. writes nothing in the scratch"
+    unfoldable pub finds : List ℕ → Round → List ℕ → Ruling
+    finds l r heard = ruling (P .parties) r (marksOf (P .parties) (layout (P .circuit)) l) heard
+
+    unfoldable pub left : Ruling → List ℕ → ℕ → Round → List ℕ → List ℕ
+    left v l j r heard = cond (passed v) (received l j r heard) l

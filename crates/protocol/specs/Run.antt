@@ -7,21 +7,24 @@ use lib.ListN.{take, drop}
 use Rattle.algebra.specs.Ops.{Ops}
 use Rattle.circuit.specs.Gate.{gates}
 use Rattle.circuit.specs.Count.{unchecked}
-use Rattle.circuit.specs.Round.{Round, coefficientsIn}
-use Rattle.protocol.specs.Scratch.{layout, scratchSize, Value, read}
+use Rattle.circuit.specs.Round.{Round, coefficientsIn, commitsIn}
+use Rattle.protocol.specs.Scratch.{layout, scratchSize, Value, read, band}
 use Rattle.protocol.specs.Position.{Point, start, keep, whenSending}
-use Rattle.protocol.specs.Send.{sent, holds}
-use Rattle.protocol.specs.Receive.{passes, next, received}
+use Rattle.protocol.specs.Send.{sent, holds, noted}
+use Rattle.protocol.specs.Receive.{Blame, Nobody, Ruling, Passed, Stopped, passed, next, finds, left}
 use Rattle.protocol.specs.Entry.{releases}
-use Rattle.protocol.specs.Joint.{Joint, joined, band, party}
+use Rattle.protocol.specs.Joint.{Joint, joined, party, nonceFor}
 
 -- all parties between two rounds: the point is common to them, the check share and the scratch are each party's own
 pub record State : Type 0 where
   pub point : Point
   pub held : ℕ → ℕ
   pub scratch : ℕ → List ℕ
-  -- how many coefficients are used up
+  -- how many coefficients are used up, and how many checks are begun
   pub used : ℕ
+  pub checks : ℕ
+  -- whom the round that stopped the run names
+  pub blame : Blame
 
 -- a run of some rounds: its words ("rounds in order, seats in order within"), its outputs, its number of rounds and where it ends
 pub record Run : Type 0 where
@@ -30,6 +33,19 @@ pub record Run : Type 0 where
   pub rounds : ℕ
   pub last : State
 
+abbrev pub firstRuling : Ruling → Ruling → Ruling
+firstRuling Passed v = v
+firstRuling (Stopped b) v = Stopped b
+
+-- how a round ends for n parties together: as the lowest of them tells whose own hearing stops the run
+unfoldable pub lowest : ℕ → (ℕ → Ruling) → Ruling
+lowest zero f = Passed
+lowest (suc n) f = firstRuling (lowest n f) (f n)
+
+abbrev pub blamed : Ruling → Blame
+blamed Passed = Nobody
+blamed (Stopped b) = b
+
 module _ (O : Ops) (J : Joint) where
   -- "It lends each seat its own band of the scratch. Each band has exactly the length above, the excess lying at the end."
   unfoldable pub begun : List ℕ → State
@@ -37,36 +53,52 @@ module _ (O : Ops) (J : Joint) where
       record {
         point = start (J .circuit);
         held = λ i. 0;
-        scratch = band (scratchSize (layout (J .circuit))) scratch;
+        scratch = band (scratchSize (J .parties) (J .circuit)) scratch;
         used = 0;
+        checks = 0;
+        blame = Nobody;
       }
 
   -- how many coefficients round r takes
   unfoldable pub takes : State → Round → ℕ
   takes s r = coefficientsIn (unchecked (J .circuit) (s .point .gate)) r
 
+  -- those that it takes
+  unfoldable pub taken : State → Round → List ℕ
+  taken s r = take (takes s r) (drop (s .used) (J .coefficients))
+
   -- the words of all parties in round r, in party order
   unfoldable pub said : State → Round → List ℕ
   said s r =
       joined (J .parties)
-      (λ i. sent O (party J i) (s .scratch i) (s .point .gate) (s .held i) r)
+      (λ i. sent O (party J i) (s .scratch i) (s .point .gate) (s .held i) (taken s r) (nonceFor J (s .checks) i) r)
+
+  -- party i's scratch once round r is sent
+  unfoldable pub notes : State → Round → ℕ → List ℕ
+  notes s r i = noted O (party J i) (s .scratch i) r (nonceFor J (s .checks) i)
+
+  -- how the round ends
+  unfoldable pub ends : State → Round → Ruling
+  ends s r = lowest (J .parties) (λ i. finds O (party J i) (notes s r i) r (said s r))
 
   -- every party has sent and received round r
   unfoldable pub step : State → Round → State
   step s r =
       let heard = said s r in
-      let taken = take (takes s r) (drop (s .used) (J .coefficients)) in
+      let v = ends s r in
       record {
-        point = next O (J .parties) (J .circuit) (s .point .gate) r heard;
-        held = λ i. keep r (holds O (party J i) (s .scratch i) (s .point .gate) r taken);
-        scratch = λ i. received O (party J i) (s .scratch i) (s .point .gate) r heard;
+        point = next (J .circuit) (s .point .gate) r v;
+        held = λ i. keep r (holds O (party J i) (s .scratch i) (s .point .gate) r (taken s r));
+        scratch = λ i. left O (party J i) v (notes s r i) (s .point .gate) r heard;
         used = s .used + takes s r;
+        checks = s .checks + commitsIn r;
+        blame = blamed v;
       }
 
   -- the output that round r releases, if any
   unfoldable pub released : State → Round → List ℕ
   released s r =
-      cond (releases r && passes O (J .parties) r (said s r))
+      cond (releases r && passed (ends s r))
       (read (layout (J .circuit)) (s .scratch 0) (Value 0) ∷ []) []
 
   -- no round

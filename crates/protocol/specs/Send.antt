@@ -1,4 +1,4 @@
--- What a party sends in each round, and the check share that it holds.
+-- What a party sends in each round, the check share that it holds and the nonce that it notes.
 -- Assumes nothing.
 use Prim.Native.Nat.{ℕ}
 use mathlib.Core.Bool.{cond}
@@ -11,13 +11,20 @@ use Rattle.circuit.specs.Gate.{gate}
 use Rattle.circuit.specs.Kind.{Class, Local, Owned, Opens, Output, shape, factor}
 use Rattle.circuit.specs.Count.{unchecked}
 use Rattle.circuit.specs.Round.{Round, Own, Open, Commit, Reveal, isCommit, openedIn}
+use Rattle.sha256.specs.Sha256.{wordsOf}
+use Rattle.sha256.specs.Digest.{digest}
 use Rattle.protocol.specs.Part.{Part, partAt, minus}
-use Rattle.protocol.specs.Scratch.{Layout, layout, Value, ValueMac, read, wire}
+use Rattle.protocol.specs.Scratch.{Layout, layout, Value, ValueMac, read, wire, nonceOf, putNonce}
 use Rattle.protocol.specs.Party.{Party, key, recordOf, inputOf, wholeMaskAt, aAt, bAt}
 
--- "The seal posts the mark 1, where the papers have a commitment."
-abbrev pub mark : ℕ
-mark = 1
+-- what a reveal posts: "the check word and the nonce as eight 32-bit words high byte first"; ws are the nonce's words
+abbrev pub revealed : ℕ → List ℕ → List ℕ
+revealed share ws = share ∷ ws
+
+-- what the commitment to it posts: "the eight 32-bit words of SHA-256 (FIPS 180-4) over the check word, four bytes high byte first, and a 32-byte
+-- nonce", which are the bytes of the words that are revealed
+unfoldable pub mark : List ℕ → List ℕ
+mark = digest
 
 -- words written at the start of a list. "Longer is allowed and the excess untouched; so with every list written to."
 unfoldable pub overwrite : List ℕ → List ℕ → List ℕ
@@ -60,15 +67,20 @@ module _ (O : Ops) where
     ownWords l j Opens = opening l j (shape (gate (P .circuit) j) .openings)
     ownWords l j Output = []
 
-    -- the words of round r of gate j, where l is the scratch and held the check share held
-    unfoldable pub sent : List ℕ → ℕ → ℕ → Round → List ℕ
-    sent l j held Own = ownWords l j (shape (gate (P .circuit) j) .class)
-    sent l j held Open = wire (layout (P .circuit)) l (gate (P .circuit) j .first) .share ∷ []
-    sent l j held (Commit k) = mark ∷ []
-    sent l j held (Reveal k) = held ∷ []
-
     -- the check share held once round r of gate j is sent: made when a commitment is sent, from the coefficients then handed over
     unfoldable pub holds : List ℕ → ℕ → Round → List ℕ → ℕ
     holds l j r coefficients =
         cond (isCommit r)
         (checkShare (layout (P .circuit)) l (openedIn (unchecked (P .circuit) j) r) (key P) coefficients) 0
+
+    -- the words of round r of gate j, where l is the scratch, held the check share held, and coefficients and nonce are handed over. A reveal posts
+    -- the nonce that stands in the scratch
+    unfoldable pub sent : List ℕ → ℕ → ℕ → List ℕ → List ℕ → Round → List ℕ
+    sent l j held coefficients nonce Own = ownWords l j (shape (gate (P .circuit) j) .class)
+    sent l j held coefficients nonce Open = wire (layout (P .circuit)) l (gate (P .circuit) j .first) .share ∷ []
+    sent l j held coefficients nonce (Commit k) = mark (revealed (holds l j (Commit k) coefficients) (wordsOf nonce))
+    sent l j held coefficients nonce (Reveal k) = revealed held (nonceOf (layout (P .circuit)) l)
+
+    -- the scratch once round r is sent: a commitment writes the nonce, "written at speaking"
+    unfoldable pub noted : List ℕ → Round → List ℕ → List ℕ
+    noted l r nonce = cond (isCommit r) (putNonce (layout (P .circuit)) l (wordsOf nonce)) l

@@ -2,10 +2,13 @@
 // works out, over any field, is in specs/, and what follows for any field in proofs/.
 use circuit::Check;
 use circuit::Round;
+use circuit::rounds::COMMIT_WORDS;
+use circuit::rounds::NONCE_WORDS;
 ghost use mathlib.Core.Path.{_≡_};
-ghost use Prim.Native.Nat.{_≤_};
+ghost use Prim.Native.Nat.{_+_, _*_, _≤_};
+ghost use Rattle.circuit.specs.Round.{commitWords};
 ghost use Rattle.circuit.specs.Code.{roundOf};
-ghost use Rattle.protocol.specs.Scratch.{offset, scratchSize};
+ghost use Rattle.protocol.specs.Scratch.{offset, slotsSize, nonceAt, marksAt};
 ghost use Rattle.protocol.specs.Position.{Send, aborted};
 ghost use Rattle.protocol.specs.Entry.{releases};
 ghost use Rattle.protocol.specs.Holding.{Within};
@@ -39,6 +42,18 @@ pub struct Point {
     pub stage: Stage,
 }
 
+// Whom a stop names: the party whose reveal does not fit its mark, or nobody.
+pub enum Blame {
+    Nobody,
+    Blames(usize),
+}
+
+// How a round ends.
+pub enum Ruling {
+    Passed,
+    Stopped(Blame),
+}
+
 // Where a gate's numbers stand, for one party: its record in the preprocessing, the unchecked entries before it, the input for it.
 pub struct Site {
     pub gate: usize,
@@ -49,7 +64,7 @@ pub struct Site {
 
 // A layout that fits a slice has sums that fit a number.
 pub fn offset_of(y: Layout, s: Slot) -> usize
-    requires { ⌜ (scratchSize (layoutOf y) ≤ 4611686018427387904) × Within (layoutOf y) (slotOf s) ⌝ }
+    requires { ⌜ (slotsSize (layoutOf y) ≤ 4611686018427387904) × Within (layoutOf y) (slotOf s) ⌝ }
     ensures { λ r. ⌜ r ≡ offset (layoutOf y) (slotOf s) ⌝ }
 {
     match s {
@@ -60,12 +75,28 @@ pub fn offset_of(y: Layout, s: Slot) -> usize
     }
 }
 
-// How long a scratch of that layout is.
-pub fn size_of(y: Layout) -> usize
-    requires { ⌜ (y .gates ≤ 256) × (y .capacity ≤ 513) ⌝ }
-    ensures { λ r. ⌜ r ≡ scratchSize (layoutOf y) ⌝ }
+// Where the nonce stands in a scratch of that layout.
+pub fn nonce_at(y: Layout) -> usize
+    requires { ⌜ slotsSize (layoutOf y) ≤ 4611686018427387904 ⌝ }
+    ensures { λ r. ⌜ r ≡ nonceAt (layoutOf y) ⌝ }
 {
     y.gates + y.gates + y.capacity + y.capacity
+}
+
+// Where the marks stand.
+pub fn marks_at(y: Layout) -> usize
+    requires { ⌜ slotsSize (layoutOf y) ≤ 4611686018427387904 ⌝ }
+    ensures { λ r. ⌜ r ≡ marksAt (layoutOf y) ⌝ }
+{
+    nonce_at(y) + NONCE_WORDS
+}
+
+// How long the scratch of one of so many parties is.
+pub fn size_of(parties: usize, y: Layout) -> usize
+    requires { ⌜ (parties ≤ 8) × (y .gates ≤ 256) × (y .capacity ≤ 513) ⌝ }
+    ensures { λ r. ⌜ r ≡ marksAt (layoutOf y) + parties * commitWords ⌝ }
+{
+    marks_at(y) + parties * COMMIT_WORDS
 }
 
 // The sending half of a round of gate k.

@@ -1,34 +1,34 @@
 -- `protocol::offset_of` meets its contract: each arm is the definition's, and a place in the scratch is below its size, which fits.
 -- Assumes nothing.
 use native.Mathlib.Omega.{arith}
-use Rattle.protocol.specs.Scratch.{offset, scratchSize}
+use Rattle.protocol.specs.Scratch.{offset, slotsSize}
 use Rattle.protocol.specs.Code.{layoutOf}
 use borrow.Author.Needs.{needs}
 use Rattle.protocol.proofs.offset_of.Statement.{statement}
 use Rattle.protocol.proofs.offset_of.Tie as tie
 
 add-result : tie.Need-add-result
-unfolding scratchSize layoutOf
+unfolding slotsSize layoutOf
 add-result c = let w = (rw (c .before .before .s2 .given .1) at (c .before .before .before .before .pre .1)) in omega arith
 
 add-result-2 : tie.Need-add-result-2
-unfolding scratchSize layoutOf
+unfolding slotsSize layoutOf
 add-result-2 c = let w = (rw (c .before .before .s3 .given .1) at (c .before .before .before .before .pre .1)) in omega arith
 
 add-result-3 : tie.Need-add-result-3
-unfolding scratchSize layoutOf
+unfolding slotsSize layoutOf
 add-result-3 c = let w = (rw (c .before .before .s3 .given .1) at (c .before .before .before .before .pre .1)) in omega arith
 
 add-result-4 : tie.Need-add-result-4
-unfolding scratchSize layoutOf
+unfolding slotsSize layoutOf
 add-result-4 c = let w = (rw (c .before .before .s4 .given .1) at (c .before .before .before .before .pre .1)) in omega arith
 
 add-result-5 : tie.Need-add-result-5
-unfolding scratchSize layoutOf
+unfolding slotsSize layoutOf
 add-result-5 c = let w = (rw (c .before .before .before .s4 .given .1) at (c .before .before .before .before .before .pre .1)) in omega arith
 
 add-result-6 : tie.Need-add-result-6
-unfolding scratchSize layoutOf
+unfolding slotsSize layoutOf
 add-result-6 c = let w = (rw (c .before .before .before .s4 .given .1) at (c .before .before .before .before .before .pre .1)) in omega arith
 
 returns : tie.Need-returns

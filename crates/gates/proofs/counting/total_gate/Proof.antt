@@ -6,7 +6,7 @@ use native.Mathlib.Omega.{arith}
 use borrow.Author.Needs.{needs}
 use denote.Ref.{now}
 use Rattle.circuit.proofs.Tallies.{totals-low, totals-kept, totals-more}
-use Rattle.circuit.proofs.RoundLaws.{words-le, coefficients-class-le}
+use Rattle.circuit.proofs.RoundLaws.{words-le, coefficients-class-le, checks-le}
 use Rattle.circuit.proofs.Counts.{bit-le, unchecked-few}
 use Rattle.circuit.proofs.KindLaws.{shape-small}
 use Rattle.circuit.specs.Code.{classOf, shapeOf}
@@ -41,11 +41,14 @@ coefficients-of-requires c κs = let start = c .before .before .before .before .
 add-t19 : tie.Need-add-t19
 add-t19 c = let start = c .before .before .before .before .before .before .before .before .before .before .before .before .before .before .before .before .before in omega (arith, totals-low (start .pre .3) .5, start .pre .1, c .before .coefficients-of .ensures, start .pre .2, coefficients-class-le (start .args .waiting) (classOf (start .args .s .class)))
 
+add-t21 : tie.Need-add-t21
+add-t21 c = let start = c .before .before .before .before .before .before .before .before .before .before .before .before .before .before .before .before .before .before .before in omega (arith, totals-low (start .pre .3) .6, start .pre .1, c .before .checks-of .ensures, checks-le (start .args .waiting) (classOf (start .args .s .class)))
+
 returns-2 : tie.Need-returns-2
-returns-2 c = let start = c .before .before .before .before .before .before .before .before .before .before .before .before .before .before .before .before .before in totals-more (start .pre .3) (start .args .s) (start .pre .0) (start .pre .2) (c .before .before .before .before .before .before .before .before .before .is-in .ensures) (c .before .before .before .before .before .before .before .before .one-if .ensures) (c .before .before .before .before .before .before .is-out .ensures) (c .before .before .before .before .before .one-if2 .ensures) (c .before .before .before .words-of .ensures) (c .before .coefficients-of .ensures)
+returns-2 c = let start = c .before .before .before .before .before .before .before .before .before .before .before .before .before .before .before .before .before .before .before in totals-more (start .pre .3) (start .args .s) (start .pre .0) (start .pre .2) (c .before .before .before .before .before .before .before .before .before .before .before .is-in .ensures) (c .before .before .before .before .before .before .before .before .before .before .one-if .ensures) (c .before .before .before .before .before .before .before .before .is-out .ensures) (c .before .before .before .before .before .before .before .one-if2 .ensures) (c .before .before .before .before .before .words-of .ensures) (c .before .before .before .coefficients-of .ensures) (c .before .checks-of .ensures)
 
 pub total-gate-spec : {M : Type 1} → statement M
 total-gate-spec =
     tie.close
     (tie.spec (λ c κs. search needs) returns add-t8 add-t9 (λ c κs. search needs) (λ c κs. search needs) add-t12 (λ c κs. search needs)
-    (λ c κs. search needs) add-t15 words-of-requires add-t17 coefficients-of-requires add-t19 returns-2)
+    (λ c κs. search needs) add-t15 words-of-requires add-t17 coefficients-of-requires add-t19 (λ c κs. search needs) add-t21 returns-2)

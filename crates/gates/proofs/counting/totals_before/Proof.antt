@@ -21,7 +21,7 @@ abbrev μ-loop : tie.MeasureT-loop
 
 loop-holds : tie.Need-loop-holds Inv-loop μ-loop
 unfolding total count unchecked overRun prepAt
-loop-holds c = (search needs, refl, record { prep = refl; openings = refl; ins = refl; outs = refl; words = refl; coefficients = refl })
+loop-holds c = (search needs, refl, record { prep = refl; openings = refl; ins = refl; outs = refl; words = refl; coefficients = refl; checks = refl })
 
 total-gate-requires : tie.Need-total-gate-requires Inv-loop μ-loop
 total-gate-requires c κs = (c .shape-at .ensures, omega (arith, c .before .before .before .before .pre), c .before .before .loop .inv .1, c .before .before .loop .inv .2)
