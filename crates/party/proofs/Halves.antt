@@ -11,26 +11,26 @@ use Rattle.circuit.specs.Verdict.{Verdict, Accepted, Refused, ask, _then_}
 use Rattle.circuit.specs.Gate.{gateSize, gates}
 use Rattle.circuit.specs.Count.{capacity, unchecked}
 use Rattle.circuit.specs.Round.{Round, rounds, among}
-use Rattle.protocol.specs.Scratch.{layout, scratchSize, read, Value}
+use Rattle.protocol.specs.Scratch.{slotsSize, read, Value}
 use Rattle.protocol.specs.Position as At
 use Rattle.protocol.specs.Party.{Party}
-use Rattle.protocol.specs.Send.{overwrite, sent, holds}
-use Rattle.protocol.specs.Receive.{next, received}
+use Rattle.protocol.specs.Send.{overwrite, sent, holds, noted}
+use Rattle.protocol.specs.Receive.{Ruling, Passed, Stopped, next, finds, left}
 use Rattle.protocol.specs.Code.{layoutOf, stageOf, Sited}
 use Rattle.protocol.specs.Ready.{Ready}
 use Rattle.protocol.specs.declared.Layout.{Layout}
 use Rattle.protocol.specs.declared.Site.{Site}
 use Rattle.protocol.specs.Ask.{mostParties, askLent, askSendRound, askReceiveRound, askSend, askReceive}
 use Rattle.protocol.specs.Entry as E
-use Rattle.protocol.specs.Code.{leadsTo}
-use Rattle.party.specs.Code.{positionOf, Posed, lentOf, LentOk, placeOf, PlaceOk, LentTo, RoundAt, Sendable, Receivable}
+use Rattle.party.specs.Code.{positionOf, leadsTo, Posed, lentOf, LentOk, placeOf, PlaceOk, LentTo, RoundAt, Sendable, Receivable}
 use Rattle.party.specs.declared.Position.{Position}
 use Rattle.party.specs.declared.Lent as D
 use Rattle.circuit.proofs.Counts.{unchecked-fits}
 use Rattle.protocol.proofs.Accepted.{Lends, parties-few, gate-occurs, stage-occurs, entries-fit, sends, receives}
-use Rattle.protocol.proofs.Readiness.{lay-gates, lay-capacity}
+use Rattle.protocol.proofs.Readiness.{lay-gates, lay-capacity, room-there}
+use Rattle.protocol.proofs.Tails.{slots-room}
 use Rattle.party.proofs.Accepted.{positive, lends-here}
-use Rattle.protocol.proofs.Entries.{asked, half-decides, sending-at, receiving-at, Sending, send-done, Receiving, receive-done, outcome-is}
+use Rattle.protocol.proofs.Entries.{asked, half-decides, sending-at, receiving-at, Sending, send-done, Receiving, receive-done}
 
 -- questions 1 to 13, by the one that decides
 module _ (P : Party) (l : List ℕ) (at : At.Position) where
@@ -67,6 +67,12 @@ pub round-at : (P : Party) (l : List ℕ) (at : Position) {x : D.Lent} {y : Layo
     → PlaceOk P l at x → x ≡ D.Lent.Accepted y site → RoundAt P l y site at
 round-at P l at h g = rw g at h
 
+-- what the code makes of a round's end is what is defined
+leads-is : (P : Party) (j held : ℕ) (r : Round) (output : ℕ) (v : Ruling) → leadsTo r held output v (next (P .circuit) j r v) ≡ E.concludes ops P output j held r v
+unfolding leadsTo E.concludes E.nextPosition
+leads-is P j held r output Passed = refl
+leads-is P j held r output (Stopped b) = refl
+
 module _ (P : Party) (l : List ℕ) (y : Layout) (site : Site) where
   -- what question 13 asks
   pub can-asks : (j : ℕ) → LentTo P l y site j
@@ -84,8 +90,8 @@ module _ (P : Party) (l : List ℕ) (y : Layout) (site : Site) where
   few-parties j h = parties-few size P l (h .accepted)
 
   -- the first opened entry can be read
-  pub output-slot : {r : Round} → Ready size P l y site r → (scratchSize (layoutOf y) ≤ length l) × (0 < y .capacity)
-  output-slot h = (rw (h .lay) (h .room), rw (lay-capacity (P .circuit) y (h .lay)) (omega (arith, unchecked-fits (P .circuit) 0 (omega arith))))
+  pub output-slot : {r : Round} → Ready size P l y site r → (slotsSize (layoutOf y) ≤ length l) × (0 < y .capacity)
+  output-slot {r} h = (room-there P l y site r h, rw (lay-capacity (P .circuit) y (h .lay)) (omega (arith, unchecked-fits (P .circuit) 0 (omega arith))))
 
   module _ (at : Position) (h : RoundAt P l y site at) where
     lent : Lends size P l
@@ -95,11 +101,11 @@ module _ (P : Party) (l : List ℕ) (y : Layout) (site : Site) where
     unfolding positionOf
     there = h .lent .sited (gate-occurs size (P .circuit) (positionOf at) (h .can))
 
-    -- what questions 15 to 21 ask
+    -- what questions 15 to 20 ask
     pub round-asks : (r : Round) → Posed (P .circuit) l y site r
     round-asks r =
         record {
-          laid = record { whole = lent .valid .whole; few = lent .valid .few; lay = h .lent .lay; room = lent .room };
+          laid = record { whole = lent .valid .whole; few = lent .valid .few; lay = h .lent .lay; room = slots-room (P .parties) (P .circuit) (lent .room) };
           within = there .within;
           waiting = there .unchecked;
           fits = entries-fit (P .circuit) (site .gate) r (there .within);
@@ -119,19 +125,19 @@ module _ (P : Party) (l : List ℕ) (y : Layout) (site : Site) where
       receiving-occurs g = rw (h .lent .here) (rw g at stands)
 
       -- all questions of a call, by those of its round
-      module _ (g : stageOf (at .stage) ≡ At.Send r) (coefficients : List ℕ) (room : ℕ) where
-        pub send-asked : {v : Verdict} → v ≡ askSendRound size (P .circuit) l (site .gate) coefficients room r → v ≡ askSend size P l (positionOf at) coefficients room
+      module _ (g : stageOf (at .stage) ≡ At.Send r) (coefficients nonce : List ℕ) (room : ℕ) where
+        pub send-asked : {v : Verdict} → v ≡ askSendRound size (P .circuit) l (site .gate) coefficients nonce room r → v ≡ askSend size P l (positionOf at) coefficients nonce room
         unfolding positionOf askSend
         send-asked e =
             half-decides size P l (positionOf at) _ (h .lent .accepted) (h .can)
-            (e ∙ ap (λ (k : ℕ). askSendRound size (P .circuit) l k coefficients room r) (h .lent .here) ∙ sym (sending-at (stageOf (at .stage)) r g _ _))
+            (e ∙ ap (λ (k : ℕ). askSendRound size (P .circuit) l k coefficients nonce room r) (h .lent .here) ∙ sym (sending-at (stageOf (at .stage)) r g _ _))
 
-        pub sendable : askSendRound size (P .circuit) l (site .gate) coefficients room r ≡ Accepted → Sendable P l at coefficients room y site r
+        pub sendable : askSendRound size (P .circuit) l (site .gate) coefficients nonce room r ≡ Accepted → Sendable P l at coefficients nonce room y site r
         sendable e =
             record {
               here = h .lent .here;
               half = g;
-              sends = sends positive P l y site r lent (h .lent .lay) there (sending-occurs g) (at .held) coefficients room e;
+              sends = sends positive P l y site r lent (h .lent .lay) there (sending-occurs g) (at .held) coefficients nonce room e;
             }
 
       module _ (g : stageOf (at .stage) ≡ At.Receive r) (heard : List ℕ) where
@@ -151,26 +157,28 @@ module _ (P : Party) (l : List ℕ) (y : Layout) (site : Site) where
 
   -- an accepted call, once its step is done
   module _ (at : Position) (r : Round) where
-    module _ (coefficients out : List ℕ) (s : Sendable P l at coefficients (length out) y site r) where
-      pub sent-done : {held : ℕ} {later : List ℕ} → askSend size P l (positionOf at) coefficients (length out) ≡ Accepted
+    module _ (coefficients nonce out : List ℕ) (s : Sendable P l at coefficients nonce (length out) y site r) where
+      pub sent-done : {held : ℕ} {later scratch : List ℕ} → askSend size P l (positionOf at) coefficients nonce (length out) ≡ Accepted
           → held ≡ holds ops P l (site .gate) r coefficients
-          → later ≡ overwrite (sent ops P l (site .gate) (at .held) r) out
-          → Sending ops P l (positionOf at) coefficients out (E.Next (record { gate = at .gate; stage = At.Receive r; held = held })) later
+          → later ≡ overwrite (sent ops P l (site .gate) (at .held) coefficients nonce r) out
+          → scratch ≡ noted ops P l r nonce
+          → Sending ops P l (positionOf at) coefficients nonce out (E.Next (record { gate = at .gate; stage = At.Receive r; held = held })) later scratch
       unfolding positionOf
-      sent-done e i j =
-          send-done ops P l (positionOf at) coefficients out r e (s .half)
+      sent-done e i j k =
+          send-done ops P l (positionOf at) coefficients nonce out r e (s .half)
           (rw (i ∙ ap (λ (k : ℕ). holds ops P l k r coefficients) (s .here)) refl)
-          (j ∙ ap (λ (k : ℕ). overwrite (sent ops P l k (at .held) r) out) (s .here))
+          (j ∙ ap (λ (k : ℕ). overwrite (sent ops P l k (at .held) coefficients nonce r) out) (s .here)) k
 
     module _ (heard : List ℕ) (s : Receivable P l at heard y site r) where
-      pub received-done : {output : ℕ} {x : At.Point} {a : E.Answer} {later : List ℕ} → askReceive size P l (positionOf at) heard ≡ Accepted
+      pub received-done : {output : ℕ} {v : Ruling} {x : At.Point} {a : E.Answer} {later : List ℕ} → askReceive size P l (positionOf at) heard ≡ Accepted
           → output ≡ read (layoutOf y) l (Value 0)
-          → x ≡ next ops (P .parties) (P .circuit) (site .gate) r heard
-          → a ≡ leadsTo r (at .held) output x
-          → later ≡ received ops P l (site .gate) r heard
+          → v ≡ finds ops P l r heard
+          → x ≡ next (P .circuit) (site .gate) r (finds ops P l r heard)
+          → a ≡ leadsTo r (at .held) output v x
+          → later ≡ left ops P (finds ops P l r heard) l (site .gate) r heard
           → Receiving ops P l (positionOf at) heard a later
-      unfolding positionOf
-      received-done e o x a j =
+      unfolding positionOf E.outcome
+      received-done e o w x a j =
           receive-done ops P l (positionOf at) heard r e (s .half)
-          (a ∙ rw (o, x, s .receives .ready .lay, s .here) (outcome-is ops P l (at .gate) (at .held) heard r))
-          (j ∙ ap (λ (k : ℕ). received ops P l k r heard) (s .here))
+          (a ∙ rw (o, w, x, s .receives .ready .lay, s .here) (leads-is P (at .gate) (at .held) r _ (finds ops P l r heard)))
+          (j ∙ ap (λ (k : ℕ). left ops P (finds ops P l r heard) l k r heard) (s .here))

@@ -1,6 +1,6 @@
 -- What questions 1 to 12 come to, and what their acceptance gives.
 -- Assumes nothing.
-use Prim.Native.Nat.{ℕ, _+_, _/_, _<_, _≤_}
+use Prim.Native.Nat.{ℕ, _+_, _*_, _/_, _<_, _≤_}
 use mathlib.Core.Path.{_≡_, refl, sym, ap, ap₂, subst, _∙_}
 use mathlib.Core.List.{List}
 use native.Mathlib.Omega.{arith}
@@ -10,11 +10,15 @@ use Rattle.field.specs.Words.{size}
 use Rattle.circuit.specs.Verdict.{Verdict, Accepted, Refused, ask, _then_, elements}
 use Rattle.circuit.specs.Gate.{gateSize, gates}
 use Rattle.circuit.specs.Count.{prepSize, capacity, inputCount}
+use Rattle.circuit.specs.Round.{commitWords}
 use Rattle.circuit.specs.Accept.{askCircuit}
 use Rattle.circuit.specs.Valid.{Valid}
-use Rattle.circuit.specs.Code.{Tallied}
+use Rattle.circuit.specs.Code.{verdictOf, Tallied}
+use Rattle.circuit.specs.declared.Verdict as Told
 use Rattle.circuit.specs.declared.Tally.{Tally}
-use Rattle.circuit.proofs.Verdicts.{then-refused, then-passed}
+use Rattle.circuit.proofs.Verdicts.{then-refused, then-passed, then-left, ask-true}
+use Rattle.circuit.proofs.Tests.{both-right}
+use borrow.Author.Tests.{leb-true}
 use Rattle.circuit.proofs.Valid.{valid}
 use Rattle.gates.specs.Code.{surveyOf, Counted, SurveyOk}
 use Rattle.gates.specs.declared.Survey as D
@@ -42,7 +46,7 @@ module _ (P : Party) (l : List ℕ) where
       askLent size P l
       ≡ ((askParties (P .parties) then ask 2 0 (ltb (P .me) (P .parties)))
       then askCircuit (P .parties) size (P .circuit)
-      then listsAsked (P .prep) (P .inputs) (length l) (prepSize (P .circuit)) (inputCount (P .circuit) (P .me)) (S.scratchSize (S.layout (P .circuit))))
+      then listsAsked (P .prep) (P .inputs) (length l) (prepSize (P .circuit)) (inputCount (P .circuit) (P .me)) (S.scratchSize (P .parties) (P .circuit)))
   unfolding askLent
   lent-split = sym (then-assoc _ _ _)
 
@@ -109,7 +113,14 @@ module _ (c : List ℕ) (i : ℕ) (t : Tally) (h : Tallied c i (gates c) t) wher
   input-count-is = h .inputs
 
   -- 8 to 12 ask for the lengths that are counted
-  pub lists-counted : (prep inputs : List ℕ) (room : ℕ) {s : ℕ} (y : Layout) → layoutOf y ≡ S.layout c → s ≡ S.scratchSize (layoutOf y)
+  pub lists-counted : (prep inputs : List ℕ) (room n : ℕ) {s : ℕ} (y : Layout) → layoutOf y ≡ S.layout c → s ≡ S.marksAt (layoutOf y) + n * commitWords
       → listsAsked prep inputs room (t .prep) (t .inputs) s
-      ≡ listsAsked prep inputs room (prepSize c) (inputCount c i) (S.scratchSize (S.layout c))
-  lists-counted prep inputs room y e f = lists-are prep inputs room prep-size-is input-count-is (f ∙ ap S.scratchSize e)
+      ≡ listsAsked prep inputs room (prepSize c) (inputCount c i) (S.scratchSize n c)
+  unfolding S.scratchSize
+  lists-counted prep inputs room n y e f =
+      lists-are prep inputs room prep-size-is input-count-is (f ∙ ap (λ (x : S.Layout). S.marksAt x + n * commitWords) e)
+
+-- where 1 and 2 are answered by yes there are few parties
+pub parties-low : (n i : ℕ) {r : Told.Verdict} → verdictOf r ≡ (askParties n then ask 2 0 (ltb i n)) → r ≡ Told.Verdict.Accepted → n ≤ 8
+unfolding verdictOf askParties
+parties-low n i e a = leb-true n 8 (both-right (leb 2 n) (leb n 8) (ask-true 1 0 _ (then-left _ _ (sym e ∙ ap verdictOf a))))

@@ -8,7 +8,7 @@ use lib.ListN.{length, getD, take, drop, length-drop}
 use lib.Seq.{length-take-le, getD-take, getD-drop}
 use Rattle.circuit.specs.Verdict.{Accepted}
 use Rattle.circuit.proofs.Verdicts.{each-all}
-use Rattle.protocol.specs.Scratch.{Layout, layout, offset, scratchSize, read}
+use Rattle.protocol.specs.Scratch.{Layout, layout, offset, slotsSize, read}
 use Rattle.protocol.specs.Holding.{Within}
 use Rattle.protocol.specs.Ask.{askSlots}
 use Rattle.protocol.proofs.Slots.{slot-fits}
@@ -27,7 +27,7 @@ slot-behind y ValueMacs t = omega arith
 
 -- the first k slots of a sort are in a list that holds the scratch
 pub slots-fit : (y : Layout) (sort : Sort) (k n : ℕ)
-    → scratchSize y ≤ n
+    → slotsSize y ≤ n
     → (k ≡ 0 → ⊥)
     → ((t : ℕ) → t < k → Within y (sortOf sort t))
     → offset y (sortOf sort 0) + k ≤ n

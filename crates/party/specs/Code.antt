@@ -17,7 +17,8 @@ use Rattle.circuit.specs.Code.{roundOf}
 use Rattle.protocol.specs.Scratch as S
 use Rattle.protocol.specs.Position as At
 use Rattle.protocol.specs.Party.{Party}
-use Rattle.protocol.specs.Code.{layoutOf, stageOf, Sited}
+use Rattle.protocol.specs.Receive as R
+use Rattle.protocol.specs.Code.{layoutOf, stageOf, blameOf, Sited}
 use Rattle.protocol.specs.Ready.{Sends, Receives}
 use Rattle.protocol.specs.declared.Layout.{Layout}
 use Rattle.protocol.specs.declared.Site.{Site}
@@ -54,14 +55,19 @@ unfoldable pub answerOf : Answer → E.Answer
 answerOf (Refusal number index) = E.Refusal number index
 answerOf (Next at) = E.Next (positionOf at)
 answerOf (Output v at) = E.Output v (positionOf at)
-answerOf (Abort at) = E.Abort (positionOf at)
+answerOf (Abort b at) = E.Abort (blameOf b) (positionOf at)
+
+-- the answer by how round r ended and the point that follows: an abort, or else that point, with the output where r releases one
+unfoldable pub leadsTo : Round → ℕ → ℕ → R.Ruling → At.Point → E.Answer
+leadsTo r held output R.Passed x = cond (E.releases r) (E.Output output (At.holding x (At.keep r held))) (E.Next (At.holding x (At.keep r held)))
+leadsTo r held output (R.Stopped b) x = E.Abort b (At.holding x (At.keep r held))
 
 -- what a question about the scratch asks: the layout is the circuit's, and the scratch holds it
 pub record Laid (c l : List ℕ) (y : Layout) : Type 0 where
   pub whole : length c ≡ gateSize * gates c
   pub few : gates c ≤ mostGates
   pub lay : layoutOf y ≡ S.layout c
-  pub room : S.scratchSize (S.layout c) ≤ length l
+  pub room : S.slotsSize (S.layout c) ≤ length l
 
 -- and of a round's questions: the site is the gate's, and the opened entries fit
 pub record Posed (c l : List ℕ) (y : Layout) (at : Site) (r : Round) : Type 0 where
@@ -106,14 +112,14 @@ askedOf (AskedRefused number index) = Q.Refused number index
 askedOf (AskedAccepted y at r) = Q.Accepted
 
 -- where they accept: the round of the position, and what its step asks
-pub record Sendable (P : Party) (l : List ℕ) (at : Position) (coefficients : List ℕ) (room : ℕ) (y : Layout) (site : Site) (r : Round) : Type 0 where
+pub record Sendable (P : Party) (l : List ℕ) (at : Position) (coefficients nonce : List ℕ) (room : ℕ) (y : Layout) (site : Site) (r : Round) : Type 0 where
   pub here : site .gate ≡ at .gate
   pub half : stageOf (at .stage) ≡ At.Send r
-  pub sends : Sends size P l y site r (at .held) coefficients room
+  pub sends : Sends size P l y site r (at .held) coefficients nonce room
 
-abbrev pub SendOk : Party → List ℕ → Position → List ℕ → ℕ → Asked → Type 0
-SendOk P l at coefficients room (AskedRefused number index) = Unit {0}
-SendOk P l at coefficients room (AskedAccepted y site r) = Sendable P l at coefficients room y site (roundOf r)
+abbrev pub SendOk : Party → List ℕ → Position → List ℕ → List ℕ → ℕ → Asked → Type 0
+SendOk P l at coefficients nonce room (AskedRefused number index) = Unit {0}
+SendOk P l at coefficients nonce room (AskedAccepted y site r) = Sendable P l at coefficients nonce room y site (roundOf r)
 
 pub record Receivable (P : Party) (l : List ℕ) (at : Position) (heard : List ℕ) (y : Layout) (site : Site) (r : Round) : Type 0 where
   pub here : site .gate ≡ at .gate

@@ -5,6 +5,7 @@ use crate::Position;
 use crate::Sort;
 use circuit::Check;
 use circuit::Round;
+use circuit::Shape;
 use circuit::Verdict;
 use circuit::rounds;
 use circuit::shapes;
@@ -15,8 +16,6 @@ use protocol::Layout;
 use protocol::Site;
 use protocol::Slot;
 use protocol::Stage;
-use steps::scratch;
-use steps::sending;
 ghost use mathlib.Core.Path.{_≡_};
 ghost use mathlib.Core.Logic.{_↔_};
 ghost use mathlib.Core.Bool.{true};
@@ -28,14 +27,14 @@ ghost use Rattle.circuit.specs.Verdict.{ask, _then_, each, elements};
 ghost use Rattle.circuit.specs.Gate.{gateSize, gates};
 ghost use Rattle.circuit.specs.Count.{unchecked};
 ghost use Rattle.circuit.specs.Accept.{askCircuit};
-ghost use Rattle.circuit.specs.Code.{verdictOf, roundOf};
+ghost use Rattle.circuit.specs.Round.{isReveal, revealWords, shapeWords, coefficientsIn, nonceIn};
+ghost use Rattle.circuit.specs.Code.{verdictOf, roundOf, shapeOf};
 ghost use Rattle.protocol.specs.Scratch.{layout};
 ghost use Rattle.protocol.specs.Position.{mayHold, stageOccurs, occurs};
 ghost use Rattle.protocol.specs.Party.{partyOf};
-ghost use Rattle.protocol.specs.Send.{mark};
 ghost use Rattle.protocol.specs.Holding.{Within};
 ghost use Rattle.protocol.specs.Code.{slotOf, stageOf};
-ghost use Rattle.protocol.specs.Ask.{askParties, slotQuestion, askSlots, askWorked, askSendRound, askReceiveRound, askLent, askSend, askReceive};
+ghost use Rattle.protocol.specs.Ask.{askParties, slotQuestion, askSlots, askWorked, askHeard, askSendRound, askReceiveRound, askLent, askSend, askReceive};
 ghost use Rattle.party.specs.Code.{sortOf, wantedOf, positionOf, Laid, Posed, lentOf, LentOk, askedOf, SendOk, ReceiveOk, placeOf, PlaceOk};
 
 const FEWEST_PARTIES: usize = 2;
@@ -93,21 +92,37 @@ pub fn ask_elements(number: u32, xs: &[Word]) -> Verdict
     Verdict::Accepted
 }
 
-// Question 21 of a commitment.
-fn ask_marks(heard: &[Word]) -> Verdict
-    ensures { λ r. ⌜ verdictOf r ≡ each (length (now (heard .entry))) (λ k. ask 21 k (eqb (getD (now (heard .entry)) k 0) mark)) ⌝ }
+// Question 20 of a reveal: of the check shares of so many parties, each the first of its words.
+fn ask_shares(parties: usize, heard: &[Word]) -> Verdict
+    requires { ⌜ (parties ≤ 8) × (parties * revealWords ≤ length (now heard)) ⌝ }
+    ensures { λ r. ⌜ verdictOf r
+        ≡ each parties (λ i. ask 20 (i * revealWords) (ltb (getD (now (heard .entry)) (i * revealWords) 0) size)) ⌝ }
 {
-    let mut k = 0;
-    while k < heard.len() {
-        if heard[k] != sending::MARK {
+    let mut i = 0;
+    while i < parties {
+        let share = i * rounds::REVEAL_WORDS;
+        if field::SIZE <= heard[share] {
             return Verdict::Refused {
-                number: 21,
-                index: k,
+                number: 20,
+                index: share,
             };
         }
-        k += 1;
+        i += 1;
     }
     Verdict::Accepted
+}
+
+// Question 20, by the round.
+fn ask_heard(parties: usize, r: Round, heard: &[Word]) -> Verdict
+    requires { ⌜ (parties ≤ 8) × (isReveal (roundOf r) ≡ true → parties * revealWords ≤ length (now heard)) ⌝ }
+    ensures { λ v. ⌜ verdictOf v ≡ askHeard size parties (roundOf r) (now (heard .entry)) ⌝ }
+{
+    match r {
+        Round::Own => ask_elements(20, heard),
+        Round::Open => ask_elements(20, heard),
+        Round::Commit(_) => Verdict::Accepted,
+        Round::Reveal(_) => ask_shares(parties, heard),
+    }
 }
 
 // Questions 8 to 12, of the lengths that the circuit asks for.
@@ -339,38 +354,32 @@ fn ask_worked(c: &[Word], l: &[Word], y: Layout, at: Site, r: Round) -> Verdict
     ask_slots(c, l, y, opened, Sort::ValueMacs)
 }
 
-// Questions 15 to 18.
-fn ask_send_round(
-    c: &[Word],
-    l: &[Word],
-    y: Layout,
-    at: Site,
-    r: Round,
-    coefficients: &[Word],
-    room: usize,
-) -> Verdict
-    requires { ⌜ Posed (now c) (now l) y at (roundOf r) ⌝ }
-    ensures { λ v. ⌜ verdictOf v ≡ askSendRound size (now (c .entry)) (now (l .entry)) (at .gate) (now (coefficients .entry)) room (roundOf r) ⌝ }
+// Questions 16 and 17, where that many opened entries were unchecked when the gate was reached.
+fn ask_coefficients(unchecked: usize, r: Round, coefficients: &[Word]) -> Verdict
+    ensures { λ v. ⌜ verdictOf v
+        ≡ (ask 16 0 (eqb (length (now (coefficients .entry))) (coefficientsIn unchecked (roundOf r))) then elements 17 size (now (coefficients .entry))) ⌝ }
 {
-    match ask_worked(c, l, y, at, r) {
-        Verdict::Refused { number, index } => {
-            return Verdict::Refused { number, index };
-        }
-        Verdict::Accepted => {}
-    }
-    if coefficients.len() != rounds::coefficients_in(at.unchecked, r) {
+    if coefficients.len() != rounds::coefficients_in(unchecked, r) {
         return Verdict::Refused {
             number: 16,
             index: 0,
         };
     }
-    match ask_elements(17, coefficients) {
-        Verdict::Refused { number, index } => {
-            return Verdict::Refused { number, index };
-        }
-        Verdict::Accepted => {}
+    ask_elements(17, coefficients)
+}
+
+// Questions 25 and 18, of the lengths of the nonce and of the outgoing list.
+fn ask_lengths(s: Shape, r: Round, nonce: usize, room: usize) -> Verdict
+    ensures { λ v. ⌜ verdictOf v
+        ≡ (ask 25 0 (eqb nonce (nonceIn (roundOf r))) then ask 18 0 (leb (shapeWords (shapeOf s) (roundOf r)) room)) ⌝ }
+{
+    if nonce != rounds::nonce_in(r) {
+        return Verdict::Refused {
+            number: 25,
+            index: 0,
+        };
     }
-    if room < rounds::words_in(reading::shape_at(c, at.gate), r) {
+    if room < rounds::words_in(s, r) {
         return Verdict::Refused {
             number: 18,
             index: 0,
@@ -379,7 +388,36 @@ fn ask_send_round(
     Verdict::Accepted
 }
 
-// Questions 15 and 19 to 21.
+// Questions 15 to 18, and 25 before the last.
+fn ask_send_round(
+    c: &[Word],
+    l: &[Word],
+    y: Layout,
+    at: Site,
+    r: Round,
+    coefficients: &[Word],
+    nonce: &[u8],
+    room: usize,
+) -> Verdict
+    requires { ⌜ Posed (now c) (now l) y at (roundOf r) ⌝ }
+    ensures { λ v. ⌜ verdictOf v ≡ askSendRound size (now (c .entry)) (now (l .entry)) (at .gate) (now (coefficients .entry)) (now (nonce .entry)) room (roundOf r) ⌝ }
+{
+    match ask_worked(c, l, y, at, r) {
+        Verdict::Refused { number, index } => {
+            return Verdict::Refused { number, index };
+        }
+        Verdict::Accepted => {}
+    }
+    match ask_coefficients(at.unchecked, r, coefficients) {
+        Verdict::Refused { number, index } => {
+            return Verdict::Refused { number, index };
+        }
+        Verdict::Accepted => {}
+    }
+    ask_lengths(reading::shape_at(c, at.gate), r, nonce.len(), room)
+}
+
+// Questions 15, 19 and 20.
 fn ask_receive_round(
     parties: usize,
     c: &[Word],
@@ -404,16 +442,7 @@ fn ask_receive_round(
             index: 0,
         };
     }
-    match ask_elements(20, heard) {
-        Verdict::Refused { number, index } => {
-            return Verdict::Refused { number, index };
-        }
-        Verdict::Accepted => {}
-    }
-    if rounds::is_commit(r) {
-        return ask_marks(heard);
-    }
-    Verdict::Accepted
+    ask_heard(parties, r, heard)
 }
 
 // Questions 1 to 12. One count along the circuit gives the lengths to ask for and the site of a gate.
@@ -442,7 +471,7 @@ pub fn ask_lent(
                 gates: c.len() / reading::GATE_SIZE,
                 capacity: all.openings + 1,
             };
-            let size = protocol::size_of(y);
+            let size = protocol::size_of(parties, y);
             match ask_lists(prep, all.prep, inputs, all.inputs, l.len(), size) {
                 Verdict::Refused { number, index } => {
                     return Lent::Refused { number, index };
@@ -501,20 +530,30 @@ pub fn ask_send(
     l: &[Word],
     at: Position,
     coefficients: &[Word],
+    nonce: &[u8],
     room: usize,
 ) -> Asked
     ensures asked { λ x. ⌜ askedOf x
         ≡ askSend size (partyOf parties me (now (c .entry)) (now (prep .entry)) (now (inputs .entry)))
-        (now (l .entry)) (positionOf at) (now (coefficients .entry)) room ⌝ }
+        (now (l .entry)) (positionOf at) (now (coefficients .entry)) (now (nonce .entry)) room ⌝ }
     ensures accepted { λ x. ⌜ SendOk (partyOf parties me (now (c .entry)) (now (prep .entry)) (now (inputs .entry)))
-        (now (l .entry)) at (now (coefficients .entry)) room x ⌝ }
+        (now (l .entry)) at (now (coefficients .entry)) (now (nonce .entry)) room x ⌝ }
 {
     match ask_place(parties, me, c, prep, inputs, l, at) {
         Lent::Refused { number, index } => Asked::Refused { number, index },
         Lent::Accepted(y, site) => {
             let stage = at.stage;
             match stage {
-                Stage::Send(r) => match ask_send_round(c, l, y, site, r, coefficients, room) {
+                Stage::Send(r) => match ask_send_round(
+                    c,
+                    l,
+                    y,
+                    site,
+                    r,
+                    coefficients,
+                    nonce,
+                    room,
+                ) {
                     Verdict::Refused { number, index } => Asked::Refused { number, index },
                     Verdict::Accepted => Asked::Accepted(y, site, r),
                 },

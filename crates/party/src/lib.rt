@@ -3,11 +3,13 @@ pub mod asking;
 
 use circuit::Round;
 use field::Word;
+use protocol::Blame;
 use protocol::Layout;
-use protocol::Point;
+use protocol::Ruling;
 use protocol::Site;
 use protocol::Slot;
 use protocol::Stage;
+use steps::Conclusion;
 use steps::receiving;
 use steps::scratch;
 use steps::sending;
@@ -18,10 +20,9 @@ ghost use Rattle.field.specs.Words.{ops};
 ghost use Rattle.circuit.specs.Code.{roundOf};
 ghost use Rattle.protocol.specs.Position.{keep};
 ghost use Rattle.protocol.specs.Party.{partyOf};
-ghost use Rattle.protocol.specs.Code.{pointOf};
-ghost use Rattle.protocol.specs.Entry.{Next, Output, releases, openAnswer, sendAnswer, sendOut, receiveAnswer, receiveScratch};
-ghost use Rattle.protocol.specs.Code.{leadsTo};
-ghost use Rattle.party.specs.Code.{positionOf, answerOf};
+ghost use Rattle.protocol.specs.Code.{pointOf, rulingOf};
+ghost use Rattle.protocol.specs.Entry.{Next, Output, releases, openAnswer, sendAnswer, sendOut, sendScratch, receiveAnswer, receiveScratch};
+ghost use Rattle.party.specs.Code.{positionOf, answerOf, leadsTo};
 
 // The slots of one sort.
 pub enum Sort {
@@ -38,12 +39,12 @@ pub struct Position {
     pub held: Word,
 }
 
-// What an entry answers.
+// What an entry answers. An abort names a party, or nobody.
 pub enum Answer {
     Refusal { number: u32, index: usize },
     Next(Position),
     Output(Word, Position),
-    Abort(Position),
+    Abort(Blame, Position),
 }
 
 // What questions 1 to 12, or 1 to 13, come to: where they accept, the layout of the scratch and the site of a gate.
@@ -80,26 +81,41 @@ pub fn open_run(
     }
 }
 
-// Sending: the words of the position's round, and the position to receive at.
+// Sending: the words of the position's round, and the position to receive at. A commitment notes its nonce in the scratch.
 pub fn send(
     parties: usize,
     me: usize,
     c: &[Word],
     prep: &[Word],
     inputs: &[Word],
-    l: &[Word],
+    l: &mut [Word],
     at: Position,
     coefficients: &[Word],
+    nonce: &[u8],
     out: &mut [Word],
 ) -> Answer
     ensures answer { λ x. ⌜ answerOf x
         ≡ sendAnswer ops (partyOf parties me (now (c .entry)) (now (prep .entry)) (now (inputs .entry)))
-        (now (l .entry)) (positionOf at) (now (coefficients .entry)) (length (now (out .entry))) ⌝ }
+        (now (l .entry)) (positionOf at) (now (coefficients .entry)) (now (nonce .entry)) (length (now (out .entry))) ⌝ }
     ensures out { λ x. ⌜ now (out .exit)
         ≡ sendOut ops (partyOf parties me (now (c .entry)) (now (prep .entry)) (now (inputs .entry)))
-        (now (l .entry)) (positionOf at) (now (coefficients .entry)) (now (out .entry)) ⌝ }
+        (now (l .entry)) (positionOf at) (now (coefficients .entry)) (now (nonce .entry)) (now (out .entry)) ⌝ }
+    ensures scratch { λ x. ⌜ now (l .exit)
+        ≡ sendScratch ops (partyOf parties me (now (c .entry)) (now (prep .entry)) (now (inputs .entry)))
+        (now (l .entry)) (positionOf at) (now (coefficients .entry)) (now (nonce .entry)) (length (now (out .entry))) ⌝ }
 {
-    match asking::ask_send(parties, me, c, prep, inputs, l, at, coefficients, out.len()) {
+    match asking::ask_send(
+        parties,
+        me,
+        c,
+        prep,
+        inputs,
+        l,
+        at,
+        coefficients,
+        nonce,
+        out.len(),
+    ) {
         Asked::Refused { number, index } => Answer::Refusal { number, index },
         Asked::Accepted(y, site, r) => {
             let held = sending::send_step(
@@ -114,6 +130,7 @@ pub fn send(
                 r,
                 at.held,
                 coefficients,
+                nonce,
                 out,
             );
             Answer::Next(Position {
@@ -147,27 +164,27 @@ pub fn receive(
         Asked::Refused { number, index } => Answer::Refusal { number, index },
         Asked::Accepted(y, site, r) => {
             let output = scratch::read_slot(l, y, Slot::Value(0));
-            let next = receiving::receive_step(parties, me, c, prep, inputs, l, y, site, r, heard);
-            outcome_of(r, at.held, output, next)
+            let x = receiving::receive_step(parties, me, c, prep, inputs, l, y, site, r, heard);
+            outcome_of(r, at.held, output, x)
         }
     }
 }
 
 // What a round that is received leads to.
-fn outcome_of(r: Round, held: Word, output: Word, next: Point) -> Answer
-    ensures { λ x. ⌜ answerOf x ≡ leadsTo (roundOf r) held output (pointOf next) ⌝ }
+fn outcome_of(r: Round, held: Word, output: Word, x: Conclusion) -> Answer
+    ensures { λ a. ⌜ answerOf a ≡ leadsTo (roundOf r) held output (rulingOf (x .ruling)) (pointOf (x .point)) ⌝ }
 {
+    let next = x.point;
     let stage = next.stage;
     let at = Position {
         gate: next.gate,
         stage,
         held: keep_held(r, held),
     };
-    match stage {
-        Stage::Aborted => Answer::Abort(at),
-        Stage::Send(_) => released(r, output, at),
-        Stage::Receive(_) => released(r, output, at),
-        Stage::Finished => released(r, output, at),
+    let ruling = x.ruling;
+    match ruling {
+        Ruling::Stopped(blame) => Answer::Abort(blame, at),
+        Ruling::Passed => released(r, output, at),
     }
 }
 

@@ -1,2 +1,5 @@
 -- What is proved of the steps' definitions.
 pub mod Numbers
+pub mod Marking
+pub mod Committing
+pub mod Concluding

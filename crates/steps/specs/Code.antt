@@ -7,10 +7,15 @@ use lib.ListN.{getD}
 use Rattle.algebra.specs.Element.{Is}
 use Rattle.algebra.specs.Sum.{sum}
 use Rattle.field.specs.Words.{size, ops, sumSize}
+use Rattle.circuit.specs.Round.{Round}
 use Rattle.protocol.specs.Part as A
 use Rattle.protocol.specs.Scratch.{Layout, Value, read}
+use Rattle.protocol.specs.Party.{Party}
+use Rattle.protocol.specs.Receive.{next, finds, left}
+use Rattle.protocol.specs.Code.{pointOf, rulingOf}
 use Rattle.steps.specs.declared.Part.{Part}
 use Rattle.steps.specs.declared.Ends.{Ends}
+use Rattle.steps.specs.declared.Conclusion.{Conclusion}
 
 -- the first k opened values, each times its coefficient
 abbrev pub valueSum : Layout → List ℕ → ℕ → List ℕ → ℕ
@@ -46,3 +51,9 @@ pub record IsPart (v : A.Part) (x : Part) : Type 0 where
 pub record AreEnds (ws : List ℕ) (k : ℕ) (x : Ends) : Type 0 where
   pub first : Is size (getD ws 0 0) (x .first)
   pub last : Is size (getD ws (k - 1) 0) (x .last)
+
+-- what receiving round r of gate j ensures: how the round ends, the point that follows, and the scratch, which is then l′
+pub record Concludes (P : Party) (l : List ℕ) (j : ℕ) (r : Round) (heard : List ℕ) (x : Conclusion) (l′ : List ℕ) : Type 0 where
+  pub ruling : rulingOf (x .ruling) ≡ finds ops P l r heard
+  pub point : pointOf (x .point) ≡ next (P .circuit) j r (finds ops P l r heard)
+  pub scratch : l′ ≡ left ops P (finds ops P l r heard) l j r heard

@@ -7,6 +7,8 @@ pub mod sending;
 
 use field::Sum;
 use field::Word;
+use protocol::Point;
+use protocol::Ruling;
 
 // A party's share of a value, and its MAC share.
 pub struct Part {
@@ -24,4 +26,10 @@ pub struct Ends {
 pub struct Sums {
     pub first: Sum,
     pub last: Sum,
+}
+
+// What the words of all come to: how the round ends, and the point that follows.
+pub struct Conclusion {
+    pub ruling: Ruling,
+    pub point: Point,
 }

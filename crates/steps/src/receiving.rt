@@ -1,4 +1,5 @@
 // What a party works out of the words of all. The steps ask nothing: what they need is what an entry has asked.
+use crate::Conclusion;
 use crate::Ends;
 use crate::Part;
 use crate::Sums;
@@ -9,35 +10,40 @@ use circuit::Check;
 use circuit::Class;
 use circuit::Kind;
 use circuit::Round;
+use circuit::rounds::COMMIT_WORDS;
+use circuit::rounds::REVEAL_WORDS;
 use field::Word;
+use protocol::Blame;
 use protocol::Layout;
 use protocol::Point;
+use protocol::Ruling;
 use protocol::Site;
 use protocol::Stage;
 ghost use mathlib.Core.Path.{_≡_};
 ghost use mathlib.Core.Bool.{true, cond};
-ghost use Prim.Native.Nat.{suc, _+_, _-_, _*_, _<_, _≤_};
+ghost use Prim.Native.Nat.{ℕ, suc, _+_, _-_, _*_, _<_, _≤_};
 ghost use lib.ListN.{length, getD};
+ghost use lib.Dec.{eqb};
 ghost use Rattle.algebra.specs.Element.{Is};
 ghost use Rattle.field.specs.Words.{size, ops, sumSize, sumRoom, termSize};
 ghost use Rattle.circuit.specs.Gate.{gateSize, gate, gates, gateOf};
 ghost use Rattle.circuit.specs.Kind.{Local, Owned, Opens, kindShape, shape, isClass};
 ghost use Rattle.circuit.specs.Count.{unchecked};
-ghost use Rattle.circuit.specs.Round.{Own};
-ghost use Rattle.circuit.specs.Code.{kindOf, classOf, roundOf};
+ghost use Rattle.circuit.specs.Round.{Second, Own, Open, Reveal, commitWords, revealWords};
+ghost use Rattle.circuit.specs.Code.{kindOf, classOf, checkOf, roundOf};
 ghost use Rattle.protocol.specs.Part.{partAt, product};
-ghost use Rattle.protocol.specs.Scratch.{scratchSize};
+ghost use Rattle.protocol.specs.Scratch.{slotsSize};
 ghost use Rattle.protocol.specs.Party.{partyOf, aAt, bAt, cAt};
 ghost use Rattle.protocol.specs.Position.{reach, enter, resume};
-ghost use Rattle.protocol.specs.Receive.{heardSum, afterInput, putDifferences, afterOpening, afterOpenOutput, afterLinear, settle, next, received};
+ghost use Rattle.protocol.specs.Receive.{heardSum, afterInput, putDifferences, afterOpening, afterOpenOutput, afterLinear, settle, onward, received, fits, misfit, weighs};
 ghost use Rattle.protocol.specs.Holding.{Below, Held, Reads};
-ghost use Rattle.protocol.specs.Code.{layoutOf, pointOf};
-ghost use Rattle.protocol.specs.Ready.{Opening, Settles, Stands, Receives, heardFirst, Named, Hears, Summed};
-ghost use Rattle.steps.specs.Code.{IsPart};
+ghost use Rattle.protocol.specs.Code.{layoutOf, pointOf, blameOf, rulingOf};
+ghost use Rattle.protocol.specs.Ready.{Opening, Settles, Stands, Ready, Receives, Named, Summed};
+ghost use Rattle.steps.specs.Code.{IsPart, Concludes};
 
 // The sum over the parties of word t of each, where each sent k.
 pub fn heard_sum(n: usize, k: usize, t: usize, heard: &[Word]) -> Word
-    requires { ⌜ (t < k) × (n * k ≤ length (now heard)) × Below size (now heard) ⌝ }
+    requires { ⌜ (t < k) × (n * k ≤ length (now heard)) × ((i : ℕ) → i < n → getD (now heard) (i * k + t) 0 < size) ⌝ }
     ensures { λ r. ⌜ Is size (heardSum ops n k t (now (heard .entry))) r ⌝ }
 {
     let mut acc: Word = 0;
@@ -107,7 +113,7 @@ pub fn heard_ends(sums: Sums) -> Ends
 
 // m starts at the gate's record, and e is the owner's word.
 pub fn after_input(me: usize, key: Word, y: Layout, l: &mut [Word], j: usize, m: &[Word], e: Word)
-    requires { ⌜ (key < size) × (e < size) × (1 < length (now m)) × Below size (now m) × (scratchSize (layoutOf y) ≤ length (now l)) × (j < y .gates) ⌝ }
+    requires { ⌜ (key < size) × (e < size) × (1 < length (now m)) × Below size (now m) × (slotsSize (layoutOf y) ≤ length (now l)) × (j < y .gates) ⌝ }
     ensures { λ r. ⌜ now (l .exit) ≡ afterInput ops me key (layoutOf y) (now (l .entry)) j (now (m .entry)) e ⌝ }
 {
     let x = parts::shifted(me, key, parts::part_at(m, sending::MASK_AT), e);
@@ -127,7 +133,7 @@ fn put_differences(
     e: Word,
     d: Word,
 )
-    requires { ⌜ (scratchSize (layoutOf y) ≤ length (now l))
+    requires { ⌜ (slotsSize (layoutOf y) ≤ length (now l))
         × Held size (layoutOf y) (now l) x
         × Held size (layoutOf y) (now l) z
         × (1 ≤ k)
@@ -180,7 +186,7 @@ pub fn after_opening(
 
 // The sum of the shown shares is the only opened entry.
 pub fn after_open_output(y: Layout, l: &mut [Word], x: usize, s: Word)
-    requires { ⌜ (scratchSize (layoutOf y) ≤ length (now l)) × (0 < y .capacity) × Held size (layoutOf y) (now l) x ⌝ }
+    requires { ⌜ (slotsSize (layoutOf y) ≤ length (now l)) × (0 < y .capacity) × Held size (layoutOf y) (now l) x ⌝ }
     ensures { λ r. ⌜ now (l .exit) ≡ afterOpenOutput ops (layoutOf y) (now (l .entry)) x s ⌝ }
 {
     let shown = scratch::wire_at(l, y, x);
@@ -200,7 +206,7 @@ pub fn after_linear(
     k: Word,
 )
     requires { ⌜ (key < size)
-        × (scratchSize (layoutOf y) ≤ length (now l))
+        × (slotsSize (layoutOf y) ≤ length (now l))
         × (j < y .gates)
         × (isClass Local (kindShape (kindOf kind) .class) ≡ true)
         × Reads size (layoutOf y) (now l) (gateOf (kindOf kind) x z k) ⌝ }
@@ -297,40 +303,6 @@ pub fn resume(c: &[Word], count: usize, j: usize, stop: usize, waiting: usize) -
     enter(c, count, stop, waiting_after)
 }
 
-// The point that follows round r of gate j, before which that many entries wait for a check, and after which stop is reached: it is the
-// same for all parties. The words come to e.
-pub fn next_point(
-    parties: usize,
-    c: &[Word],
-    count: usize,
-    j: usize,
-    stop: usize,
-    waiting: usize,
-    r: Round,
-    heard: &[Word],
-    e: Word,
-) -> Point
-    requires { ⌜ Hears size parties (now c) j (roundOf r) (now heard)
-        × Stands (now c) count j stop waiting
-        × (e ≡ heardFirst ops parties (gate (now c) j) (roundOf r) (now heard)) ⌝ }
-    ensures { λ x. ⌜ pointOf x ≡ next ops parties (now (c .entry)) j (roundOf r) (now (heard .entry)) ⌝ }
-{
-    match r {
-        Round::Own => resume(c, count, j, stop, waiting),
-        Round::Open => protocol::sending_at(j, Round::Commit(Check::Second)),
-        Round::Commit(check) => protocol::sending_at(j, Round::Reveal(check)),
-        Round::Reveal(check) => {
-            if e != 0 {
-                return protocol::aborted_at(j);
-            }
-            match check {
-                Check::First => protocol::sending_at(j, Round::Open),
-                Check::Second => resume(c, count, j, stop, waiting),
-            }
-        }
-    }
-}
-
 // The scratch after a gate's own round. The gate names x and z and opens k values, the words of all come to e and d, and the linear gates
 // after it reach stop.
 fn receive_own(
@@ -385,8 +357,8 @@ fn receive_own(
     settle(me, key, c, y, l, j + 1, stop);
 }
 
-// The scratch after round r.
-fn receive_summed(
+// A gate's own round: the words are summed up, the scratch is written, and the next stop is found.
+fn receive_gate(
     parties: usize,
     me: usize,
     c: &[Word],
@@ -395,78 +367,13 @@ fn receive_summed(
     l: &mut [Word],
     y: Layout,
     at: Site,
-    class: Class,
-    x: usize,
-    z: usize,
-    k: usize,
-    stop: usize,
-    r: Round,
-    heard: &[Word],
-    e: Word,
-    d: Word,
-)
-    requires { ⌜ Receives size (partyOf parties me (now c) (now prep) (now inputs)) (now l) y at (roundOf r) (now heard)
-        × (stop ≡ reach (now c) (y .gates - (at .gate + 1)) (at .gate + 1))
-        × (classOf class ≡ shape (gate (now c) (at .gate)) .class)
-        × Named (gate (now c) (at .gate)) x z k
-        × Summed ops parties (gate (now c) (at .gate)) (roundOf r) (now heard) e d ⌝ }
-    ensures { λ u. ⌜ now (l .exit)
-        ≡ received ops (partyOf parties me (now (c .entry)) (now (prep .entry)) (now (inputs .entry)))
-        (now (l .entry)) (at .gate) (roundOf r) (now (heard .entry)) ⌝ }
-{
-    match r {
-        Round::Own => {
-            receive_own(
-                parties,
-                me,
-                c,
-                prep,
-                inputs,
-                l,
-                y,
-                at,
-                class,
-                x,
-                z,
-                k,
-                stop,
-                heard,
-                e,
-                d,
-            );
-        }
-        Round::Open => after_open_output(y, l, x, e),
-        Round::Commit(_) => {}
-        Round::Reveal(check) => {
-            if e != 0 {
-                return;
-            }
-            match check {
-                Check::First => {}
-                Check::Second => settle(me, prep[0], c, y, l, at.gate + 1, stop),
-            }
-        }
-    }
-}
-
-// The scratch after round r, and the point that follows.
-pub fn receive_step(
-    parties: usize,
-    me: usize,
-    c: &[Word],
-    prep: &[Word],
-    inputs: &[Word],
-    l: &mut [Word],
-    y: Layout,
-    at: Site,
-    r: Round,
     heard: &[Word],
 ) -> Point
-    requires { ⌜ Receives size (partyOf parties me (now c) (now prep) (now inputs)) (now l) y at (roundOf r) (now heard) ⌝ }
-    ensures point { λ x. ⌜ pointOf x ≡ next ops parties (now (c .entry)) (at .gate) (roundOf r) (now (heard .entry)) ⌝ }
+    requires { ⌜ Receives size (partyOf parties me (now c) (now prep) (now inputs)) (now l) y at Own (now heard) ⌝ }
+    ensures point { λ x. ⌜ pointOf x ≡ resume (now (c .entry)) (suc (at .gate)) ⌝ }
     ensures scratch { λ x. ⌜ now (l .exit)
         ≡ received ops (partyOf parties me (now (c .entry)) (now (prep .entry)) (now (inputs .entry)))
-        (now (l .entry)) (at .gate) (roundOf r) (now (heard .entry)) ⌝ }
+        (now (l .entry)) (at .gate) Own (now (heard .entry)) ⌝ }
 {
     let j = at.gate;
     let s = gates::reading::shape_at(c, j);
@@ -474,12 +381,11 @@ pub fn receive_step(
     let class = s.class;
     let k = s.openings;
     let z = gates::reading::factor_at(c, j, k);
-    let w = circuit::rounds::words_in(s, r);
+    let w = s.words;
     let e = heard_first(parties, class, x, w, heard);
     let d = heard_second(parties, class, k, w, heard);
     let stop = reach(c, y.gates, j + 1);
-    let next = next_point(parties, c, y.gates, j, stop, at.unchecked, r, heard, e);
-    receive_summed(
+    receive_own(
         parties,
         me,
         c,
@@ -493,10 +399,189 @@ pub fn receive_step(
         z,
         k,
         stop,
-        r,
         heard,
         e,
         d,
     );
-    next
+    resume(c, y.gates, j, stop, at.unchecked)
+}
+
+// The opening of an output: one word of each party.
+fn receive_output(
+    parties: usize,
+    me: usize,
+    c: &[Word],
+    prep: &[Word],
+    inputs: &[Word],
+    l: &mut [Word],
+    y: Layout,
+    at: Site,
+    heard: &[Word],
+)
+    requires { ⌜ Receives size (partyOf parties me (now c) (now prep) (now inputs)) (now l) y at Open (now heard) ⌝ }
+    ensures { λ x. ⌜ now (l .exit)
+        ≡ received ops (partyOf parties me (now (c .entry)) (now (prep .entry)) (now (inputs .entry)))
+        (now (l .entry)) (at .gate) Open (now (heard .entry)) ⌝ }
+{
+    let x = gates::reading::first_at(c, at.gate);
+    let shown = heard_sum(parties, 1, 0, heard);
+    after_open_output(y, l, x, shown);
+}
+
+// Does what party i reveals fit its mark?
+fn fits(marks: &[Word], heard: &[Word], i: usize) -> bool
+    requires { ⌜ (i * commitWords + commitWords ≤ length (now marks)) × (i * revealWords + revealWords ≤ length (now heard)) ⌝ }
+    ensures { λ b. ⌜ b ≡ fits (now (marks .entry)) (now (heard .entry)) i ⌝ }
+{
+    let mark = i * COMMIT_WORDS;
+    let words = i * REVEAL_WORDS;
+    sha256::matches(
+        &heard[words..words + REVEAL_WORDS],
+        &marks[mark..mark + COMMIT_WORDS],
+    )
+}
+
+// The lowest party whose reveal does not fit its mark, if there is one.
+pub fn misfit(parties: usize, marks: &[Word], heard: &[Word]) -> Blame
+    requires { ⌜ (parties * commitWords ≤ length (now marks)) × (parties * revealWords ≤ length (now heard)) ⌝ }
+    ensures { λ x. ⌜ blameOf x ≡ misfit parties (now (marks .entry)) (now (heard .entry)) ⌝ }
+{
+    let mut party = 0;
+    while party < parties {
+        if !fits(marks, heard, party) {
+            return Blame::Blames(party);
+        }
+        party += 1;
+    }
+    Blame::Nobody
+}
+
+// How a reveal ends: where all fit their marks, the sum of the check shares decides.
+pub fn judge(parties: usize, marks: &[Word], heard: &[Word]) -> Ruling
+    requires { ⌜ (parties * commitWords ≤ length (now marks))
+        × (parties * revealWords ≤ length (now heard))
+        × ((i : ℕ) → i < parties → getD (now heard) (i * revealWords) 0 < size) ⌝ }
+    ensures { λ x. ⌜ rulingOf x
+        ≡ weighs (misfit parties (now (marks .entry)) (now (heard .entry))) (eqb (heardSum ops parties revealWords 0 (now (heard .entry))) 0) ⌝ }
+{
+    match misfit(parties, marks, heard) {
+        Blame::Blames(i) => Ruling::Stopped(Blame::Blames(i)),
+        Blame::Nobody => {
+            if heard_sum(parties, REVEAL_WORDS, 0, heard) != 0 {
+                return Ruling::Stopped(Blame::Nobody);
+            }
+            Ruling::Passed
+        }
+    }
+}
+
+// The second check has passed: the linear gates after the output are done, and the next stop is found.
+fn release(
+    parties: usize,
+    me: usize,
+    c: &[Word],
+    prep: &[Word],
+    inputs: &[Word],
+    l: &mut [Word],
+    y: Layout,
+    at: Site,
+) -> Point
+    requires { ⌜ Ready size (partyOf parties me (now c) (now prep) (now inputs)) (now l) y at (Reveal Second) ⌝ }
+    ensures point { λ x. ⌜ pointOf x ≡ resume (now (c .entry)) (suc (at .gate)) ⌝ }
+    ensures scratch { λ x. ⌜ now (l .exit)
+        ≡ onward ops (partyOf parties me (now (c .entry)) (now (prep .entry)) (now (inputs .entry))) (at .gate) (now (l .entry)) ⌝ }
+{
+    let next = at.gate + 1;
+    let stop = reach(c, y.gates, next);
+    settle(me, prep[0], c, y, l, next, stop);
+    resume(c, y.gates, at.gate, stop, at.unchecked)
+}
+
+// The reveal of a check.
+fn receive_reveal(
+    parties: usize,
+    me: usize,
+    c: &[Word],
+    prep: &[Word],
+    inputs: &[Word],
+    l: &mut [Word],
+    y: Layout,
+    at: Site,
+    check: Check,
+    heard: &[Word],
+) -> Conclusion
+    requires { ⌜ Receives size (partyOf parties me (now c) (now prep) (now inputs)) (now l) y at (Reveal (checkOf check)) (now heard) ⌝ }
+    ensures { λ x. ⌜ Concludes (partyOf parties me (now (c .entry)) (now (prep .entry)) (now (inputs .entry)))
+        (now (l .entry)) (at .gate) (Reveal (checkOf check)) (now (heard .entry)) x (now (l .exit)) ⌝ }
+{
+    let start = protocol::marks_at(y);
+    let end = start + parties * COMMIT_WORDS;
+    let ruling = judge(parties, &l[start..end], heard);
+    match ruling {
+        Ruling::Stopped(_) => Conclusion {
+            ruling,
+            point: protocol::aborted_at(at.gate),
+        },
+        Ruling::Passed => match check {
+            Check::First => Conclusion {
+                ruling,
+                point: protocol::sending_at(at.gate, Round::Open),
+            },
+            Check::Second => Conclusion {
+                ruling,
+                point: release(parties, me, c, prep, inputs, l, y, at),
+            },
+        },
+    }
+}
+
+// What the words of all come to in round r, and the scratch after it.
+pub fn receive_step(
+    parties: usize,
+    me: usize,
+    c: &[Word],
+    prep: &[Word],
+    inputs: &[Word],
+    l: &mut [Word],
+    y: Layout,
+    at: Site,
+    r: Round,
+    heard: &[Word],
+) -> Conclusion
+    requires { ⌜ Receives size (partyOf parties me (now c) (now prep) (now inputs)) (now l) y at (roundOf r) (now heard) ⌝ }
+    ensures { λ x. ⌜ Concludes (partyOf parties me (now (c .entry)) (now (prep .entry)) (now (inputs .entry)))
+        (now (l .entry)) (at .gate) (roundOf r) (now (heard .entry)) x (now (l .exit)) ⌝ }
+{
+    match r {
+        Round::Own => Conclusion {
+            ruling: Ruling::Passed,
+            point: receive_gate(parties, me, c, prep, inputs, l, y, at, heard),
+        },
+        Round::Open => {
+            receive_output(parties, me, c, prep, inputs, l, y, at, heard);
+            Conclusion {
+                ruling: Ruling::Passed,
+                point: protocol::sending_at(at.gate, Round::Commit(Check::Second)),
+            }
+        }
+        Round::Commit(check) => {
+            scratch::put_marks(l, y, heard);
+            Conclusion {
+                ruling: Ruling::Passed,
+                point: protocol::sending_at(at.gate, Round::Reveal(check)),
+            }
+        }
+        Round::Reveal(check) => receive_reveal(
+            parties,
+            me,
+            c,
+            prep,
+            inputs,
+            l,
+            y,
+            at,
+            check,
+            heard,
+        ),
+    }
 }

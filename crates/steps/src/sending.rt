@@ -4,6 +4,8 @@ use crate::Part;
 use crate::parts;
 use crate::scratch;
 use circuit::Round;
+use circuit::rounds::NONCE_WORDS;
+use circuit::rounds::REVEAL_WORDS;
 use field::Sum;
 use field::Word;
 use protocol::Layout;
@@ -17,18 +19,15 @@ ghost use Rattle.algebra.specs.Element.{Is};
 ghost use Rattle.field.specs.Words.{size, ops};
 ghost use Rattle.circuit.specs.Gate.{gateSize, gate};
 ghost use Rattle.circuit.specs.Kind.{shape};
-ghost use Rattle.circuit.specs.Round.{Own, words};
+ghost use Rattle.circuit.specs.Round.{Own, commitWords, revealWords, words};
 ghost use Rattle.circuit.specs.Code.{roundOf};
-ghost use Rattle.protocol.specs.Scratch.{scratchSize, wire};
+ghost use Rattle.protocol.specs.Scratch.{slotsSize, marksAt, nonceOf, wire};
 ghost use Rattle.protocol.specs.Party.{partyOf};
-ghost use Rattle.protocol.specs.Send.{inputWord, masked, openingWords, checkShare, ownWords, sent, holds, overwrite};
+ghost use Rattle.protocol.specs.Send.{inputWord, masked, openingWords, checkShare, revealed, mark, ownWords, sent, holds, noted, overwrite};
 ghost use Rattle.protocol.specs.Holding.{Below, Held, Opened};
 ghost use Rattle.protocol.specs.Code.{layoutOf};
 ghost use Rattle.protocol.specs.Ready.{Ready, Sends};
 ghost use Rattle.steps.specs.Code.{passSize, valueSum, weighed, Weighed, IsPart, AreEnds};
-
-// The mark that a commitment sends.
-pub const MARK: Word = 1;
 
 // Where numbers stand in a record of the preprocessing.
 pub const MASK_AT: usize = 0;
@@ -61,7 +60,7 @@ pub fn input_word(me: usize, owner: usize, m: &[Word], inputs: &[Word], k: usize
 
 // The party's part of the difference of gate x and the mask that stands at k; m starts at the gate's record.
 pub fn masked(l: &[Word], y: Layout, x: usize, m: &[Word], k: usize) -> Part
-    requires { ⌜ (scratchSize (layoutOf y) ≤ length (now l)) × Held size (layoutOf y) (now l) x × (k + 1 < length (now m)) × Below size (now m) ⌝ }
+    requires { ⌜ (slotsSize (layoutOf y) ≤ length (now l)) × Held size (layoutOf y) (now l) x × (k + 1 < length (now m)) × Below size (now m) ⌝ }
     ensures { λ r. ⌜ IsPart (masked ops (layoutOf y) (now (l .entry)) x (now (m .entry)) k) r ⌝ }
 {
     parts::sub(scratch::wire_at(l, y, x), parts::part_at(m, k))
@@ -122,7 +121,7 @@ fn weigh(l: &[Word], at: usize, k: usize, coefficients: &[Word]) -> Word
 
 // The first k opened values, each times its coefficient.
 pub fn weigh_values(l: &[Word], y: Layout, k: usize, coefficients: &[Word]) -> Word
-    requires { ⌜ (scratchSize (layoutOf y) ≤ length (now l))
+    requires { ⌜ (slotsSize (layoutOf y) ≤ length (now l))
         × (0 < layoutOf y .capacity)
         × (k ≤ length (now coefficients))
         × Below size (now coefficients)
@@ -142,7 +141,7 @@ pub fn check_share_of(
     coefficients: &[Word],
 ) -> Word
     requires { ⌜ Is size (valueSum (layoutOf y) (now l) k (now coefficients)) v
-        × (scratchSize (layoutOf y) ≤ length (now l))
+        × (slotsSize (layoutOf y) ≤ length (now l))
         × (0 < layoutOf y .capacity)
         × (key < size)
         × (k ≤ length (now coefficients))
@@ -161,7 +160,7 @@ pub fn check_share_of(
 
 // The check share over the first k opened entries.
 pub fn check_share(l: &[Word], y: Layout, k: usize, key: Word, coefficients: &[Word]) -> Word
-    requires { ⌜ (scratchSize (layoutOf y) ≤ length (now l))
+    requires { ⌜ (slotsSize (layoutOf y) ≤ length (now l))
         × (0 < layoutOf y .capacity)
         × (key < size)
         × (k ≤ length (now coefficients))
@@ -190,7 +189,7 @@ pub fn opening_words(
     k: usize,
     out: &mut [Word],
 ) -> Ends
-    requires { ⌜ (scratchSize (layoutOf y) ≤ length (now l))
+    requires { ⌜ (slotsSize (layoutOf y) ≤ length (now l))
         × Held size (layoutOf y) (now l) x
         × Held size (layoutOf y) (now l) z
         × (1 ≤ k)
@@ -252,7 +251,7 @@ fn send_own(
 
 fn send_output(c: &[Word], l: &[Word], y: Layout, j: usize, out: &mut [Word])
     requires { ⌜ (gateSize * j + gateSize ≤ length (now c))
-        × (scratchSize (layoutOf y) ≤ length (now l))
+        × (slotsSize (layoutOf y) ≤ length (now l))
         × Held size (layoutOf y) (now l) (gate (now c) j .first)
         × (0 < length (now out)) ⌝ }
     ensures { λ r. ⌜ now (out .exit)
@@ -263,27 +262,52 @@ fn send_output(c: &[Word], l: &[Word], y: Layout, j: usize, out: &mut [Word])
     out[0] = shown.share;
 }
 
-// The words of round r into the outgoing list; the check share then held.
+// What a reveal sends: the check share, and the nonce that stands in the scratch.
+pub fn reveal_words(share: Word, l: &[Word], y: Layout, out: &mut [Word])
+    requires { ⌜ (marksAt (layoutOf y) ≤ length (now l)) × (revealWords ≤ length (now out)) ⌝ }
+    ensures { λ r. ⌜ now (out .exit) ≡ overwrite (revealed share (nonceOf (layoutOf y) (now (l .entry)))) (now (out .entry)) ⌝ }
+{
+    let start = protocol::nonce_at(y);
+    let end = start + NONCE_WORDS;
+    out[0] = share;
+    scratch::copy(&l[start..end], &mut out[1..REVEAL_WORDS]);
+}
+
+// What a commitment sends: the mark of what its reveal will send.
+pub fn commit_words(share: Word, l: &[Word], y: Layout, out: &mut [Word])
+    requires { ⌜ (marksAt (layoutOf y) ≤ length (now l)) × (commitWords ≤ length (now out)) ⌝ }
+    ensures { λ r. ⌜ now (out .exit) ≡ overwrite (mark (revealed share (nonceOf (layoutOf y) (now (l .entry))))) (now (out .entry)) ⌝ }
+{
+    let mut message = [0u32; REVEAL_WORDS];
+    reveal_words(share, l, y, &mut message);
+    sha256::hash_into(&message, out);
+}
+
+// The words of round r into the outgoing list; the check share then held. A commitment notes its nonce in the scratch.
 pub fn send_step(
     parties: usize,
     me: usize,
     c: &[Word],
     prep: &[Word],
     inputs: &[Word],
-    l: &[Word],
+    l: &mut [Word],
     y: Layout,
     at: Site,
     r: Round,
     held: Word,
     coefficients: &[Word],
+    nonce: &[u8],
     out: &mut [Word],
 ) -> Word
-    requires { ⌜ Sends size (partyOf parties me (now c) (now prep) (now inputs)) (now l) y at (roundOf r) held (now coefficients) (length (now out)) ⌝ }
+    requires { ⌜ Sends size (partyOf parties me (now c) (now prep) (now inputs)) (now l) y at (roundOf r) held (now coefficients) (now nonce) (length (now out)) ⌝ }
     ensures held { λ h. ⌜ Is size (holds ops (partyOf parties me (now (c .entry)) (now (prep .entry)) (now (inputs .entry)))
         (now (l .entry)) (at .gate) (roundOf r) (now (coefficients .entry))) h ⌝ }
     ensures out { λ h. ⌜ now (out .exit)
         ≡ overwrite (sent ops (partyOf parties me (now (c .entry)) (now (prep .entry)) (now (inputs .entry)))
-        (now (l .entry)) (at .gate) held (roundOf r)) (now (out .entry)) ⌝ }
+        (now (l .entry)) (at .gate) held (now (coefficients .entry)) (now (nonce .entry)) (roundOf r)) (now (out .entry)) ⌝ }
+    ensures scratch { λ h. ⌜ now (l .exit)
+        ≡ noted ops (partyOf parties me (now (c .entry)) (now (prep .entry)) (now (inputs .entry)))
+        (now (l .entry)) (roundOf r) (now (nonce .entry)) ⌝ }
 {
     match r {
         Round::Own => {
@@ -295,12 +319,14 @@ pub fn send_step(
             0
         }
         Round::Commit(_) => {
-            out[0] = MARK;
             let k = circuit::rounds::opened_in(at.unchecked, r);
-            check_share(l, y, k, prep[0], coefficients)
+            let share = check_share(l, y, k, prep[0], coefficients);
+            scratch::put_nonce(l, y, nonce);
+            commit_words(share, l, y, out);
+            share
         }
         Round::Reveal(_) => {
-            out[0] = held;
+            reveal_words(held, l, y, out);
             0
         }
     }

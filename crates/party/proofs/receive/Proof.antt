@@ -1,14 +1,12 @@
--- `party::receive` meets its contract: what its questions accept, the step receives, and the point that follows tells the answer.
+-- `party::receive` meets its contract: what its questions accept, the step receives, and what it concludes tells the answer.
 -- Assumes nothing.
-use Rattle.field.specs.Words.{ops}
 use mathlib.Core.Path.{sym, ap, _∙_}
-use Rattle.protocol.specs.Code.{layoutOf}
-use Rattle.party.specs.Code.{answerOf, askedOf}
-use Rattle.protocol.proofs.Entries.{receive-refused}
-use Rattle.party.proofs.Halves.{output-slot, received-done}
--- `party::receive` meets its contract: what its questions accept, the step receives, and the point that follows tells the answer.
--- Assumes nothing.
 use borrow.Author.Needs.{needs}
+use Rattle.field.specs.Words.{ops}
+use Rattle.protocol.specs.Code.{layoutOf}
+use Rattle.protocol.proofs.Entries.{receive-refused}
+use Rattle.party.specs.Code.{answerOf, askedOf}
+use Rattle.party.proofs.Halves.{output-slot, received-done}
 use Rattle.party.proofs.receive.Statement.{statement}
 use Rattle.party.proofs.receive.Tie as tie
 
@@ -25,7 +23,9 @@ returns c = receive-refused ops _ _ _ _ (sym (c .before .before .before .ask-rec
 
 returns-2 : tie.Need-returns-2
 unfolding askedOf
-returns-2 c = received-done _ _ _ _ _ _ _ (rw (c .before .before .before .before .before .before .before .before .y .given .1) at (c .before .before .before .before .before .before .before .before .before .before .ask-receive .ensures .1)) (sym (c .before .before .before .before .before .before .before .before .before .before .ask-receive .ensures .0) ∙ ap askedOf (c .before .before .before .before .before .before .before .before .y .given .1)) (c .before .before .before .before .before .read-slot .ensures) (c .before .before .before .receive-step .ensures .0) (c .outcome-of .ensures) (c .before .before .before .receive-step .ensures .1)
+returns-2 c =
+    received-done _ _ _ _ _ _ _ (rw (c .before .before .before .before .before .before .before .before .y .given .1) at (c .before .before .before .before .before .before .before .before .before .before .ask-receive .ensures .1)) (sym (c .before .before .before .before .before .before .before .before .before .before .ask-receive .ensures .0) ∙ ap askedOf (c .before .before .before .before .before .before .before .before .y .given .1))
+    (c .before .before .before .before .before .read-slot .ensures) (c .before .before .before .receive-step .ensures .ruling) (c .before .before .before .receive-step .ensures .point) (c .outcome-of .ensures) (c .before .before .before .receive-step .ensures .scratch)
 
 pub receive-spec : {M : Type 1} → statement M
 receive-spec =

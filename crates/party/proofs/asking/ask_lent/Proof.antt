@@ -7,7 +7,7 @@ use borrow.Author.Needs.{needs}
 use Rattle.circuit.specs.Code.{verdictOf}
 use Rattle.circuit.proofs.Loops.{call-then, refused-then}
 use Rattle.party.specs.Code.{lentOf}
-use Rattle.party.proofs.Lending.{lists-counted, lent-split, survey-refused, survey-passed, survey-valid, survey-counted, refused-first, passed-first, gates-are, layout-is, capacity-low, site-is}
+use Rattle.party.proofs.Lending.{lists-counted, lent-split, survey-refused, survey-passed, survey-valid, survey-counted, refused-first, passed-first, gates-are, layout-is, capacity-low, site-is, parties-low}
 use Rattle.party.proofs.asking.ask_lent.Statement.{statement}
 use Rattle.party.proofs.asking.ask_lent.Tie as tie
 
@@ -24,7 +24,7 @@ size-of-requires : tie.Need-size-of-requires
 size-of-requires c κs =
     let counted = survey-counted (c .before .before .before .before .survey .ensures .1) (c .before .before .here .given .1) in
     let valid = survey-valid (c .before .before .before .before .before .before .before .before .before .before .before .before .before .args .parties) (c .before .before .before .before .before .index .result) (c .before .before .before .before .before .before .before .before .before .before .before .before .before .args .c .now) (c .before .before .before .before .survey .ensures .0) (c .before .before .before .before .before .index .ensures) (c .before .before .here .given .1) in
-    (omega (arith, valid .few, gates-are (c .before .before .before .before .before .before .before .before .before .before .before .before .before .args .c .now)), omega (arith, capacity-low _ _ (counted .all) valid))
+    (parties-low _ _ (c .before .before .before .before .before .before .before .before .ask-party .ensures) (c .before .before .before .before .before .before .enum-told .given .1), omega (arith, valid .few, gates-are (c .before .before .before .before .before .before .before .before .before .before .before .before .before .args .c .now)), omega (arith, capacity-low _ _ (counted .all) valid))
 
 returns-2 : tie.Need-returns-2
 unfolding lentOf verdictOf
@@ -36,7 +36,7 @@ returns-2 c =
       call-then _ _ (c .before .before .before .before .before .before .before .before .before .before .before .before .before .ask-party .ensures) (c .before .before .before .before .before .before .before .before .before .before .before .enum-told .given .1)
           (passed-first _ passed
           (sym (ap verdictOf (c .before .number3 .given .1)) ∙ c .before .before .before .ask-lists .ensures
-          ∙ lists-counted _ _ _ (counted .all) (start .args .prep .now) (start .args .inputs .now) (length (start .args .l .now)) _ layout (c .before .before .before .before .size-of .ensures)))
+          ∙ lists-counted _ _ _ (counted .all) (start .args .prep .now) (start .args .inputs .now) (length (start .args .l .now)) (start .args .parties) _ layout (c .before .before .before .before .size-of .ensures)))
           ∙ sym (lent-split _ _),
       tt,
     )
@@ -55,7 +55,7 @@ returns-4 c =
       call-then _ _ (c .before .before .before .before .before .before .before .before .before .before .before .before .ask-party .ensures) (c .before .before .before .before .before .before .before .before .before .before .enum-told .given .1)
           (passed-first _ passed
           (sym (ap verdictOf (c .enum-told2 .given .1)) ∙ c .before .before .ask-lists .ensures
-          ∙ lists-counted _ _ _ (counted .all) (start .args .prep .now) (start .args .inputs .now) (length (start .args .l .now)) _ layout (c .before .before .before .size-of .ensures)))
+          ∙ lists-counted _ _ _ (counted .all) (start .args .prep .now) (start .args .inputs .now) (length (start .args .l .now)) (start .args .parties) _ layout (c .before .before .before .size-of .ensures)))
           ∙ sym (lent-split _ _),
       (layout, refl, λ h. site-is _ _ _ (counted .here (omega (arith, h))) h refl refl refl refl),
     )

@@ -23,7 +23,7 @@ returns-2 : tie.Need-returns-2
 unfolding verdictOf askedOf
 returns-2 c =
     let place = round-at _ _ _ (c .before .before .before .before .before .before .before .before .before .before .ask-place .ensures .1) (c .before .before .before .before .before .before .before .before .y .given .1) in
-    (send-asked _ _ _ _ _ place _ (ap stageOf (c .before .before .before .before .before .stage .given .1)) _ _ (sym (ap verdictOf (c .before .number2 .given .1)) ∙ c .before .before .before .ask-send-round .ensures), tt)
+    (send-asked _ _ _ _ _ place _ (ap stageOf (c .before .before .before .before .before .stage .given .1)) _ _ _ (sym (ap verdictOf (c .before .number2 .given .1)) ∙ c .before .before .before .ask-send-round .ensures), tt)
 
 returns-3 : tie.Need-returns-3
 unfolding verdictOf askedOf
@@ -31,8 +31,8 @@ returns-3 c =
     let place = round-at _ _ _ (c .before .before .before .before .before .before .before .before .before .ask-place .ensures .1) (c .before .before .before .before .before .before .before .y .given .1) in
     let stage = ap stageOf (c .before .before .before .before .stage .given .1) in
     let told = ap verdictOf (c .enum-told .given .1) in (
-      send-asked _ _ _ _ _ place _ stage _ _ (sym told ∙ c .before .before .ask-send-round .ensures),
-      sendable _ _ _ _ _ place _ stage _ _ (sym (c .before .before .ask-send-round .ensures) ∙ told),
+      send-asked _ _ _ _ _ place _ stage _ _ _ (sym told ∙ c .before .before .ask-send-round .ensures),
+      sendable _ _ _ _ _ place _ stage _ _ _ (sym (c .before .before .ask-send-round .ensures) ∙ told),
     )
 
 returns-4 : tie.Need-returns-4

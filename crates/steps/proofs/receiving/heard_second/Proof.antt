@@ -15,7 +15,7 @@ sub-heard-sum : tie.Need-sub-heard-sum
 sub-heard-sum c = c .before .before .before .pre .2 (sym (c .before .opens .ensures) ∙ c .if1 .taken) .0
 
 heard-sum-requires : tie.Need-heard-sum-requires
-heard-sum-requires c κs = (c .before .before .before .pre .2 (sym (c .before .opens .ensures) ∙ c .if1 .taken) .1, c .before .before .before .pre .0, c .before .before .before .pre .1)
+heard-sum-requires c κs = (c .before .before .before .pre .2 (sym (c .before .opens .ensures) ∙ c .if1 .taken) .1, c .before .before .before .pre .0, λ i h. c .before .before .before .pre .1 _)
 
 returns : tie.Need-returns
 returns c = second-is ops (c .before .before .before .before .args .n) (c .before .before .before .before .args .k) (classOf (c .before .before .before .before .args .class)) (now (c .before .before .before .before .args .heard)) _ (sym (c .before .before .opens .ensures) ∙ c .before .if1 .taken) (c .heard-sum .ensures)

@@ -24,7 +24,7 @@ shared-slice-read-add : tie.Need-shared-slice-read-add Inv-loop μ-loop
 shared-slice-read-add c = hearing-in laws _ _ _ _ _ _ _ (c .before .before .loop .inv) (c .before .loop-test .taken) (c .before .before .before .before .pre .0) (c .before .before .before .before .pre .1) .0
 
 add-requires : tie.Need-add-requires Inv-loop μ-loop
-add-requires c κs = (c .before .before .loop .inv .added .below, c .before .before .before .before .pre .2 _)
+add-requires c κs = (c .before .before .loop .inv .added .below, rw (c .before .before .loop .inv .place) (c .before .before .before .before .pre .2 _ (c .before .loop-test .taken)))
 
 add-at : tie.Need-add-at Inv-loop μ-loop
 add-at c = omega (arith, hearing-in laws _ _ _ _ _ _ _ (c .before .before .before .loop .inv) (c .before .before .loop-test .taken) (c .before .before .before .before .before .pre .0) (c .before .before .before .before .before .pre .1))

@@ -1,53 +1,47 @@
--- `steps::receiving::receive_step` meets its contract: the words are summed, and what follows is made of the sums.
+-- `steps::receiving::receive_step` meets its contract: each arm is the definition's at its round, and only a reveal stops a run.
 -- Assumes nothing.
-use mathlib.Core.Path.{ap, _∙_}
+use mathlib.Core.Path.{refl}
 use borrow.Author.Needs.{needs}
-use native.Mathlib.Omega.{arith}
 use Rattle.field.specs.Words.{ops}
-use Rattle.circuit.specs.Round.{shapeWords}
-use Rattle.circuit.specs.Code.{roundOf}
-use Rattle.protocol.proofs.Readiness.{gate-there}
-use Rattle.protocol.proofs.HeardWords.{first-asks, second-asks, first-found, second-found}
-use Rattle.protocol.proofs.Received.{hears, reach-asks, stands}
-use Rattle.circuit.proofs.KindLaws.{shape-class, shape-openings}
+use Rattle.circuit.specs.Round.{Own, Open, Commit}
+use Rattle.protocol.proofs.Received.{commit-received}
+use Rattle.steps.proofs.Concluding.{marks-ask, found-other, concludes-passed}
 use Rattle.steps.proofs.receiving.receive_step.Statement.{statement}
 use Rattle.steps.proofs.receiving.receive_step.Tie as tie
 
-shape-at-requires : tie.Need-shape-at-requires
-shape-at-requires c κs = gate-there _ _ _ _ _ (c .before .before .before .before .before .pre .ready)
+receive-gate-requires : tie.Need-receive-gate-requires
+receive-gate-requires c κs = (rw (c .before .enum-told .given .1) at (c .before .before .before .before .before .before .before .before .pre))
 
-first-at-requires : tie.Need-first-at-requires
-first-at-requires c κs = gate-there _ _ _ _ _ (c .before .before .before .before .before .before .pre .ready)
+receive-output-requires : tie.Need-receive-output-requires
+receive-output-requires c κs = (rw (c .before .enum-told2 .given .1) at (c .before .before .before .before .before .before .before .before .pre))
 
-factor-at-requires : tie.Need-factor-at-requires
-factor-at-requires c κs = (gate-there _ _ _ _ _ (c .before .before .before .before .before .before .before .pre .ready), (shape-openings _ _ (c .before .shape-at .ensures)))
+put-marks-requires : tie.Need-put-marks-requires
+put-marks-requires c κs = marks-ask _ _ _ _ _ (rw (c .before .before .r .given .1) at (c .before .before .before .before .before .before .before .before .before .pre))
 
-words-in-requires : tie.Need-words-in-requires
-words-in-requires c κs = search needs
-
-heard-first-requires : tie.Need-heard-first-requires
-heard-first-requires c κs = first-asks (hears _ _ _ _ (c .before .before .before .before .before .before .before .before .before .pre)) (shape-class _ _ (c .before .before .before .shape-at .ensures)) (c .words-in .ensures ∙ ap (λ z. shapeWords z (roundOf (c .before .before .before .before .before .before .before .before .before .args .r))) (c .before .before .before .shape-at .ensures)) (c .before .before .first-at .ensures)
-
-heard-second-requires : tie.Need-heard-second-requires
-heard-second-requires c κs = second-asks (hears _ _ _ _ (c .before .before .before .before .before .before .before .before .before .before .pre)) (shape-class _ _ (c .before .before .before .before .shape-at .ensures)) (c .before .words-in .ensures ∙ ap (λ z. shapeWords z (roundOf (c .before .before .before .before .before .before .before .before .before .before .args .r))) (c .before .before .before .before .shape-at .ensures)) (shape-openings _ _ (c .before .before .before .before .shape-at .ensures))
-
-add-reach : tie.Need-add-reach
-add-reach c = omega (arith, (c .before .before .before .before .before .before .before .before .before .before .before .pre .ready) .sited .within, (c .before .before .before .before .before .before .before .before .before .before .before .pre .ready) .valid .few)
-
-reach-requires : tie.Need-reach-requires
-reach-requires c κs = reach-asks _ _ _ _ (c .before .before .before .before .before .before .before .before .before .before .before .pre .ready)
-
-next-point-requires : tie.Need-next-point-requires
-next-point-requires c κs = ((hears _ _ _ _ (c .before .before .before .before .before .before .before .before .before .before .before .before .pre)), stands _ _ _ _ (c .before .before .before .before .before .before .before .before .before .before .before .before .pre .ready) (c .reach .ensures), first-found (hears _ _ _ _ (c .before .before .before .before .before .before .before .before .before .before .before .before .pre)) (shape-class _ _ (c .before .before .before .before .before .before .shape-at .ensures)) (c .before .before .before .words-in .ensures ∙ ap (λ z. shapeWords z (roundOf (c .before .before .before .before .before .before .before .before .before .before .before .before .args .r))) (c .before .before .before .before .before .before .shape-at .ensures)) ops (c .before .before .before .before .before .first-at .ensures) (c .before .before .heard-first .ensures) .is)
-
-receive-summed-requires : tie.Need-receive-summed-requires
-receive-summed-requires c κs = (c .before .before .before .before .before .before .before .before .before .before .before .before .before .before .pre, c .before .before .reach .ensures, (shape-class _ _ (c .before .before .before .before .before .before .before .before .shape-at .ensures)), record { first = c .before .before .before .before .before .before .before .first-at .ensures; second = c .before .before .before .before .before .before .factor-at .ensures; openings = (shape-openings _ _ (c .before .before .before .before .before .before .before .before .shape-at .ensures)) }, record { first = first-found (hears _ _ _ _ (c .before .before .before .before .before .before .before .before .before .before .before .before .before .before .pre)) (shape-class _ _ (c .before .before .before .before .before .before .before .before .shape-at .ensures)) (c .before .before .before .before .before .words-in .ensures ∙ ap (λ z. shapeWords z (roundOf (c .before .before .before .before .before .before .before .before .before .before .before .before .before .before .args .r))) (c .before .before .before .before .before .before .before .before .shape-at .ensures)) ops (c .before .before .before .before .before .before .before .first-at .ensures) (c .before .before .before .before .heard-first .ensures); second = second-found (hears _ _ _ _ (c .before .before .before .before .before .before .before .before .before .before .before .before .before .before .pre)) (shape-class _ _ (c .before .before .before .before .before .before .before .before .shape-at .ensures)) (c .before .before .before .before .before .words-in .ensures ∙ ap (λ z. shapeWords z (roundOf (c .before .before .before .before .before .before .before .before .before .before .before .before .before .before .args .r))) (c .before .before .before .before .before .before .before .before .shape-at .ensures)) ops (shape-openings _ _ (c .before .before .before .before .before .before .before .before .shape-at .ensures)) (c .before .before .before .heard-second .ensures) })
+receive-reveal-requires : tie.Need-receive-reveal-requires
+receive-reveal-requires c κs = (rw (c .before .before .r2 .given .1) at (c .before .before .before .before .before .before .before .before .before .pre))
 
 returns : tie.Need-returns
-returns c = (c .before .before .before .before .next-point .ensures, c .before .before .receive-summed .ensures)
+returns c =
+    let asked = (rw (c .before .before .before .before .enum-told .given .1) at (c .before .before .before .before .before .before .before .before .before .before .before .pre)) in
+    rw (c .before .before .before .before .enum-told .given .1) (concludes-passed _ _ _ Own _ (found-other _ _ Own _ refl) refl (asked .ready .occurs) (c .before .before .receive-gate .ensures .0) (c .before .before .receive-gate .ensures .1))
+
+returns-2 : tie.Need-returns-2
+returns-2 c =
+    let asked = (rw (c .before .before .before .before .before .enum-told2 .given .1) at (c .before .before .before .before .before .before .before .before .before .before .before .before .pre)) in
+    rw (c .before .before .before .before .before .enum-told2 .given .1) (concludes-passed _ _ _ Open _ (found-other _ _ Open _ refl) refl (asked .ready .occurs) (c .sending-at .ensures) (c .before .before .before .receive-output .ensures))
+
+returns-3 : tie.Need-returns-3
+returns-3 c =
+    let asked = (rw (c .before .before .before .before .before .before .r .given .1) at (c .before .before .before .before .before .before .before .before .before .before .before .before .before .pre)) in
+    rw (c .before .before .before .before .before .before .r .given .1) (concludes-passed _ _ _ (Commit _) _ (found-other _ _ (Commit _) _ refl) refl (asked .ready .occurs) (c .sending-at2 .ensures) (commit-received ops _ _ _ _ _ _ (asked .ready) (c .before .before .before .put-marks .ensures)))
+
+returns-4 : tie.Need-returns-4
+returns-4 c = rw (c .before .before .before .before .before .r2 .given .1) (c .before .before .receive-reveal .ensures)
 
 pub receive-step-spec : {M : Type 1} → statement M
 receive-step-spec =
     tie.close
-    (tie.spec shape-at-requires first-at-requires factor-at-requires words-in-requires heard-first-requires heard-second-requires add-reach
-    reach-requires next-point-requires receive-summed-requires (λ c. search needs) returns)
+    (tie.spec (λ c. search needs) receive-gate-requires (λ c. search needs) receive-output-requires (λ c κs. search needs) (λ c. search needs)
+    put-marks-requires (λ c κs. search needs) (λ c. search needs) receive-reveal-requires (λ c. search needs) returns (λ c. search needs) returns-2
+    (λ c. search needs) returns-3 (λ c. search needs) returns-4)
