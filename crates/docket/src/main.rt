@@ -36,8 +36,9 @@ fn main() {
     ];
     let inputs: [Word; 2] = [5, 6];
     let coefficients: [Word; 3] = [1, 2, 5];
-    let mut scratch: [Word; 28] = [0; 28];
-    let mut transcript: [Word; 18] = [0; 18];
+    let nonces: [u8; 128] = [0; 128];
+    let mut scratch: [Word; 76] = [0; 76];
+    let mut transcript: [Word; 78] = [0; 78];
     let mut outputs: [Word; 1] = [0; 1];
     match joint::joint_run(
         PARTIES as usize,
@@ -46,6 +47,7 @@ fn main() {
         &inputs,
         &mut scratch,
         &coefficients,
+        &nonces,
         &mut transcript,
         &mut outputs,
     ) {
@@ -53,7 +55,11 @@ fn main() {
             number: _,
             index: _,
         } => {}
-        JointAnswer::Aborted { gate: _, rounds: _ } => {}
+        JointAnswer::Aborted {
+            gate: _,
+            blame: _,
+            rounds: _,
+        } => {}
         JointAnswer::Done(rounds) => {
             printing::print_rounds(PARTIES, &circuit, rounds, &transcript);
             printing::print_list(b"out", &outputs);

@@ -1,75 +1,56 @@
--- Both rounds of a check: from a run in which a commitment is due to where its reveal leads.
+-- Both rounds of a check: from a run in which a commitment is due to where its reveal leads. Whatever the preprocessing, each reveal fits its mark, so that the sum decides.
 -- Assumes nothing.
 use Prim.Native.Nat.{ℕ, suc, _+_, _-_, _*_, _<_, _≤_}
 use mathlib.Core.Path.{_≡_, refl, sym, ap, _∙_}
 use mathlib.Core.Bool.{Bool, true, false, cond, _&&_}
-use mathlib.Core.List.{List, [], _∷_, _++_}
+use mathlib.Core.List.{List, [], _∷_}
 use native.Mathlib.Omega.{arith}
-use lib.ListN.{length, getD, set, drop, replicate, length-append, length-replicate, List·getD-append}
-use lib.Seq.{getD-take, getD-drop}
+use lib.ListN.{length, set}
 use Rattle.algebra.specs.Element.{Is}
 use Rattle.field.specs.Words.{size, ops}
 use Rattle.circuit.specs.Gate.{gate, gates}
 use Rattle.circuit.specs.Count.{total, prepAt, unchecked}
-use Rattle.circuit.specs.Round.{Check, First, Second, Round, Open, Commit, Reveal, checked, openedIn, shapeWords, words, revealWords}
+use Rattle.circuit.specs.Round.{Check, First, Second, Round, Open, Commit, Reveal, checked, openedIn, shapeWords, commitWords, nonceSize, revealWords, commitsIn}
 use Rattle.circuit.proofs.KindLaws.{output-facts}
 use Rattle.circuit.proofs.RoundLaws.{class-at-round}
+use Rattle.protocol.specs.Scratch.{layout, Value, read, band, writtenAt, nonceOf, putNonce, putMarks}
 use Rattle.protocol.specs.Position.{Point, Send, Aborted, aborted, resume, whenSending}
-use Rattle.protocol.proofs.Runs.{Over}
-use Rattle.protocol.specs.Receive.{heardSum, passes}
-use Rattle.protocol.specs.Send.{mark, sent}
-use Rattle.protocol.specs.Scratch.{layout, Value, read}
+use Rattle.protocol.specs.Send.{mark, revealed, sent, noted}
+use Rattle.protocol.specs.Receive.{Nobody, Passed, Stopped, passed, heardSum, received, left}
 use Rattle.protocol.specs.Code.{layoutOf}
 use Rattle.protocol.specs.Ready.{Settles}
-use Rattle.protocol.specs.Holding.{Below, Opened}
 use Rattle.protocol.specs.Entry.{releases}
-use Rattle.protocol.specs.Ask.{mostParties}
-use Rattle.protocol.specs.Joint.{Joint, band}
-use Rattle.protocol.specs.Run.{said, released}
+use Rattle.protocol.specs.Joint.{Joint, party, nonceFor}
+use Rattle.protocol.specs.Run.{blamed, said, notes, ends, step, released}
 use Rattle.protocol.specs.JointEntry as E
-use Rattle.protocol.proofs.Bands.{band-joined}
-use Rattle.protocol.proofs.Following.{next-follows, next-stops, passes-zero, passes-not, passes-other}
+use Rattle.protocol.proofs.Runs.{Over}
+use Rattle.protocol.proofs.Tails.{length-written}
+use Rattle.protocol.proofs.Words.{joined-ext}
+use Rattle.protocol.proofs.Following.{next-follows, next-stops, weighs-zero, weighs-not}
+use Rattle.protocol.proofs.Marks.{Sealed, ends-other, commit-sealed, said-shown, sealed-ends}
 use Rattle.joint.specs.declared.JointAnswer.{JointAnswer}
 use Rattle.joint.specs.declared.Frame.{Frame}
-use Rattle.joint.specs.Code.{jointAnswerOf, Course, dueAt, stateOf, keyIn, Prepared, Banded, EachBand, rebanded, shareIn, each, writtenAt, noneHeld, Moving, Moved, Runnable, Ran, Common}
-use Rattle.joint.proofs.Parties.{lent-undrawn}
-use Rattle.joint.proofs.Going.{within, occurs}
+use Rattle.joint.specs.Code.{jointAnswerOf, Course, dueAt, stateOf, keyIn, Prepared, Banded, EachBand, rebanded, shareIn, nonceIn, revealIn, marksIn, revealsIn, notedIn, Checks, noneHeld, Moving, Moved, Runnable, Ran, Common}
+use Rattle.joint.proofs.Parties.{lent-undrawn, lent-banded}
+use Rattle.joint.proofs.States.{sealed-alike}
+use Rattle.joint.proofs.Going.{within, occurs, rooms, nonces-long}
 use Rattle.joint.proofs.Later.{resumed-prep}
 use Rattle.joint.proofs.Releasing.{entry-zero, freed-one}
-use Rattle.joint.proofs.SendTurns.{lentAll, check-asks, taken, checked-is, said-by}
-use Rattle.joint.proofs.ReceiveTurns.{settledLeft, commit-left, first-left, stopped-left, reveal-settles, reveal-received}
-use Rattle.joint.proofs.Rounding.{said-received, round-moved}
+use Rattle.joint.proofs.SendTurns.{lentAll, check-asks, takes-are, holds-is, checked-is, said-by}
+use Rattle.joint.proofs.ReceiveTurns.{settledLeft, left-alone, first-left, reveal-settles, reveal-received}
+use Rattle.joint.proofs.Rounding.{said-received, received-step, stopped-step, round-moved, said-long}
 use Rattle.joint.proofs.Running.{Running, running-moving, running-again, running-over, outputs-left}
-use Rattle.joint.proofs.Checking.{length-each, share-low}
-use Rattle.joint.proofs.Turns.{none-held, none-taken}
+use Rattle.joint.proofs.Checking.{heldOf, held-long, held-at, share-low, noted-nonce}
+use Rattle.joint.proofs.Turns.{none-held, none-taken, none-begun, quiet-passed, quiet-named}
 use Rattle.joint.proofs.Passing.{turned-none, turned-quietly}
-
--- what each of n parties holds, in an array for the most
-abbrev heldOf : ℕ → (ℕ → ℕ) → List ℕ
-heldOf n w = each n w ++ replicate (mostParties - n) 0
-
-held-long : (n : ℕ) (w : ℕ → ℕ) → n ≤ mostParties → length (heldOf n w) ≡ mostParties
-held-long n w h = rw (length-append, length-each n w, length-replicate) (omega arith)
-
-held-at : (n : ℕ) (w : ℕ → ℕ) (i : ℕ) → i < n → getD (heldOf n w) i 0 ≡ w i
-unfolding band
-held-at n w i h =
-    List·getD-append (each n w) (replicate (mostParties - n) 0) 0 i (omega (arith, length-each n w))
-    ∙ sym (getD-take 1 (drop (i * 1) (each n w)) 0 0 (omega arith) ∙ getD-drop (i * 1) (each n w) 0 0 ∙ ap (λ (k : ℕ). getD (each n w) k 0) (omega arith))
-    ∙ ap (λ (x : List ℕ). getD x 0 0) (band-joined 1 n (λ m. w m ∷ []) (λ m l. refl) i h)
 
 -- nothing is sent where a run is aborted
 over-aborted : Over Aborted
 unfolding whenSending
 over-aborted A a g = refl
 
--- the rounds of a check have one word
-one-word : (c : List ℕ) (j : ℕ) (k : Check) → (words (gate c j) (Commit k) ≡ 1) × (words (gate c j) (Reveal k) ≡ 1)
-unfolding shapeWords
-one-word c j k = (refl, refl)
-
 -- a check that is stopped releases nothing
-module _ (J : Joint) (f : Frame) (s : Course) (held l : List ℕ) (r : Round) (e : passes ops (J .parties) r (said ops J (stateOf f s held l) r) ≡ false) where
+module _ (J : Joint) (f : Frame) (s : Course) (held l : List ℕ) (r : Round) (e : passed (ends ops J (stateOf f s held l) r) ≡ false) where
   none-released : released ops J (stateOf f s held l) r ≡ []
   unfolding released
   none-released = rw e (both-no (releases r))
@@ -78,24 +59,30 @@ module _ (J : Joint) (f : Frame) (s : Course) (held l : List ℕ) (r : Round) (e
       both-no true = refl
       both-no false = refl
 
-module _ {f : Frame} {c preps inputs coefficients l₀ t₀ o₀ : List ℕ} (able : Runnable (lentAll f c preps inputs coefficients) f l₀ t₀ o₀)
-    {s : Course} {l t o : List ℕ} (k : Check) (inv : Running (lentAll f c preps inputs coefficients) f l₀ t₀ o₀ s noneHeld l t o)
+module _ {f : Frame} {c preps inputs coefficients nonces l₀ t₀ o₀ : List ℕ} (able : Runnable (lentAll f c preps inputs coefficients nonces) f l₀ t₀ o₀)
+    {s : Course} {l t o : List ℕ} (k : Check) (inv : Running (lentAll f c preps inputs coefficients nonces) f l₀ t₀ o₀ s noneHeld l t o)
     (due : s .point .stage ≡ Send (Commit k)) {m : ℕ} (em : m ≡ checked (unchecked c (s .point .gate)) k) where
   abbrev J : Joint
-  J = lentAll f c preps inputs coefficients
-
-  n : ℕ
-  n = f .parties
+  J = lentAll f c preps inputs coefficients nonces
 
   moving : Moving J f s (Commit k) noneHeld l t
   moving = running-moving J f l₀ t₀ o₀ able inv (Commit k) due
 
+  some-parties : 0 < f .parties
+  some-parties = omega (arith, moving .going .lent .some)
+
   opened-is : m ≡ openedIn (unchecked c (s .point .gate)) (Commit k)
   opened-is = em
 
-  -- the check share of each
+  -- the check share of each, and the words of all
   abbrev share : ℕ → ℕ
   share = shareIn f preps l m (s .used) coefficients
+
+  abbrev marks : List ℕ
+  marks = marksIn f preps l m (s .used) coefficients (s .checks) nonces
+
+  abbrev reveals : List ℕ
+  reveals = revealsIn f preps l m (s .used) coefficients (s .checks) nonces
 
   -- after the commitment
   abbrev sealed : Course
@@ -104,172 +91,227 @@ module _ {f : Frame} {c preps inputs coefficients l₀ t₀ o₀ : List ℕ} (ab
         point = dueAt (s .point .gate) (Reveal k);
         prep = s .prep;
         used = s .used + m;
-        written = s .written + f .parties;
+        checks = s .checks + 1;
+        written = s .written + f .parties * commitWords;
         released = s .released;
         rounds = s .rounds + 1;
       }
 
   abbrev marked : List ℕ
-  marked = writtenAt (s .written) (each (f .parties) (λ i. mark)) t
+  marked = writtenAt (s .written) marks t
 
-  marks-said : each (f .parties) (λ i. mark) ≡ said ops J (stateOf f s noneHeld l) (Commit k)
-  unfolding sent
-  marks-said = said-by (moving .going) (λ i. mark ∷ []) (λ i h. refl) refl
+  marks-said : marks ≡ said ops J (stateOf f s noneHeld l) (Commit k)
+  unfolding sent stateOf nonceFor
+  marks-said =
+      said-by (moving .going) (λ i. mark (revealIn f preps l m (s .used) coefficients (s .checks) nonces i))
+      (λ i h. ap (λ (x : ℕ). mark (revealed x (nonceIn f (s .checks) nonces i))) (holds-is (moving .going) refl opened-is i)) refl
 
-  sealed-moved : Moved J f s (Commit k) noneHeld l t sealed (heldOf (f .parties) share) l marked
-  sealed-moved =
-      round-moved moving
-      (commit-left f s c preps inputs l _ (lent-undrawn (moving .going .lent)) (moving .going .room) k)
-      (next-follows c ops (f .parties) (s .point .gate) _ (Commit k) (occurs J f s (Commit k) noneHeld l (moving .going)) (passes-other ops (f .parties) _ (Commit k) refl) refl)
-      (moving .going .prep-is)
-      (held-long (f .parties) share (moving .going .lent .few))
-      (λ i h. record { is = held-at (f .parties) share i h ∙ checked-is (moving .going) refl opened-is i; below = rw (held-at (f .parties) share i h) (share-low f preps l m (s .used) coefficients i) })
-      (ap (λ (x : ℕ). s .used + x) (taken (moving .going) refl opened-is))
-      (ap (λ (x : List ℕ). writtenAt (s .written) x t) marks-said)
-      (ap (λ (x : ℕ). s .written + x) (sym (length-each (f .parties) (λ i. mark)) ∙ ap length marks-said))
-      refl
+  -- each band is that of the definition
+  abbrev notedBand : ℕ → List ℕ
+  notedBand = notedIn f preps l m (s .used) coefficients (s .checks) nonces
 
-  sealed-running : Running J f l₀ t₀ o₀ sealed (heldOf (f .parties) share) l marked o
-  sealed-running = running-again J f l₀ t₀ o₀ able inv (Commit k) due (turned-quietly J f s noneHeld l (Commit k) refl sealed-moved refl)
+  commit-step : (i : ℕ) → i < f .parties → notedBand i ≡ step ops J (stateOf f s noneHeld l) (Commit k) .scratch i
+  unfolding step left received notes noted stateOf party nonceFor
+  commit-step i h =
+      ap (putMarks (layoutOf (f .layout)) (putNonce (layoutOf (f .layout)) (band (f .scratch) l i) (nonceIn f (s .checks) nonces i))) marks-said
+      ∙ rw (moving .going .lent .framed .lay, ends-other ops J (stateOf f s noneHeld l) (Commit k) refl)
 
-  revealing : Moving J f sealed (Reveal k) (heldOf (f .parties) share) l marked
-  revealing = running-moving J f l₀ t₀ o₀ able sealed-running (Reveal k) refl
+  marks-many : f .parties * commitWords ≡ length (said ops J (stateOf f s noneHeld l) (Commit k))
+  unfolding shapeWords
+  marks-many = sym (said-long moving)
 
-  -- what the check asks
-  pub check-asked : Common f l m
-      → (f .parties ≤ mostParties)
-      × Prepared f preps 0 1
-      × Banded f l
-      × (s .used + m ≤ length coefficients)
-      × Below size coefficients
-      × EachBand f l (λ i x. (e : ℕ) → e < m → Opened size (layoutOf (f .layout)) x e)
-      × (0 < f .parties)
-      × (0 < layoutOf (f .layout) .capacity)
-      × Common f l m
-      × (s .written + f .parties + f .parties ≤ length t)
-  check-asked h =
-      let a = check-asks (moving .going) refl opened-is in
-      (a .0, a .1, a .2, a .3, a .4, a .5, omega (arith, moving .going .lent .some), entry-zero c (f .layout) (moving .going .lent .framed .lay), h, omega (arith, revealing .words-fit, ap (λ (x : ℕ). f .parties * x) (one-word c (s .point .gate) k .1), inv .long-t, sealed-running .long-t))
+  module _ {l₁ : List ℕ} (el : l₁ ≡ rebanded f (notedIn f preps l m (s .used) coefficients (s .checks) nonces) l) where
+    sealed-moved : Moved J f s (Commit k) noneHeld l t sealed (heldOf (f .parties) share) l₁ marked
+    unfolding commitsIn
+    sealed-moved =
+        round-moved moving notedBand commit-step el
+        (quiet-named (moving .going) refl)
+        (next-follows c (s .point .gate) _ (Commit k) (occurs J f s (Commit k) noneHeld l (moving .going)) (quiet-passed (moving .going) refl) refl)
+        (moving .going .prep-is)
+        (held-long (f .parties) share (moving .going .lent .few))
+        (λ i h. record { is = held-at (f .parties) share i h ∙ checked-is (moving .going) refl opened-is i; below = rw (held-at (f .parties) share i h) (share-low f preps l m (s .used) coefficients i) })
+        (ap (λ (x : ℕ). s .used + x) (takes-are (moving .going) refl opened-is))
+        refl
+        (ap (λ (x : List ℕ). writtenAt (s .written) x t) marks-said)
+        (ap (λ (x : ℕ). s .written + x) marks-many)
+        refl
 
-  -- the check shares are revealed
-  shares-said : each (f .parties) share ≡ said ops J (stateOf f sealed (heldOf (f .parties) share) l) (Reveal k)
-  unfolding sent stateOf
-  shares-said = said-by (revealing .going) (λ i. share i ∷ []) (λ i h. ap (λ (x : ℕ). x ∷ []) (sym (held-at (f .parties) share i h))) refl
+    sealed-running : Running J f l₀ t₀ o₀ sealed (heldOf (f .parties) share) l₁ marked o
+    sealed-running = running-again J f l₀ t₀ o₀ able inv (Commit k) due (turned-quietly J f s noneHeld l (Commit k) refl sealed-moved refl)
 
-  abbrev revealedTo : List ℕ
-  revealedTo = writtenAt (s .written + f .parties) (each (f .parties) share) marked
+    revealing : Moving J f sealed (Reveal k) (heldOf (f .parties) share) l₁ marked
+    revealing = running-moving J f l₀ t₀ o₀ able sealed-running (Reveal k) refl
 
-  abbrev after : Point → ℕ → Course
-  after x r =
-      record {
-        point = x;
-        prep = s .prep;
-        used = s .used + m;
-        written = s .written + f .parties + f .parties;
-        released = r;
-        rounds = s .rounds + 2;
-      }
+    -- every party has the marks of all
+    is-sealed : Sealed ops J (stateOf f sealed (heldOf (f .parties) share) l₁)
+    is-sealed =
+        sealed-alike ops J (stateOf f sealed (heldOf (f .parties) share) l₁) (step ops J (stateOf f s noneHeld l) (Commit k)) (sealed-moved .alike)
+        (commit-sealed ops J (stateOf f s noneHeld l) k (unfold stateOf in rooms J f s (Commit k) noneHeld l (moving .going)) (unfold stateOf in nonces-long J f s (Commit k) noneHeld l (moving .going) refl))
 
-  words-put : revealedTo ≡ writtenAt (s .written + f .parties) (said ops J (stateOf f sealed (heldOf (f .parties) share) l) (Reveal k)) marked
-  words-put = ap (λ (x : List ℕ). writtenAt (s .written + f .parties) x marked) shares-said
+    nonces-there : nonceSize * (f .parties * (s .checks + 1)) ≤ length nonces
+    unfolding commitsIn
+    nonces-there = moving .going .nonce-count
 
-  words-long : s .written + f .parties + f .parties ≡ s .written + f .parties + length (said ops J (stateOf f sealed (heldOf (f .parties) share) l) (Reveal k))
-  words-long = ap (λ (x : ℕ). s .written + f .parties + x) (sym (length-each (f .parties) share) ∙ ap length shares-said)
+    -- what is revealed is what was committed to
+    reveals-said : reveals ≡ said ops J (stateOf f sealed (heldOf (f .parties) share) l₁) (Reveal k)
+    unfolding stateOf
+    reveals-said =
+        joined-ext (f .parties) _ _
+        (λ i h. rw (held-at (f .parties) share i h) (ap (revealed (share i)) (sym (nonce-back i h))))
+        ∙ sym (said-shown ops J (stateOf f sealed (heldOf (f .parties) share) l₁) is-sealed k)
+      where
+        nonce-back : (i : ℕ) → i < f .parties → nonceOf (layout c) (band (f .scratch) l₁ i) ≡ nonceIn f (s .checks) nonces i
+        nonce-back i h =
+            rw (← moving .going .lent .framed .lay)
+            (noted-nonce (lent-banded (moving .going .lent) (moving .going .room)) preps m (s .used) coefficients (s .checks) nonces el nonces-there i h)
 
-  module _ {v : ℕ} (ev : Is size (heardSum ops (f .parties) revealWords 0 (each (f .parties) share)) v) where
-    sum-is : v ≡ heardSum ops (f .parties) revealWords 0 (said ops J (stateOf f sealed (heldOf (f .parties) share) l) (Reveal k))
-    sum-is = ev .is ∙ ap (heardSum ops (f .parties) revealWords 0) shares-said
+    abbrev revealedTo : List ℕ
+    revealedTo = writtenAt (s .written + f .parties * commitWords) reveals marked
 
-    -- the sum is not zero: the run is stopped
-    module _ (z : v ≡ 0 → ⊥) where
-      stops : passes ops (f .parties) (Reveal k) (said ops J (stateOf f sealed (heldOf (f .parties) share) l) (Reveal k)) ≡ false
-      stops = passes-not ops (f .parties) _ (Reveal k) refl sum-is z
+    -- what the check asks
+    pub check-asked : Common f l m → Checks f preps l m (s .used) coefficients (s .checks) nonces (s .written) t
+    unfolding shapeWords
+    check-asked h =
+        let a = check-asks (moving .going) refl opened-is in
+        record {
+          some = some-parties;
+          few = a .0;
+          keys = a .1;
+          banded = a .2;
+          coefficient-count = a .3;
+          coefficients-low = a .4;
+          nonce-count = nonces-there;
+          entries = entry-zero c (f .layout) (moving .going .lent .framed .lay);
+          opened = a .5;
+          common = h;
+          words-fit = omega (arith, revealing .words-fit, length-written (s .written) marks t);
+        }
 
-      stopped-moved : Moved J f sealed (Reveal k) (heldOf (f .parties) share) l marked (after (aborted (s .point .gate)) (s .released)) noneHeld l revealedTo
-      unfolding aborted
-      stopped-moved =
-          round-moved revealing
-          (stopped-left f sealed c preps inputs l _ (lent-undrawn (revealing .going .lent)) (revealing .going .room) k stops)
-          (next-stops c ops (f .parties) (s .point .gate) _ (Reveal k) stops refl)
-          (moving .going .prep-is) refl (none-held (revealing .going) refl) (none-taken (revealing .going) refl) words-put words-long (omega arith)
+    abbrev after : Point → ℕ → Course
+    after x r =
+        record {
+          point = x;
+          prep = s .prep;
+          used = s .used + m;
+          checks = s .checks + 1;
+          written = s .written + f .parties * commitWords + f .parties * revealWords;
+          released = r;
+          rounds = s .rounds + 2;
+        }
 
-      pub check-stopped : {a : JointAnswer} → jointAnswerOf a ≡ E.ended Aborted (s .point .gate) (s .rounds + 2) → Ran J l₀ t₀ o₀ a l revealedTo o
-      unfolding aborted
-      check-stopped e =
-          running-over J f l₀ t₀ o₀ able
-          (running-again J f l₀ t₀ o₀ able sealed-running (Reveal k) refl
-          (turned-none J f sealed (heldOf (f .parties) share) l (Reveal k) (none-released J f sealed (heldOf (f .parties) share) l (Reveal k) stops) stopped-moved refl))
-          over-aborted e
+    words-put : revealedTo ≡ writtenAt (s .written + f .parties * commitWords) (said ops J (stateOf f sealed (heldOf (f .parties) share) l₁) (Reveal k)) marked
+    words-put = ap (λ (x : List ℕ). writtenAt (s .written + f .parties * commitWords) x marked) reveals-said
 
-    -- the sum is zero: the run goes on
-    module _ (z : v ≡ 0) where
-      pub goes : passes ops (f .parties) (Reveal k) (said ops J (stateOf f sealed (heldOf (f .parties) share) l) (Reveal k)) ≡ true
-      goes = passes-zero ops (f .parties) _ (Reveal k) refl sum-is z
+    words-long : s .written + f .parties * commitWords + f .parties * revealWords ≡ s .written + f .parties * commitWords + length (said ops J (stateOf f sealed (heldOf (f .parties) share) l₁) (Reveal k))
+    unfolding shapeWords
+    words-long = ap (λ (x : ℕ). s .written + f .parties * commitWords + x) (sym (said-long revealing))
+
+    module _ {v : ℕ} (ev : Is size (heardSum ops (f .parties) revealWords 0 (revealsIn f preps l m (s .used) coefficients (s .checks) nonces)) v) where
+      sum-is : v ≡ heardSum ops (f .parties) revealWords 0 (said ops J (stateOf f sealed (heldOf (f .parties) share) l₁) (Reveal k))
+      sum-is = ev .is ∙ ap (heardSum ops (f .parties) revealWords 0) reveals-said
+
+      -- the sum is not zero: the run is stopped, and nobody is named
+      module _ (z : v ≡ 0 → ⊥) where
+        stops : ends ops J (stateOf f sealed (heldOf (f .parties) share) l₁) (Reveal k) ≡ Stopped Nobody
+        stops = sealed-ends ops J (stateOf f sealed (heldOf (f .parties) share) l₁) is-sealed k some-parties ∙ weighs-not _ (λ e. z (sum-is ∙ e))
+
+        stopped-moved : Moved J f sealed (Reveal k) (heldOf (f .parties) share) l₁ marked (after (aborted (s .point .gate)) (s .released)) noneHeld l₁ revealedTo
+        unfolding aborted
+        stopped-moved =
+            round-moved revealing _ (stopped-step revealing refl (ap passed stops))
+            (left-alone f sealed c preps inputs l₁ [] (lent-undrawn (revealing .going .lent)) (revealing .going .room))
+            (ap blamed stops)
+            (next-stops c (s .point .gate) _ (Reveal k) (ap passed stops) refl)
+            (moving .going .prep-is) refl (none-held (revealing .going) refl) (none-taken (revealing .going) refl) (none-begun (revealing .going) refl) words-put words-long (omega arith)
+
+        pub check-stopped : {a : JointAnswer} → jointAnswerOf a ≡ E.ended Aborted (s .point .gate) Nobody (s .rounds + 2) → Ran J l₀ t₀ o₀ a l₁ revealedTo o
+        unfolding aborted
+        check-stopped e =
+            running-over J f l₀ t₀ o₀ able
+            (running-again J f l₀ t₀ o₀ able sealed-running (Reveal k) refl
+            (turned-none J f sealed (heldOf (f .parties) share) l₁ (Reveal k) (none-released J f sealed (heldOf (f .parties) share) l₁ (Reveal k) (ap passed stops)) stopped-moved refl))
+            over-aborted e
+
+      -- the sum is zero: the run goes on
+      module _ (z : v ≡ 0) where
+        pub goes : ends ops J (stateOf f sealed (heldOf (f .parties) share) l₁) (Reveal k) ≡ Passed
+        goes = sealed-ends ops J (stateOf f sealed (heldOf (f .parties) share) l₁) is-sealed k some-parties ∙ weighs-zero _ (sym sum-is ∙ z)
 
 -- the check of what was opened before an output
-module _ {f : Frame} {c preps inputs coefficients l₀ t₀ o₀ : List ℕ} (able : Runnable (lentAll f c preps inputs coefficients) f l₀ t₀ o₀)
+module _ {f : Frame} {c preps inputs coefficients nonces l₀ t₀ o₀ : List ℕ} (able : Runnable (lentAll f c preps inputs coefficients nonces) f l₀ t₀ o₀)
     {s : Course} {l t o : List ℕ} where
-  module _ (inv : Running (lentAll f c preps inputs coefficients) f l₀ t₀ o₀ s noneHeld l t o)
+  module _ (inv : Running (lentAll f c preps inputs coefficients nonces) f l₀ t₀ o₀ s noneHeld l t o)
       (due : s .point .stage ≡ Send (Commit First)) {m : ℕ} (em : m ≡ unchecked c (s .point .gate))
-      {v : ℕ} (ev : Is size (heardSum ops (f .parties) revealWords 0 (each (f .parties) (shareIn f preps l m (s .used) coefficients))) v) (z : v ≡ 0) where
-    first-moved : Moved (lentAll f c preps inputs coefficients) f (sealed able First inv due em) (Reveal First) (heldOf (f .parties) (share able First inv due em)) l (marked able First inv due em) (after able First inv due em (dueAt (s .point .gate) Open) (s .released)) noneHeld l (revealedTo able First inv due em)
-    first-moved =
-        let u = revealing able First inv due em in
-        round-moved u
-        (first-left f (sealed able First inv due em) c preps inputs l _ (lent-undrawn (u .going .lent)) (u .going .room))
-        (next-follows c ops (f .parties) (s .point .gate) _ (Reveal First) (occurs _ f _ (Reveal First) _ l (u .going)) (goes able First inv due em ev z) refl)
-        (moving able First inv due em .going .prep-is) refl (none-held (u .going) refl) (none-taken (u .going) refl) (words-put able First inv due em) (words-long able First inv due em) (omega arith)
+      {l₁ : List ℕ} (el : l₁ ≡ rebanded f (notedIn f preps l m (s .used) coefficients (s .checks) nonces) l)
+      {v : ℕ} (ev : Is size (heardSum ops (f .parties) revealWords 0 (revealsIn f preps l m (s .used) coefficients (s .checks) nonces)) v) (z : v ≡ 0) where
+    first-goes : ends ops (lentAll f c preps inputs coefficients nonces) (stateOf f (sealed able First inv due em) (heldOf (f .parties) (share able First inv due em)) l₁) (Reveal First) ≡ Passed
+    first-goes = goes able First inv due em el ev z
 
-    pub first-checked : Running (lentAll f c preps inputs coefficients) f l₀ t₀ o₀ (after able First inv due em (dueAt (s .point .gate) Open) (s .released)) noneHeld l (revealedTo able First inv due em) o
+    first-moved : Moved (lentAll f c preps inputs coefficients nonces) f (sealed able First inv due em) (Reveal First) (heldOf (f .parties) (share able First inv due em)) l₁ (marked able First inv due em) (after able First inv due em el (dueAt (s .point .gate) Open) (s .released)) noneHeld l₁ (revealedTo able First inv due em el)
+    first-moved =
+        let u = revealing able First inv due em el in
+        round-moved u _ (received-step u refl (ap passed first-goes))
+        (first-left f (sealed able First inv due em) c preps inputs l₁ _ (lent-undrawn (u .going .lent)) (u .going .room))
+        (ap blamed first-goes)
+        (next-follows c (s .point .gate) _ (Reveal First) (occurs _ f _ (Reveal First) _ l₁ (u .going)) (ap passed first-goes) refl)
+        (moving able First inv due em .going .prep-is) refl (none-held (u .going) refl) (none-taken (u .going) refl) (none-begun (u .going) refl) (words-put able First inv due em el) (words-long able First inv due em el) (omega arith)
+
+    pub first-checked : Running (lentAll f c preps inputs coefficients nonces) f l₀ t₀ o₀ (after able First inv due em el (dueAt (s .point .gate) Open) (s .released)) noneHeld l₁ (revealedTo able First inv due em el) o
     first-checked =
-        running-again _ f l₀ t₀ o₀ able (sealed-running able First inv due em) (Reveal First) refl
-        (turned-quietly _ f (sealed able First inv due em) _ l (Reveal First) refl first-moved refl)
+        running-again _ f l₀ t₀ o₀ able (sealed-running able First inv due em el) (Reveal First) refl
+        (turned-quietly _ f (sealed able First inv due em) _ l₁ (Reveal First) refl first-moved refl)
 
   -- the check of an output, which releases it
-  module _ (inv : Running (lentAll f c preps inputs coefficients) f l₀ t₀ o₀ s noneHeld l t o)
-      (due : s .point .stage ≡ Send (Commit Second)) where
+  module _ (inv : Running (lentAll f c preps inputs coefficients nonces) f l₀ t₀ o₀ s noneHeld l t o)
+      (due : s .point .stage ≡ Send (Commit Second))
+      {l₁ : List ℕ} (el : l₁ ≡ rebanded f (notedIn f preps l 1 (s .used) coefficients (s .checks) nonces) l) where
     abbrev output-sealed : Course
     output-sealed = sealed able Second inv due refl
 
-    output-revealing : Moving (lentAll f c preps inputs coefficients) f output-sealed (Reveal Second) (heldOf (f .parties) (share able Second inv due refl)) l (marked able Second inv due refl)
-    output-revealing = revealing able Second inv due refl
+    output-revealing : Moving (lentAll f c preps inputs coefficients nonces) f output-sealed (Reveal Second) (heldOf (f .parties) (share able Second inv due refl)) l₁ (marked able Second inv due refl)
+    output-revealing = revealing able Second inv due refl el
 
     within-gates : s .point .gate < gates c
-    within-gates = within _ f _ (Reveal Second) _ l (output-revealing .going)
+    within-gates = within _ f _ (Reveal Second) _ l₁ (output-revealing .going)
 
     next-record : s .prep ≡ prepAt c (resume c (suc (s .point .gate)) .gate)
     unfolding prepAt total
     next-record =
         output-revealing .going .prep-is
-        ∙ omega (arith, output-facts (gate c (s .point .gate)) (class-at-round c (s .point .gate) (Reveal Second) (occurs _ f _ (Reveal Second) _ l (output-revealing .going))) .prep)
+        ∙ omega (arith, output-facts (gate c (s .point .gate)) (class-at-round c (s .point .gate) (Reveal Second) (occurs _ f _ (Reveal Second) _ l₁ (output-revealing .going))) .prep)
         ∙ sym (resumed-prep c (output-revealing .going .lent .valid) (s .point .gate) within-gates)
 
     pub output-room : s .released < length o
-    output-room = outputs-left _ f l₀ t₀ o₀ able (sealed-running able Second inv due refl) (Reveal Second) refl refl
+    output-room = outputs-left _ f l₀ t₀ o₀ able (sealed-running able Second inv due refl el) (Reveal Second) refl refl
 
     pub output-settles : Prepared f preps 0 1
-        × Banded f l
+        × Banded f l₁
         × (0 < f .parties)
-        × EachBand f l (λ i x. Settles size c (layoutOf (f .layout)) (keyIn f preps i) x (s .point .gate + 1))
+        × EachBand f l₁ (λ i x. Settles size c (layoutOf (f .layout)) (keyIn f preps i) x (s .point .gate + 1))
     output-settles =
-        reveal-settles f output-sealed c preps inputs l _ (lent-undrawn (output-revealing .going .lent)) (output-revealing .going .room) (said-received output-revealing)
+        reveal-settles f output-sealed c preps inputs l₁ _ (lent-undrawn (output-revealing .going .lent)) (output-revealing .going .room) (said-received output-revealing)
 
-    module _ {v : ℕ} (ev : Is size (heardSum ops (f .parties) revealWords 0 (each (f .parties) (shareIn f preps l 1 (s .used) coefficients))) v) (z : v ≡ 0)
-        {l₁ : List ℕ} (el : l₁ ≡ rebanded f (settledLeft f c preps l (s .point .gate + 1)) l) {x : ℕ} (ex : x ≡ read (layout c) (band (f .scratch) l 0) (Value 0)) where
-      second-moved : Moved (lentAll f c preps inputs coefficients) f output-sealed (Reveal Second) (heldOf (f .parties) (share able Second inv due refl)) l (marked able Second inv due refl) (after able Second inv due refl (resume c (suc (s .point .gate))) (s .released + 1)) noneHeld l₁ (revealedTo able Second inv due refl)
+    module _ {v : ℕ} (ev : Is size (heardSum ops (f .parties) revealWords 0 (revealsIn f preps l 1 (s .used) coefficients (s .checks) nonces)) v) (z : v ≡ 0)
+        {l₂ : List ℕ} (es : l₂ ≡ rebanded f (settledLeft f c preps l₁ (s .point .gate + 1)) l₁) {x : ℕ} (ex : x ≡ read (layout c) (band (f .scratch) l₁ 0) (Value 0)) where
+      second-goes : ends ops (lentAll f c preps inputs coefficients nonces) (stateOf f output-sealed (heldOf (f .parties) (share able Second inv due refl)) l₁) (Reveal Second) ≡ Passed
+      second-goes = goes able Second inv due refl el ev z
+
+      second-moved : Moved (lentAll f c preps inputs coefficients nonces) f output-sealed (Reveal Second) (heldOf (f .parties) (share able Second inv due refl)) l₁ (marked able Second inv due refl) (after able Second inv due refl el (resume c (suc (s .point .gate))) (s .released + 1)) noneHeld l₂ (revealedTo able Second inv due refl el)
       second-moved =
-          round-moved output-revealing
-          (reveal-received f output-sealed c preps inputs l _ (lent-undrawn (output-revealing .going .lent)) (output-revealing .going .room) (said-received output-revealing) (goes able Second inv due refl ev z) el)
-          (next-follows c ops (f .parties) (s .point .gate) _ (Reveal Second) (occurs _ f _ (Reveal Second) _ l (output-revealing .going)) (goes able Second inv due refl ev z) refl)
-          next-record refl (none-held (output-revealing .going) refl) (none-taken (output-revealing .going) refl) (words-put able Second inv due refl) (words-long able Second inv due refl) (omega arith)
+          round-moved output-revealing _ (received-step output-revealing refl (ap passed second-goes))
+          (reveal-received f output-sealed c preps inputs l₁ _ (lent-undrawn (output-revealing .going .lent)) (output-revealing .going .room) (said-received output-revealing) es)
+          (ap blamed second-goes)
+          (next-follows c (s .point .gate) _ (Reveal Second) (occurs _ f _ (Reveal Second) _ l₁ (output-revealing .going)) (ap passed second-goes) refl)
+          next-record refl (none-held (output-revealing .going) refl) (none-taken (output-revealing .going) refl) (none-begun (output-revealing .going) refl) (words-put able Second inv due refl el) (words-long able Second inv due refl el) (omega arith)
 
-      released-here : (s .released + 1 ≡ s .released + length (released ops (lentAll f c preps inputs coefficients) (stateOf f output-sealed (heldOf (f .parties) (share able Second inv due refl)) l) (Reveal Second)))
-          × (set o (s .released) x ≡ writtenAt (s .released) (released ops (lentAll f c preps inputs coefficients) (stateOf f output-sealed (heldOf (f .parties) (share able Second inv due refl)) l) (Reveal Second)) o)
+      released-here : (s .released + 1 ≡ s .released + length (released ops (lentAll f c preps inputs coefficients nonces) (stateOf f output-sealed (heldOf (f .parties) (share able Second inv due refl)) l₁) (Reveal Second)))
+          × (set o (s .released) x ≡ writtenAt (s .released) (released ops (lentAll f c preps inputs coefficients nonces) (stateOf f output-sealed (heldOf (f .parties) (share able Second inv due refl)) l₁) (Reveal Second)) o)
       unfolding released stateOf
       released-here =
-          freed-one (f .parties) c (Reveal Second) (band (f .scratch) l 0) _ (s .released) o refl (sum-is able Second inv due refl ev) z output-room ex
+          freed-one (Reveal Second)
+          (ends ops (lentAll f c preps inputs coefficients nonces) (stateOf f output-sealed (heldOf (f .parties) (share able Second inv due refl)) l₁) (Reveal Second)) (s .released) o refl (ap passed second-goes) ex
 
-      pub second-checked : Running (lentAll f c preps inputs coefficients) f l₀ t₀ o₀ (after able Second inv due refl (resume c (suc (s .point .gate))) (s .released + 1)) noneHeld l₁ (revealedTo able Second inv due refl) (set o (s .released) x)
+      pub second-checked : Running (lentAll f c preps inputs coefficients nonces) f l₀ t₀ o₀ (after able Second inv due refl el (resume c (suc (s .point .gate))) (s .released + 1)) noneHeld l₂ (revealedTo able Second inv due refl el) (set o (s .released) x)
       second-checked =
-          running-again _ f l₀ t₀ o₀ able (sealed-running able Second inv due refl) (Reveal Second) refl
+          running-again _ f l₀ t₀ o₀ able (sealed-running able Second inv due refl el) (Reveal Second) refl
           (record { moved = second-moved; outputs = released-here .1; given = released-here .0 })

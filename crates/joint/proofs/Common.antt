@@ -17,22 +17,25 @@ use Rattle.field.proofs.Laws.{laws}
 use Rattle.circuit.specs.Gate.{gate, gates}
 use Rattle.circuit.specs.Kind.{Owned, Opens, shape, isLinear}
 use Rattle.circuit.specs.Count.{capacity, unchecked}
-use Rattle.circuit.specs.Round.{Round, Own, Open, words}
+use Rattle.circuit.specs.Round.{Round, Own, Open, isCommit, isReveal}
 use Rattle.circuit.proofs.Counts.{unchecked-within}
 use Rattle.circuit.proofs.KindLaws.{opens-facts}
 use Rattle.circuit.proofs.Tests.{by-cases}
-use Rattle.protocol.specs.Scratch.{Layout, layout, Value, scratchSize, read, putOpened}
+use Rattle.protocol.specs.Scratch.{Layout, layout, Value, slotsSize, read, putOpened, band}
 use Rattle.protocol.specs.Party.{key}
-use Rattle.protocol.specs.Receive.{afterInput, putDifferences, afterOpening, afterOpenOutput, afterLinear, settle, onward, ownReceived, received}
+use Rattle.protocol.specs.Send.{noted}
+use Rattle.protocol.specs.Receive.{afterInput, putDifferences, afterOpening, afterOpenOutput, afterLinear, settle, onward, ownReceived, received, left}
 use Rattle.protocol.specs.Code.{layoutOf}
-use Rattle.protocol.specs.Joint.{Joint, band, party}
-use Rattle.protocol.specs.Run.{said, step}
+use Rattle.protocol.specs.Joint.{Joint, party}
+use Rattle.protocol.specs.Run.{said, notes, step}
 use Rattle.protocol.proofs.Bands.{band-end}
+use Rattle.protocol.proofs.Tails.{slots-room}
+use Rattle.protocol.proofs.Marks.{ends-other}
 use Rattle.protocol.proofs.Slots.{length-opened, value-put, value-opened-same, value-opened-other}
 use Rattle.steps.specs.Code.{valueSum}
 use Rattle.joint.specs.declared.Frame.{Frame}
-use Rattle.joint.specs.Code.{Course, Banded, Common, siteOf, stateOf, Going, Moved}
-use Rattle.joint.proofs.Going.{within}
+use Rattle.joint.specs.Code.{Course, Banded, Common, stateOf, Going, Moved}
+use Rattle.joint.proofs.Going.{within, rooms as whole-rooms}
 
 -- the first party's band
 pub first-band : (f : Frame) (l : List ℕ) → take (f .scratch) l ≡ band (f .scratch) l 0
@@ -70,7 +73,7 @@ module _ (O : Ops) (y : Layout) {t : ℕ} (w : t < y .capacity) where
       go false e = refl
 
   -- an opened value is the same, if those before it are
-  one-value : (l l′ : List ℕ) → scratchSize y ≤ length l → scratchSize y ≤ length l′ → (u e n n′ : ℕ) → u < y .capacity
+  one-value : (l l′ : List ℕ) → slotsSize y ≤ length l → slotsSize y ≤ length l′ → (u e n n′ : ℕ) → u < y .capacity
       → (t < u → read y l (Value t) ≡ read y l′ (Value t))
       → t < u + 1
       → read y (putOpened y l u e n) (Value t) ≡ read y (putOpened y l′ u e n′) (Value t)
@@ -81,7 +84,7 @@ module _ (O : Ops) (y : Layout) {t : ℕ} (w : t < y .capacity) where
       go (no z) = value-opened-other y l u t e n fits w z ∙ same (omega arith) ∙ sym (value-opened-other y l′ u t e n′ fits w z)
 
   -- and so are the values that a gate opens
-  opening-value : (l l′ : List ℕ) → scratchSize y ≤ length l → scratchSize y ≤ length l′ → (i i′ key key′ j x z : ℕ) (m m′ : List ℕ) (k u e d : ℕ) → j < y .gates → 1 ≤ k
+  opening-value : (l l′ : List ℕ) → slotsSize y ≤ length l → slotsSize y ≤ length l′ → (i i′ key key′ j x z : ℕ) (m m′ : List ℕ) (k u e d : ℕ) → j < y .gates → 1 ≤ k
       → k ≤ 2
       → u + k ≤ y .capacity
       → (t < u → read y l (Value t) ≡ read y l′ (Value t))
@@ -97,14 +100,15 @@ module _ (O : Ops) (y : Layout) {t : ℕ} (w : t < y .capacity) where
       (λ b. rw b (one-value l l′ room room′ u e _ _ (omega (arith, eqb-false k 2 b)) same (omega (arith, eqb-false k 2 b))))
       ∙ sym (value-put y _ j t _ h w)
 
--- what a round leaves of each party's band
-module _ {J : Joint} {f : Frame} {s : Course} {r : Round} {held l t : List ℕ} {s′ : Course} {held′ l′ t′ : List ℕ} (g : Going J f s r held l) (d : Moved J f s r held l t s′ held′ l′ t′) where
+-- what a round that is of no check leaves of each party's band
+module _ {J : Joint} {f : Frame} {s : Course} {r : Round} {held l t : List ℕ} {s′ : Course} {held′ l′ t′ : List ℕ} (g : Going J f s r held l) (d : Moved J f s r held l t s′ held′ l′ t′)
+    (no-commit : isCommit r ≡ false) (no-reveal : isReveal r ≡ false) where
   heard : List ℕ
   heard = said ops J (stateOf f s held l) r
 
   band-is : (i : ℕ) → i < J .parties → band (f .scratch) l′ i ≡ received ops (party J i) (band (f .scratch) l i) (s .point .gate) r heard
-  unfolding stateOf step heard
-  band-is i h = d .alike .scratch i h
+  unfolding stateOf step left notes noted heard
+  band-is i h = d .alike .scratch i h ∙ rw (no-commit, ends-other ops J (stateOf f s held l) r no-reveal)
 
   some : 0 < J .parties
   some = omega (arith, g .lent .some)
@@ -122,9 +126,8 @@ module _ {J : Joint} {f : Frame} {s : Course} {r : Round} {held l t : List ℕ} 
       let i′ : i < J .parties = omega (arith, q, same-parties) in
       rw (g .lent .framed .lay, band-is i i′, band-is 0 some) (h i i′ k w)
 
-  rooms : (i : ℕ) → i < J .parties → scratchSize (layout (J .circuit)) ≤ length (band (f .scratch) l i)
-  unfolding siteOf party
-  rooms i h = g .ready i h .room
+  rooms : (i : ℕ) → i < J .parties → slotsSize (layout (J .circuit)) ≤ length (band (f .scratch) l i)
+  rooms i h = slots-room (J .parties) (J .circuit) (whole-rooms J f s r held l g i h)
 
   before : {u : ℕ} → Common f l u → (i : ℕ) → i < J .parties → (k : ℕ) → k < u
       → read (layout (J .circuit)) (band (f .scratch) l i) (Value k) ≡ read (layout (J .circuit)) (band (f .scratch) l 0) (Value k)
@@ -144,19 +147,19 @@ module _ {J : Joint} {f : Frame} {s : Course} {l t : List ℕ} {held : List ℕ}
 
   -- an in gate leaves opened values
   input-kept : shape (gate (J .circuit) (s .point .gate)) .class ≡ Owned → (i k : ℕ) → k < layout (J .circuit) .capacity
-      → read (layout (J .circuit)) (received ops (party J i) (band (f .scratch) l i) (s .point .gate) Own (heard g d)) (Value k) ≡ read (layout (J .circuit)) (band (f .scratch) l i) (Value k)
+      → read (layout (J .circuit)) (received ops (party J i) (band (f .scratch) l i) (s .point .gate) Own (heard g d refl refl)) (Value k) ≡ read (layout (J .circuit)) (band (f .scratch) l i) (Value k)
   unfolding received ownReceived onward party afterInput
   input-kept cl i k fits =
       rw cl
-      (settle-value ops (layout (J .circuit)) fits i _ _ _ _ _ (rest-fits g d inside)
-      ∙ value-put (layout (J .circuit)) _ _ k _ (in-layout g d inside) fits)
+      (settle-value ops (layout (J .circuit)) fits i _ _ _ _ _ (rest-fits g d refl refl inside)
+      ∙ value-put (layout (J .circuit)) _ _ k _ (in-layout g d refl refl inside) fits)
 
   pub input-common : shape (gate (J .circuit) (s .point .gate)) .class ≡ Owned → {u : ℕ} → u ≡ unchecked (J .circuit) (s .point .gate) → Common f l u → Common f l′ u
   unfolding layout
   input-common cl {u} eu h =
-      common-after g d u (λ i q k w.
+      common-after g d refl refl u (λ i q k w.
       let fits : k < layout (J .circuit) .capacity = omega (arith, eu, unchecked-within (J .circuit) (s .point .gate) inside) in
-      input-kept cl i k fits ∙ before g d h i q k w ∙ sym (input-kept cl 0 k fits))
+      input-kept cl i k fits ∙ before g d refl refl h i q k w ∙ sym (input-kept cl 0 k fits))
 
   -- a gate that opens values adds as many that are the same
   pub opening-common : shape (gate (J .circuit) (s .point .gate)) .class ≡ Opens → {u k : ℕ} → u ≡ unchecked (J .circuit) (s .point .gate) → k ≡ shape (gate (J .circuit) (s .point .gate)) .openings
@@ -165,21 +168,21 @@ module _ {J : Joint} {f : Frame} {s : Course} {l t : List ℕ} {held : List ℕ}
   unfolding received ownReceived onward party layout
   opening-common cl {u} {k} eu ek h =
       let o = opens-facts (gate (J .circuit) (s .point .gate)) cl in
-      common-after g d (u + k) (λ i q e w.
+      common-after g d refl refl (u + k) (λ i q e w.
       let fits : e < capacity (J .circuit) = omega (arith, eu, ek, unchecked-within (J .circuit) (s .point .gate) inside) in
       rw cl
-      (settle-value ops (layout (J .circuit)) fits _ _ _ _ _ _ (rest-fits g d inside)
-      ∙ opening-value ops (layout (J .circuit)) fits _ _ (rooms g d i q) (rooms g d 0 (some g d)) _ _ _ _ _ _ _ _ _ _ _ _ _ inside (o .some) (o .few)
-      (omega (arith, unchecked-within (J .circuit) (s .point .gate) inside)) (λ z. before g d h i q e (omega (arith, eu, z))) (omega (arith, eu, ek))
-      ∙ sym (settle-value ops (layout (J .circuit)) fits _ _ _ _ _ _ (rest-fits g d inside))))
+      (settle-value ops (layout (J .circuit)) fits _ _ _ _ _ _ (rest-fits g d refl refl inside)
+      ∙ opening-value ops (layout (J .circuit)) fits _ _ (rooms g d refl refl i q) (rooms g d refl refl 0 (some g d refl refl)) _ _ _ _ _ _ _ _ _ _ _ _ _ inside (o .some) (o .few)
+      (omega (arith, unchecked-within (J .circuit) (s .point .gate) inside)) (λ z. before g d refl refl h i q e (omega (arith, eu, z))) (omega (arith, eu, ek))
+      ∙ sym (settle-value ops (layout (J .circuit)) fits _ _ _ _ _ _ (rest-fits g d refl refl inside))))
 
 -- an output that is opened is the same to all
 module _ {J : Joint} {f : Frame} {s : Course} {l t : List ℕ} {held : List ℕ} {s′ : Course} {held′ l′ t′ : List ℕ} (g : Going J f s Open held l) (d : Moved J f s Open held l t s′ held′ l′ t′) where
   pub show-common : Common f l′ 1
   unfolding received afterOpenOutput party layout capacity
   show-common =
-      common-after g d 1 (λ i q k w.
+      common-after g d refl refl 1 (λ i q k w.
       let z : k ≡ 0 = omega arith in
       rw z
-      (value-opened-same (layout (J .circuit)) _ 0 _ _ (rooms g d i q) (omega arith)
-      ∙ sym (value-opened-same (layout (J .circuit)) _ 0 _ _ (rooms g d 0 (some g d)) (omega arith))))
+      (value-opened-same (layout (J .circuit)) _ 0 _ _ (rooms g d refl refl i q) (omega arith)
+      ∙ sym (value-opened-same (layout (J .circuit)) _ 0 _ _ (rooms g d refl refl 0 (some g d refl refl)) (omega arith))))

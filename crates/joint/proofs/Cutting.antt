@@ -8,11 +8,11 @@ use native.Mathlib.Omega.{arith}
 use lib.ListN.{length, getD, take, drop, length-drop}
 use lib.Seq.{length-take-le, take-add, drop-at, drop-drop, getD-take, getD-drop}
 use Rattle.field.specs.Words.{size}
-use Rattle.protocol.specs.Scratch.{scratchSize}
+use Rattle.circuit.specs.Round.{commitWords, nonceSize}
+use Rattle.protocol.specs.Scratch.{slotsSize, band, nonceAt, marksAt}
 use Rattle.protocol.specs.Holding.{Below}
 use Rattle.protocol.specs.Code.{layoutOf}
 use Rattle.protocol.proofs.Readiness.{part-below}
-use Rattle.protocol.specs.Joint.{band}
 use Rattle.joint.specs.declared.Frame.{Frame}
 use Rattle.joint.specs.Code.{prepFrom, keyIn, Prepared, Banded}
 use Rattle.protocol.proofs.Words.{length-band}
@@ -20,7 +20,7 @@ use Rattle.protocol.proofs.Bands.{band-end}
 use Rattle.protocol.proofs.Said.{below-part}
 
 -- a part's part
-drop-take : (a m : ℕ) (xs : List ℕ) → a ≤ length xs → drop a (take (a + m) xs) ≡ take m (drop a xs)
+pub drop-take : (a m : ℕ) (xs : List ℕ) → a ≤ length xs → drop a (take (a + m) xs) ≡ take m (drop a xs)
 drop-take a m xs h = ap (drop a) (take-add a m xs) ∙ drop-at (take a xs) (take m (drop a xs)) a (length-take-le a xs h)
 
 module _ {f : Frame} {preps : List ℕ} {a k : ℕ} (q : Prepared f preps a k) (i : ℕ) (h : i < f .parties) where
@@ -57,6 +57,16 @@ module _ {f : Frame} {preps : List ℕ} {a k : ℕ} (q : Prepared f preps a k) (
   pub key-low : keyIn f preps i < size
   key-low = band-low 0
 
+-- the slots lie in a band
+pub banded-slots : {f : Frame} {l : List ℕ} → Banded f l → slotsSize (layoutOf (f .layout)) ≤ f .scratch
+unfolding marksAt nonceAt
+banded-slots b = omega (arith, b .size)
+
+-- its nonce
+pub nonce-part : (i : ℕ) (nonces : List ℕ) → take (i * nonceSize + nonceSize - i * nonceSize) (drop (i * nonceSize) nonces) ≡ band nonceSize nonces i
+unfolding band
+nonce-part i nonces = rw (add-sub-cancel-left (i * nonceSize) nonceSize)
+
 module _ {f : Frame} {l : List ℕ} (b : Banded f l) (i : ℕ) (h : i < f .parties) where
   pub band-fits : i * f .scratch + f .scratch ≤ length l
   band-fits = omega (arith, band-end (f .parties) (f .scratch) i h, b .room)
@@ -68,5 +78,8 @@ module _ {f : Frame} {l : List ℕ} (b : Banded f l) (i : ℕ) (h : i < f .parti
   pub band-long : length (band (f .scratch) l i) ≡ f .scratch
   band-long = length-band (f .scratch) (f .parties) l (b .room) i h
 
-  pub band-room : scratchSize (layoutOf (f .layout)) ≤ length (band (f .scratch) l i)
-  band-room = omega (arith, band-long, b .size)
+  pub band-tail : marksAt (layoutOf (f .layout)) + f .parties * commitWords ≤ length (band (f .scratch) l i)
+  band-tail = omega (arith, band-long, b .size)
+
+  pub band-room : slotsSize (layoutOf (f .layout)) ≤ length (band (f .scratch) l i)
+  band-room = omega (arith, band-long, banded-slots b)

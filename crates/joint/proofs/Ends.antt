@@ -7,22 +7,18 @@ use mathlib.Core.Logic.{inl, inr, ⊎-elim}
 use native.Mathlib.Numerals.{add-one}
 use native.Mathlib.Omega.{arith}
 use lib.ListN.{length, set, drop}
-use Rattle.algebra.specs.Element.{Is}
-use Rattle.field.specs.Words.{size, ops}
+use Rattle.field.specs.Words.{ops}
 use Rattle.circuit.specs.Gate.{gate, gates}
 use Rattle.circuit.specs.Kind.{Local, Owned, Opens, Output, shape, isClass}
 use Rattle.circuit.specs.Count.{unchecked, uncheckedAfter}
-use Rattle.circuit.specs.Round.{Own, First, Second, Open, Commit, revealWords}
+use Rattle.circuit.specs.Round.{Own, First, Second, Open, Commit, commitWords, revealWords}
 use Rattle.circuit.proofs.KindLaws.{class-is, owned-no-out, opens-no-out, output-no-in, owned-facts}
 use Rattle.circuit.proofs.Gates.{gate-zero}
-use Rattle.protocol.specs.Position.{Point, Aborted, Finished, finished, reach, start, whenSending, resume}
-use Rattle.protocol.specs.Receive.{heardSum}
-use Rattle.protocol.specs.Send.{mark}
-use Rattle.protocol.specs.Scratch.{layout, Value, read}
+use Rattle.protocol.specs.Position.{Point, Aborted, Finished, finished, reach, whenSending, resume}
+use Rattle.protocol.specs.Receive.{Nobody}
+use Rattle.protocol.specs.Scratch.{layout, Value, read, band, writtenAt}
 use Rattle.protocol.specs.Code.{layoutOf}
-use Rattle.protocol.specs.Holding.{Below, Opened}
-use Rattle.protocol.specs.Ask.{mostParties}
-use Rattle.protocol.specs.Joint.{band, party}
+use Rattle.protocol.specs.Joint.{party}
 use Rattle.protocol.specs.Run.{mostRounds}
 use Rattle.protocol.specs.JointEntry as E
 use Rattle.protocol.proofs.Bands.{band-end, joined-bands}
@@ -33,7 +29,7 @@ use Rattle.protocol.proofs.Runs.{Over}
 use Rattle.joint.specs.declared.JointAnswer.{JointAnswer}
 use Rattle.joint.specs.declared.Frame.{Frame}
 use Rattle.joint.specs.declared.Stop.{Stop}
-use Rattle.joint.specs.Code.{jointAnswerOf, courseOf, dueAt, dueIn, cameTo, Placed, siteOf, keyIn, Prepared, Banded, EachBand, shareIn, each, writtenAt, noneHeld, SettlesAll, settledAll, Moving, Moved, Kept, Runnable, Ran, Common, Passed}
+use Rattle.joint.specs.Code.{jointAnswerOf, courseOf, dueAt, dueIn, cameTo, Placed, siteOf, keyIn, marksIn, revealsIn, Checks, Checked, noneHeld, SettlesAll, settledAll, Moving, Moved, Kept, Runnable, Ran, Common, Passed}
 use Rattle.joint.proofs.Common.{input-common, opening-common, show-common}
 use Rattle.joint.proofs.Parties.{lent-key, lent-banded, lent-keyed}
 use Rattle.joint.proofs.Later.{waits-stop, placed-stop}
@@ -50,17 +46,17 @@ over-finished : Over Finished
 unfolding whenSending
 over-finished A a g = refl
 
-module _ {f : Frame} {c preps inputs coefficients l₀ t₀ o₀ : List ℕ} (able : Runnable (lentAll f c preps inputs coefficients) f l₀ t₀ o₀) where
+module _ {f : Frame} {c preps inputs coefficients nonces l₀ t₀ o₀ : List ℕ} (able : Runnable (lentAll f c preps inputs coefficients nonces) f l₀ t₀ o₀) where
   -- the gates of the frame are those of the circuit
   pub gates-same : f .layout .gates ≡ gates c
   gates-same = gates-are (able .lent .valid) (able .lent .framed)
 
   -- a gate that has rounds has no linear gates before it that are to be done
-  module _ {s : Stop} {places l t o : List ℕ} (inv : Standing (lentAll f c preps inputs coefficients) f l₀ t₀ o₀ s places l t o) (h : s .gate < gates c) where
-    here-moving : Moving (lentAll f c preps inputs coefficients) f (courseOf (dueAt (s .gate) (dueIn (shape (gate c (s .gate)) .class) (s .waiting))) s) (dueIn (shape (gate c (s .gate)) .class) (s .waiting)) noneHeld l t
+  module _ {s : Stop} {places l t o : List ℕ} (inv : Standing (lentAll f c preps inputs coefficients nonces) f l₀ t₀ o₀ s places l t o) (h : s .gate < gates c) where
+    here-moving : Moving (lentAll f c preps inputs coefficients nonces) f (courseOf (dueAt (s .gate) (dueIn (shape (gate c (s .gate)) .class) (s .waiting))) s) (dueIn (shape (gate c (s .gate)) .class) (s .waiting)) noneHeld l t
     here-moving =
         running-moving _ f l₀ t₀ o₀ able
-        (subst (λ (x : Point). Running (lentAll f c preps inputs coefficients) f l₀ t₀ o₀ (courseOf x s) noneHeld l t o) (came-in c (s .gate) (s .waiting) h) (inv .running))
+        (subst (λ (x : Point). Running (lentAll f c preps inputs coefficients nonces) f l₀ t₀ o₀ (courseOf x s) noneHeld l t o) (came-in c (s .gate) (s .waiting) h) (inv .running))
         (dueIn (shape (gate c (s .gate)) .class) (s .waiting)) refl
 
     here : reach c (f .layout .gates - s .gate) (s .gate) ≡ s .gate
@@ -73,7 +69,7 @@ module _ {f : Frame} {c preps inputs coefficients l₀ t₀ o₀ : List ℕ} (ab
         (λ i k. settle-none ops c (layoutOf (f .layout)) i (keyIn f preps i) (f .layout .gates - s .gate) (s .gate) (band (f .scratch) l i) (omega (arith, here))))
         ∙ joined-bands (f .parties) (f .scratch) l (here-moving .going .room)
 
-    pub standing-before : Before (lentAll f c preps inputs coefficients) f l₀ t₀ o₀ s places l t o
+    pub standing-before : Before (lentAll f c preps inputs coefficients nonces) f l₀ t₀ o₀ s places l t o
     unfolding siteOf party
     standing-before =
         record {
@@ -81,15 +77,15 @@ module _ {f : Frame} {c preps inputs coefficients l₀ t₀ o₀ : List ℕ} (ab
             lent-key (able .lent),
             lent-banded (able .lent) (here-moving .going .room),
             omega (arith, able .lent .some),
-            λ i k. rw (lent-keyed (able .lent) i) (settles-here (party (lentAll f c preps inputs coefficients) i) (band (f .scratch) l i) (f .layout) _ _ (here-moving .going .ready i k)),
+            λ i k. rw (lent-keyed (able .lent) i) (settles-here (party (lentAll f c preps inputs coefficients nonces) i) (band (f .scratch) l i) (f .layout) _ _ (here-moving .going .ready i k)),
           );
           standing = rw (here, none-left) inv;
         }
 
   -- own rounds leave opened values that are the same to all
-  module _ {s : Stop} {places l t o : List ℕ} (inv : Standing (lentAll f c preps inputs coefficients) f l₀ t₀ o₀ s places l t o) (h : s .gate < gates c)
+  module _ {s : Stop} {places l t o : List ℕ} (inv : Standing (lentAll f c preps inputs coefficients nonces) f l₀ t₀ o₀ s places l t o) (h : s .gate < gates c)
       {s′ : Stop} {l′ t′ : List ℕ}
-      (d : Moved (lentAll f c preps inputs coefficients) f (courseOf (dueAt (s .gate) Own) s) Own noneHeld l t (courseOf (resume c (suc (s .gate))) s′) noneHeld l′ t′)
+      (d : Moved (lentAll f c preps inputs coefficients nonces) f (courseOf (dueAt (s .gate) Own) s) Own noneHeld l t (courseOf (resume c (suc (s .gate))) s′) noneHeld l′ t′)
       (p : Passed c s s′) where
     pub in-common : shape (gate c (s .gate)) .class ≡ Owned → Common f l′ (s′ .waiting)
     in-common cl =
@@ -105,110 +101,102 @@ module _ {f : Frame} {c preps inputs coefficients l₀ t₀ o₀ : List ℕ} (ab
         let e : s .waiting + shape (gate c (s .gate)) .openings ≡ s′ .waiting = omega (arith, next-waits u (opens-no-out cl) w refl, p .waiting) in
         subst (Common f l′) e (opening-common (u .going) d cl w refl (inv .common))
 
-  module _ {s : Stop} {places l t o : List ℕ} (inv : Standing (lentAll f c preps inputs coefficients) f l₀ t₀ o₀ s places l t o)
+  module _ {s : Stop} {places l t o : List ℕ} (inv : Standing (lentAll f c preps inputs coefficients nonces) f l₀ t₀ o₀ s places l t o)
       (h : s .gate < gates c) (cl : shape (gate c (s .gate)) .class ≡ Output) where
     -- entries wait for a check
     module _ (z : s .waiting ≡ 0 → ⊥) where
-      sealing : Running (lentAll f c preps inputs coefficients) f l₀ t₀ o₀ (courseOf (dueAt (s .gate) (Commit First)) s) noneHeld l t o
-      sealing = subst (λ (x : Point). Running (lentAll f c preps inputs coefficients) f l₀ t₀ o₀ (courseOf x s) noneHeld l t o) (came-commit c (s .gate) (s .waiting) h cl z) (inv .running)
+      sealing : Running (lentAll f c preps inputs coefficients nonces) f l₀ t₀ o₀ (courseOf (dueAt (s .gate) (Commit First)) s) noneHeld l t o
+      sealing = subst (λ (x : Point). Running (lentAll f c preps inputs coefficients nonces) f l₀ t₀ o₀ (courseOf x s) noneHeld l t o) (came-commit c (s .gate) (s .waiting) h cl z) (inv .running)
 
       all-wait : s .waiting ≡ unchecked c (s .gate)
       all-wait = ⊎-elim (λ w. w) (λ w. absurd (z (w .1))) (inv .waits)
 
-      pub first-few : s .rounds < mostRounds ops (lentAll f c preps inputs coefficients) * gates c
+      pub first-few : s .rounds < mostRounds ops (lentAll f c preps inputs coefficients nonces) * gates c
       first-few = running-moving _ f l₀ t₀ o₀ able sealing (Commit First) refl .rounds-few
 
-      pub first-asked : (f .parties ≤ mostParties)
-          × Prepared f preps 0 1
-          × Banded f l
-          × (s .used + s .waiting ≤ length coefficients)
-          × Below size coefficients
-          × EachBand f l (λ i x. (e : ℕ) → e < s .waiting → Opened size (layoutOf (f .layout)) x e)
-          × (0 < f .parties)
-          × (0 < layoutOf (f .layout) .capacity)
-          × Common f l (s .waiting)
-          × (s .written + f .parties + f .parties ≤ length t)
-      first-asked = check-asked able First sealing refl all-wait (inv .common)
+      pub first-asked : Checks f preps l (s .waiting) (s .used) coefficients (s .checks) nonces (s .written) t
+      first-asked = check-asked able First sealing refl all-wait refl (inv .common)
 
-      module _ {v : ℕ} (ev : Is size (heardSum ops (f .parties) revealWords 0 (each (f .parties) (shareIn f preps l (s .waiting) (s .used) coefficients))) v)
-          {t₁ : List ℕ} (et : t₁ ≡ writtenAt (s .written + f .parties) (each (f .parties) (shareIn f preps l (s .waiting) (s .used) coefficients)) (writtenAt (s .written) (each (f .parties) (λ i. mark)) t)) where
-        pub first-stopped : (v ≡ 0 → ⊥) → {a : JointAnswer} → jointAnswerOf a ≡ E.ended Aborted (s .gate) (s .rounds + 2)
-            → Ran (lentAll f c preps inputs coefficients) l₀ t₀ o₀ a l t₁ o
-        first-stopped w e = rw et (check-stopped able First sealing refl all-wait ev w e)
+      module _ {v : ℕ} {l₁ t₁ : List ℕ} (d : Checked f preps l (s .waiting) (s .used) coefficients (s .checks) nonces (s .written) t v l₁ t₁) where
+        pub first-stopped : (v ≡ 0 → ⊥) → {a : JointAnswer} → jointAnswerOf a ≡ E.ended Aborted (s .gate) Nobody (s .rounds + 2)
+            → Ran (lentAll f c preps inputs coefficients nonces) l₀ t₀ o₀ a l₁ t₁ o
+        first-stopped w e = rw (d .transcript) (check-stopped able First sealing refl all-wait (d .scratch) (d .sum) w e)
 
-        first-standing : v ≡ 0
-            → Standing (lentAll f c preps inputs coefficients) f l₀ t₀ o₀
-            (record { gate = s .gate; prep = s .prep; waiting = 0; used = s .used + s .waiting; written = s .written + f .parties + f .parties; released = s .released; rounds = s .rounds + 2 })
-            places l t₁ o
+        -- where the run goes on
+        abbrev first-after : Stop
+        first-after =
+            record {
+              gate = s .gate;
+              prep = s .prep;
+              waiting = 0;
+              used = s .used + s .waiting;
+              checks = s .checks + 1;
+              written = s .written + f .parties * commitWords + f .parties * revealWords;
+              released = s .released;
+              rounds = s .rounds + 2;
+            }
+
+        first-standing : v ≡ 0 → Standing (lentAll f c preps inputs coefficients nonces) f l₀ t₀ o₀ first-after places l₁ t₁ o
         first-standing w =
-            rw et
-            (record {
+            record {
               within = inv .within;
               stands = inv .stands;
               waits = inr (cl, refl);
               placed = inv .placed;
               common = λ i q k w. absurd (omega arith);
               running =
-                  subst
-                  (λ (x : Point). Running (lentAll f c preps inputs coefficients) f l₀ t₀ o₀
-                  (record { point = x; prep = s .prep; used = s .used + s .waiting; written = s .written + f .parties + f .parties; released = s .released; rounds = s .rounds + 2 }) noneHeld l
-                  (writtenAt (s .written + f .parties) (each (f .parties) (shareIn f preps l (s .waiting) (s .used) coefficients)) (writtenAt (s .written) (each (f .parties) (λ i. mark)) t)) o)
+                  rw (d .transcript)
+                  (subst (λ (x : Point). Running (lentAll f c preps inputs coefficients nonces) f l₀ t₀ o₀ (courseOf x first-after) noneHeld l₁
+                  (writtenAt (s .written + f .parties * commitWords) (revealsIn f preps l (s .waiting) (s .used) coefficients (s .checks) nonces) (writtenAt (s .written) (marksIn f preps l (s .waiting) (s .used) coefficients (s .checks) nonces) t)) o)
                   (sym (came-open c (s .gate) 0 h cl refl))
-                  (first-checked able sealing refl all-wait ev w);
-            })
+                  (first-checked able sealing refl all-wait (d .scratch) (d .sum) w));
+            }
 
         pub first-passed : v ≡ 0
-            → Before (lentAll f c preps inputs coefficients) f l₀ t₀ o₀
-            (record { gate = s .gate; prep = s .prep; waiting = 0; used = s .used + s .waiting; written = s .written + f .parties + f .parties; released = s .released; rounds = s .rounds + 2 })
-            places l t₁ o
+            → Before (lentAll f c preps inputs coefficients nonces) f l₀ t₀ o₀
+            (record { gate = s .gate; prep = s .prep; waiting = 0; used = s .used + s .waiting; checks = s .checks + 1; written = s .written + f .parties * commitWords + f .parties * revealWords; released = s .released; rounds = s .rounds + 2 })
+            places l₁ t₁ o
         first-passed w = standing-before (first-standing w) h
 
     -- none waits: the output is opened
     module _ (z : s .waiting ≡ 0) where
-      showing : Running (lentAll f c preps inputs coefficients) f l₀ t₀ o₀ (courseOf (dueAt (s .gate) Open) s) noneHeld l t o
-      showing = subst (λ (x : Point). Running (lentAll f c preps inputs coefficients) f l₀ t₀ o₀ (courseOf x s) noneHeld l t o) (came-open c (s .gate) (s .waiting) h cl z) (inv .running)
+      showing : Running (lentAll f c preps inputs coefficients nonces) f l₀ t₀ o₀ (courseOf (dueAt (s .gate) Open) s) noneHeld l t o
+      showing = subst (λ (x : Point). Running (lentAll f c preps inputs coefficients nonces) f l₀ t₀ o₀ (courseOf x s) noneHeld l t o) (came-open c (s .gate) (s .waiting) h cl z) (inv .running)
 
-      pub show-moving : Moving (lentAll f c preps inputs coefficients) f (courseOf (dueAt (s .gate) Open) s) Open noneHeld l t
+      pub show-moving : Moving (lentAll f c preps inputs coefficients nonces) f (courseOf (dueAt (s .gate) Open) s) Open noneHeld l t
       show-moving = running-moving _ f l₀ t₀ o₀ able showing Open refl
 
       -- and then checked
       module _ {s₁ : Stop} {l₁ t₁ : List ℕ}
-          (d : Moved (lentAll f c preps inputs coefficients) f (courseOf (dueAt (s .gate) Open) s) Open noneHeld l t (courseOf (dueAt (s .gate) (Commit Second)) s₁) noneHeld l₁ t₁)
+          (d : Moved (lentAll f c preps inputs coefficients nonces) f (courseOf (dueAt (s .gate) Open) s) Open noneHeld l t (courseOf (dueAt (s .gate) (Commit Second)) s₁) noneHeld l₁ t₁)
           (k : Kept s s₁) where
-        shown : Running (lentAll f c preps inputs coefficients) f l₀ t₀ o₀ (courseOf (dueAt (s .gate) (Commit Second)) s₁) noneHeld l₁ t₁ o
+        shown : Running (lentAll f c preps inputs coefficients nonces) f l₀ t₀ o₀ (courseOf (dueAt (s .gate) (Commit Second)) s₁) noneHeld l₁ t₁ o
         shown = running-again _ f l₀ t₀ o₀ able showing Open refl (turned-quietly _ f (courseOf (dueAt (s .gate) Open) s) noneHeld l Open refl d (k .released))
 
-        pub second-asked : (f .parties ≤ mostParties)
-            × Prepared f preps 0 1
-            × Banded f l₁
-            × (s₁ .used + 1 ≤ length coefficients)
-            × Below size coefficients
-            × EachBand f l₁ (λ i x. (e : ℕ) → e < 1 → Opened size (layoutOf (f .layout)) x e)
-            × (0 < f .parties)
-            × (0 < layoutOf (f .layout) .capacity)
-            × Common f l₁ 1
-            × (s₁ .written + f .parties + f .parties ≤ length t₁)
-        second-asked = check-asked able Second shown refl refl (show-common (show-moving .going) d)
+        pub second-asked : Checks f preps l₁ 1 (s₁ .used) coefficients (s₁ .checks) nonces (s₁ .written) t₁
+        second-asked = check-asked able Second shown refl refl refl (show-common (show-moving .going) d)
 
         pub shown-long : length t₁ ≡ length t₀
         shown-long = shown .long-t
 
-        pub second-room : s₁ .released < length o
-        second-room = output-room able shown refl
+        pub shown-scratch : length l₁ ≡ length l₀
+        shown-scratch = shown .long
 
-        pub second-settles : SettlesAll f c preps l₁ (s .gate + 1)
-        second-settles = output-settles able shown refl
+        module _ {v : ℕ} {l₂ t₂ : List ℕ} (e : Checked f preps l₁ 1 (s₁ .used) coefficients (s₁ .checks) nonces (s₁ .written) t₁ v l₂ t₂) where
+          pub second-room : s₁ .released < length o
+          second-room = output-room able shown refl (e .scratch)
 
-        pub second-band : f .scratch ≤ length l₁
-        second-band = omega (arith, band-end (f .parties) (f .scratch) 0 (second-settles .2), second-settles .1 .room)
+          pub second-settles : SettlesAll f c preps l₂ (s .gate + 1)
+          second-settles = output-settles able shown refl (e .scratch)
 
-        module _ {v : ℕ} (ev : Is size (heardSum ops (f .parties) revealWords 0 (each (f .parties) (shareIn f preps l₁ 1 (s₁ .used) coefficients))) v)
-            {t₂ : List ℕ} (et : t₂ ≡ writtenAt (s₁ .written + f .parties) (each (f .parties) (shareIn f preps l₁ 1 (s₁ .used) coefficients)) (writtenAt (s₁ .written) (each (f .parties) (λ i. mark)) t₁)) where
-          pub second-stopped : (v ≡ 0 → ⊥) → {a : JointAnswer} → jointAnswerOf a ≡ E.ended Aborted (s .gate) (s₁ .rounds + 2)
-              → Ran (lentAll f c preps inputs coefficients) l₀ t₀ o₀ a l₁ t₂ o
-          second-stopped w e = rw et (check-stopped able Second shown refl refl ev w e)
+          pub second-band : f .scratch ≤ length l₂
+          second-band = omega (arith, band-end (f .parties) (f .scratch) 0 (second-settles .2), second-settles .1 .room)
 
-          module _ (w : v ≡ 0) {x : ℕ} (ex : x ≡ read (layout c) (band (f .scratch) l₁ 0) (Value 0)) where
+          pub second-stopped : (v ≡ 0 → ⊥) → {a : JointAnswer} → jointAnswerOf a ≡ E.ended Aborted (s .gate) Nobody (s₁ .rounds + 2)
+              → Ran (lentAll f c preps inputs coefficients nonces) l₀ t₀ o₀ a l₂ t₂ o
+          second-stopped w q = rw (e .transcript) (check-stopped able Second shown refl refl (e .scratch) (e .sum) w q)
+
+          module _ (w : v ≡ 0) {x : ℕ} (ex : x ≡ read (layout c) (band (f .scratch) l₂ 0) (Value 0)) where
             stop-is : reach c (f .layout .gates - (s .gate + 1)) (s .gate + 1) ≡ reach c (gates c - (s .gate + 1)) (s .gate + 1)
             stop-is = next-stop _ f l₀ t₀ o₀ able (s .gate)
 
@@ -217,37 +205,48 @@ module _ {f : Frame} {c preps inputs coefficients l₀ t₀ o₀ : List ℕ} (ab
             unfolding unchecked uncheckedAfter
             none-waits = rw (stop-is, waits-stop c (s .gate) h, add-one (s .gate), class-is cl)
 
-            pub second-passed : Before (lentAll f c preps inputs coefficients) f l₀ t₀ o₀
-                (record { gate = s .gate + 1; prep = s₁ .prep; waiting = 0; used = s₁ .used + 1; written = s₁ .written + f .parties + f .parties; released = s₁ .released + 1; rounds = s₁ .rounds + 2 })
-                places l₁ t₂ (set o (s₁ .released) x)
+            abbrev second-after : Stop
+            second-after =
+                record {
+                  gate = s .gate + 1;
+                  prep = s₁ .prep;
+                  waiting = 0;
+                  used = s₁ .used + 1;
+                  checks = s₁ .checks + 1;
+                  written = s₁ .written + f .parties * commitWords + f .parties * revealWords;
+                  released = s₁ .released + 1;
+                  rounds = s₁ .rounds + 2;
+                }
+
+            pub second-passed : Before (lentAll f c preps inputs coefficients nonces) f l₀ t₀ o₀
+                (record { gate = s .gate + 1; prep = s₁ .prep; waiting = 0; used = s₁ .used + 1; checks = s₁ .checks + 1; written = s₁ .written + f .parties * commitWords + f .parties * revealWords; released = s₁ .released + 1; rounds = s₁ .rounds + 2 })
+                places l₂ t₂ (set o (s₁ .released) x)
             second-passed =
                 record {
                   settles = second-settles;
                   standing =
-                      rw et
-                      (record {
+                      record {
                         within = stop-within c (s .gate) h stop-is;
                         stands = stop-stands c (s .gate) h stop-is;
                         waits = inl none-waits;
                         placed = rw stop-is (placed-stop c (s .gate) h (places-stay _ f l₀ t₀ o₀ able inv h (output-no-in cl)));
                         common = λ i q k w. absurd (omega arith);
                         running =
-                            subst
-                            (λ (y : Point). Running (lentAll f c preps inputs coefficients) f l₀ t₀ o₀
-                            (record { point = y; prep = s₁ .prep; used = s₁ .used + 1; written = s₁ .written + f .parties + f .parties; released = s₁ .released + 1; rounds = s₁ .rounds + 2 }) noneHeld (settledAll f c preps l₁ (s .gate + 1))
-                            (writtenAt (s₁ .written + f .parties) (each (f .parties) (shareIn f preps l₁ 1 (s₁ .used) coefficients)) (writtenAt (s₁ .written) (each (f .parties) (λ i. mark)) t₁)) (set o (s₁ .released) x))
+                            rw (e .transcript)
+                            (subst (λ (y : Point). Running (lentAll f c preps inputs coefficients nonces) f l₀ t₀ o₀ (courseOf y second-after) noneHeld (settledAll f c preps l₂ (s .gate + 1))
+                            (writtenAt (s₁ .written + f .parties * commitWords) (revealsIn f preps l₁ 1 (s₁ .used) coefficients (s₁ .checks) nonces) (writtenAt (s₁ .written) (marksIn f preps l₁ 1 (s₁ .used) coefficients (s₁ .checks) nonces) t₁)) (set o (s₁ .released) x))
                             (resume-came c (s .gate) h stop-is none-waits)
-                            (second-checked able shown refl ev w refl ex);
-                      });
+                            (second-checked able shown refl (e .scratch) (e .sum) w refl ex));
+                      };
                 }
 
   -- no gate is left
-  pub standing-over : {s : Stop} {places l t o : List ℕ} → Standing (lentAll f c preps inputs coefficients) f l₀ t₀ o₀ s places l t o → gates c ≤ s .gate
-      → {a : JointAnswer} → jointAnswerOf a ≡ E.Done (s .rounds) → Ran (lentAll f c preps inputs coefficients) l₀ t₀ o₀ a l t o
+  pub standing-over : {s : Stop} {places l t o : List ℕ} → Standing (lentAll f c preps inputs coefficients nonces) f l₀ t₀ o₀ s places l t o → gates c ≤ s .gate
+      → {a : JointAnswer} → jointAnswerOf a ≡ E.Done (s .rounds) → Ran (lentAll f c preps inputs coefficients nonces) l₀ t₀ o₀ a l t o
   unfolding finished E.ended
   standing-over {s} {l = l} {t = t} {o = o} inv h e =
-      running-over (lentAll f c preps inputs coefficients) f l₀ t₀ o₀ able
-      (subst (λ (x : Point). Running (lentAll f c preps inputs coefficients) f l₀ t₀ o₀ (courseOf x s) noneHeld l t o) (came-end c (s .gate) (s .waiting) h) (inv .running))
+      running-over (lentAll f c preps inputs coefficients nonces) f l₀ t₀ o₀ able
+      (subst (λ (x : Point). Running (lentAll f c preps inputs coefficients nonces) f l₀ t₀ o₀ (courseOf x s) noneHeld l t o) (came-end c (s .gate) (s .waiting) h) (inv .running))
       over-finished e
 
   -- before the first gate
@@ -255,8 +254,8 @@ module _ {f : Frame} {c preps inputs coefficients l₀ t₀ o₀ : List ℕ} (ab
   first-gate = omega (arith, able .lent .valid .two)
 
   start-standing : {places : List ℕ} → Placed (f .parties) c 0 places
-      → Standing (lentAll f c preps inputs coefficients) f l₀ t₀ o₀
-      (record { gate = 0; prep = 1; waiting = 0; used = 0; written = 0; released = 0; rounds = 0 }) places l₀ t₀ o₀
+      → Standing (lentAll f c preps inputs coefficients nonces) f l₀ t₀ o₀
+      (record { gate = 0; prep = 1; waiting = 0; used = 0; checks = 0; written = 0; released = 0; rounds = 0 }) places l₀ t₀ o₀
   unfolding unchecked isClass dueIn
   start-standing k =
       record {
@@ -266,12 +265,12 @@ module _ {f : Frame} {c preps inputs coefficients l₀ t₀ o₀ : List ℕ} (ab
         placed = k;
         common = λ i q e w. absurd (omega arith);
         running =
-            running-start (lentAll f c preps inputs coefficients) f l₀ t₀ o₀ able
-            (courseOf (cameTo c 0 0) (record { gate = 0; prep = 1; waiting = 0; used = 0; written = 0; released = 0; rounds = 0 }))
-            (record { point = came-own c 0 0 first-gate (gate-zero (able .lent .valid)) refl; prep = refl; used = refl; written = refl; released = refl; rounds = refl });
+            running-start (lentAll f c preps inputs coefficients nonces) f l₀ t₀ o₀ able
+            (courseOf (cameTo c 0 0) (record { gate = 0; prep = 1; waiting = 0; used = 0; checks = 0; written = 0; released = 0; rounds = 0 }))
+            (record { point = came-own c 0 0 first-gate (gate-zero (able .lent .valid)) refl; prep = refl; used = refl; checks = refl; written = refl; released = refl; rounds = refl });
       }
 
   pub standing-start : {places : List ℕ} → Placed (f .parties) c 0 places
-      → Before (lentAll f c preps inputs coefficients) f l₀ t₀ o₀
-      (record { gate = 0; prep = 1; waiting = 0; used = 0; written = 0; released = 0; rounds = 0 }) places l₀ t₀ o₀
+      → Before (lentAll f c preps inputs coefficients nonces) f l₀ t₀ o₀
+      (record { gate = 0; prep = 1; waiting = 0; used = 0; checks = 0; written = 0; released = 0; rounds = 0 }) places l₀ t₀ o₀
   standing-start k = standing-before (start-standing k) first-gate

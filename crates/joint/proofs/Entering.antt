@@ -50,16 +50,16 @@ module _ (J : Joint) (l t o : List ℕ) where
   setting-refused e = entry-refused (sym (asked J l (length t) (length o)) ∙ then-refused _ e)
 
 -- .. or accepts. The frame of n parties has that number
-module _ (n : ℕ) (c preps inputs coefficients l t o : List ℕ) (s : settingOf n c ≡ Accepted) (f : Frame) (framed : Framed n c f) where
+module _ (n : ℕ) (c preps inputs coefficients nonces l t o : List ℕ) (s : settingOf n c ≡ Accepted) (f : Frame) (framed : Framed n c f) where
   abbrev J : Joint
-  J = jointOf n c preps inputs coefficients
+  J = jointOf n c preps inputs coefficients nonces
 
   abbrev lent : Verdict
-  lent = lentOf (f .parties) c preps inputs (length l) coefficients (length t) (length o)
+  lent = lentOf (f .parties) c preps inputs (length l) coefficients (length nonces) (length t) (length o)
 
   lent-is : lent ≡ askJoint size J l (length t) (length o)
   lent-is =
-      ap (λ (k : ℕ). lentOf k c preps inputs (length l) coefficients (length t) (length o)) (framed .parties)
+      ap (λ (k : ℕ). lentOf k c preps inputs (length l) coefficients (length nonces) (length t) (length o)) (framed .parties)
       ∙ sym (then-passed _ s)
       ∙ asked J l (length t) (length o)
 
@@ -67,16 +67,16 @@ module _ (n : ℕ) (c preps inputs coefficients l t o : List ℕ) (s : settingOf
   lent-refused e = entry-refused J l t o (sym lent-is ∙ e)
 
   module _ (e : lent ≡ Accepted) where
-    pub entry-runs : {starts : List ℕ} → Placed n c 0 starts → Runnable (jointOf (f .parties) c preps inputs coefficients) f l t o × Placed (f .parties) c 0 starts
+    pub entry-runs : {starts : List ℕ} → Placed n c 0 starts → Runnable (jointOf (f .parties) c preps inputs coefficients nonces) f l t o × Placed (f .parties) c 0 starts
     entry-runs {starts} places =
-        subst (λ (k : ℕ). Runnable (jointOf k c preps inputs coefficients) f l t o × Placed k c 0 starts) (sym (framed .parties))
+        subst (λ (k : ℕ). Runnable (jointOf k c preps inputs coefficients nonces) f l t o × Placed k c 0 starts) (sym (framed .parties))
         (accepted-runnable J l (length t) (length o) (settled n c s) accepted f t o framed refl refl, places)
       where
-        accepted : lentOf n c preps inputs (length l) coefficients (length t) (length o) ≡ Accepted
+        accepted : lentOf n c preps inputs (length l) coefficients (length nonces) (length t) (length o) ≡ Accepted
         accepted = rw (framed .parties) at e
 
-    pub entry-left : {a : D.JointAnswer} {l′ t′ o′ : List ℕ} → Ran (jointOf (f .parties) c preps inputs coefficients) l t o a l′ t′ o′
+    pub entry-left : {a : D.JointAnswer} {l′ t′ o′ : List ℕ} → Ran (jointOf (f .parties) c preps inputs coefficients nonces) l t o a l′ t′ o′
         → Ensured J l t o (jointAnswerOf a) l′ t′ o′
     entry-left {a} {l′} {t′} {o′} d =
         entry-ran J l t o (sym lent-is ∙ e)
-        (subst (λ (k : ℕ). Ran (jointOf k c preps inputs coefficients) l t o a l′ t′ o′) (framed .parties) d)
+        (subst (λ (k : ℕ). Ran (jointOf k c preps inputs coefficients nonces) l t o a l′ t′ o′) (framed .parties) d)

@@ -14,7 +14,6 @@ use Rattle.circuit.specs.Valid.{Valid}
 use Rattle.circuit.proofs.Counts.{total-mono}
 use Rattle.circuit.proofs.KindLaws.{Idle, idle, is-class, output-facts}
 use Rattle.protocol.specs.Position.{Point, finished, reach, resume}
-use Rattle.protocol.specs.Receive.{passes, next}
 use Rattle.protocol.proofs.Following.{unchecked-reach}
 use Rattle.protocol.proofs.Points.{Reached, reached, Entered, ended, begun, entered}
 use Rattle.joint.specs.Code.{Placed}

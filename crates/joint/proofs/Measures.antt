@@ -10,14 +10,14 @@ use Rattle.field.specs.Words.{size}
 use Rattle.circuit.specs.Gate.{gateSize, gates}
 use Rattle.circuit.specs.Kind.{shape, isIn, isOut}
 use Rattle.circuit.specs.Count.{total, count, prepAt, prepSize, capacity, inCount, outCount}
-use Rattle.circuit.specs.Round.{words, overRun, wordCount, coefficientCount}
+use Rattle.circuit.specs.Round.{commitWords, words, overRun, wordCount, coefficientCount, checkCount}
 use Rattle.circuit.specs.Accept.{mostGates}
 use Rattle.circuit.specs.Valid.{Valid}
 use Rattle.circuit.specs.Code.{Totalled}
 use Rattle.circuit.specs.declared.Totals.{Totals}
 use Rattle.circuit.proofs.Counts.{prep-size-le, capacity-le}
-use Rattle.circuit.proofs.RoundLaws.{words-run-le}
-use Rattle.protocol.specs.Scratch.{Layout, layout, scratchSize}
+use Rattle.circuit.proofs.RoundLaws.{words-run-le, checks-run-le}
+use Rattle.protocol.specs.Scratch.{Layout, layout, slotsSize, nonceAt, marksAt, scratchSize}
 use Rattle.protocol.specs.Code.{layoutOf}
 use Rattle.protocol.specs.Ask.{mostParties}
 use Rattle.joint.specs.declared.Frame.{Frame}
@@ -56,8 +56,9 @@ module _ {n : ℕ} {c : List ℕ} (v : Valid n size c) where
     unfolding layoutOf layout
     laid-is = rw (all, capacity-is)
 
-    pub size-is : {size : ℕ} → size ≡ scratchSize (layoutOf (record { gates = m; capacity = t .openings + 1 })) → size ≡ scratchSize (layout c)
-    size-is e = e ∙ ap scratchSize laid-is
+    pub size-is : {size : ℕ} → size ≡ marksAt (layoutOf (record { gates = m; capacity = t .openings + 1 })) + n * commitWords → size ≡ scratchSize n c
+    unfolding scratchSize
+    size-is e = e ∙ ap (λ (y : Layout). marksAt y + n * commitWords) laid-is
 
   -- the numbers of the frame
   module _ {f : Frame} (h : Framed n c f) where
@@ -71,9 +72,9 @@ module _ {n : ℕ} {c : List ℕ} (v : Valid n size c) where
     pub preps-few : n ≤ mostParties → n * f .prep ≤ mostParties * 1537
     preps-few few = product-few 1537 few (omega (arith, h .prep, prep-size-le c, v .few))
 
-    pub sizes-few : n ≤ mostParties → n * f .scratch ≤ mostParties * 1538
-    unfolding scratchSize layout
-    sizes-few few = product-few 1538 few (omega (arith, h .scratch, capacity-le c, v .few))
+    pub sizes-few : n ≤ mostParties → n * f .scratch ≤ mostParties * 1610
+    unfolding scratchSize marksAt nonceAt slotsSize layout
+    sizes-few few = product-few 1610 few (omega (arith, few, h .scratch, capacity-le c, v .few))
 
     module _ {t : Totals} (k : Totalled c (f .layout .gates) t) where
       pub ins-are : t .ins ≡ inCount c
@@ -92,5 +93,13 @@ module _ {n : ℕ} {c : List ℕ} (v : Valid n size c) where
       unfolding coefficientCount
       coefficients-are = k .coefficients ∙ ap (overRun _ c) gates-are
 
-      pub words-few : n ≤ mostParties → n * t .words ≤ mostParties * 1536
-      words-few few = product-few 1536 few (omega (arith, k .words, words-run-le c (f .layout .gates), gates-few))
+      pub checks-are : t .checks ≡ checkCount c
+      unfolding checkCount
+      checks-are = k .checks ∙ ap (overRun _ c) gates-are
+
+      pub words-few : n ≤ mostParties → n * t .words ≤ mostParties * 9216
+      words-few few = product-few 9216 few (omega (arith, k .words, words-run-le c (f .layout .gates), gates-few))
+
+      -- and a nonce of each
+      pub checks-few : n ≤ mostParties → n * t .checks ≤ mostParties * 512
+      checks-few few = product-few 512 few (omega (arith, k .checks, checks-run-le c (f .layout .gates), gates-few))

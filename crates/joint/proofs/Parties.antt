@@ -12,16 +12,17 @@ use Rattle.circuit.specs.Count.{prepAt, prepSize, inputCount}
 use Rattle.circuit.proofs.Counts.{prep-within, prep-positive}
 use Rattle.field.specs.Words.{size}
 use Rattle.protocol.specs.Holding.{Below}
-use Rattle.protocol.specs.Joint.{Joint, band, inputsAt, party}
+use Rattle.protocol.specs.Scratch.{band, scratchSize}
+use Rattle.protocol.specs.Joint.{Joint, inputsAt, party}
 use Rattle.joint.specs.declared.Frame.{Frame}
 use Rattle.joint.specs.Code.{jointOf, Lent, prepFrom, keyIn, Prepared, Banded}
 use Rattle.protocol.proofs.Words.{length-band}
 use Rattle.protocol.proofs.Said.{below-part}
 use Rattle.protocol.proofs.Inputs.{inputs-all, starts-suc, starts-mono}
 
--- Coefficients are no party's own.
+-- Coefficients and nonces are no party's own.
 abbrev pub undrawn : Joint → Joint
-undrawn J = record { parties = J .parties; circuit = J .circuit; preps = J .preps; inputs = J .inputs; coefficients = [] }
+undrawn J = record { parties = J .parties; circuit = J .circuit; preps = J .preps; inputs = J .inputs; coefficients = []; nonces = [] }
 
 pub party-undrawn : (J : Joint) (i : ℕ) → party J i ≡ party (undrawn J) i
 unfolding party
@@ -65,7 +66,7 @@ module _ {J : Joint} {f : Frame} (h : Lent J f) (i : ℕ) (l : i < J .parties) w
   party-inputs-low = below-part (J .inputs) (inputCount (J .circuit) i) (inputsAt (J .circuit) i) (h .inputs-low)
 
 -- what the code cuts out of the lists of all is the party's
-module _ {f : Frame} {c preps inputs coefficients : List ℕ} (t : Lent (jointOf (f .parties) c preps inputs coefficients) f) where
+module _ {f : Frame} {c preps inputs coefficients nonces : List ℕ} (t : Lent (jointOf (f .parties) c preps inputs coefficients nonces) f) where
   pub lent-prepared : (a k : ℕ) → a + k ≤ f .prep → Prepared f preps a k
   lent-prepared a k h = record { long = rw (t .framed .prep) (omega (arith, t .preps-long)); low = t .preps-low; fits = h }
 
@@ -74,9 +75,10 @@ module _ {f : Frame} {c preps inputs coefficients : List ℕ} (t : Lent (jointOf
   lent-key = lent-prepared 0 1 (omega (arith, t .framed .prep, prep-positive c (gates c)))
 
   pub lent-banded : {l : List ℕ} → f .parties * f .scratch ≤ length l → Banded f l
+  unfolding scratchSize
   lent-banded h = record { size = rw (t .framed .lay) (omega (arith, t .framed .scratch)); room = h }
 
-  pub lent-keyed : (i : ℕ) → keyIn f preps i ≡ getD (party (jointOf (f .parties) c preps inputs coefficients) i .prep) 0 0
+  pub lent-keyed : (i : ℕ) → keyIn f preps i ≡ getD (party (jointOf (f .parties) c preps inputs coefficients nonces) i .prep) 0 0
   unfolding party
   lent-keyed i = rw (t .framed .prep)
 
@@ -85,6 +87,6 @@ module _ {f : Frame} {c preps inputs coefficients : List ℕ} (t : Lent (jointOf
     pub lent-record : a + shape (gate c j) .prep ≤ f .prep
     lent-record = omega (arith, e, t .framed .prep, prep-within c j h)
 
-    pub lent-record-is : (i : ℕ) → prepFrom f preps a i ≡ drop a (party (jointOf (f .parties) c preps inputs coefficients) i .prep)
+    pub lent-record-is : (i : ℕ) → prepFrom f preps a i ≡ drop a (party (jointOf (f .parties) c preps inputs coefficients nonces) i .prep)
     unfolding party
     lent-record-is i = rw (t .framed .prep)

@@ -6,7 +6,6 @@ use mathlib.Core.Bool.{false}
 use mathlib.Core.List.{List, []}
 use mathlib.Core.Logic.{_⊎_, inl, ⊎-elim}
 use native.Mathlib.Omega.{arith}
-use lib.ListN.{take, take-append-drop}
 use Rattle.field.specs.Words.{ops}
 use Rattle.circuit.specs.Gate.{gate, gates}
 use Rattle.circuit.specs.Kind.{Class, Owned, Output, shape, isClass, isLinear}
@@ -14,6 +13,7 @@ use Rattle.circuit.specs.Count.{unchecked}
 use Rattle.circuit.specs.Round.{Round, Own}
 use Rattle.circuit.proofs.KindLaws.{class-is}
 use Rattle.circuit.proofs.Tests.{false-no}
+use Rattle.protocol.specs.Scratch.{writtenAt}
 use Rattle.protocol.specs.Position.{Point, reach, resume}
 use Rattle.protocol.specs.Entry.{releases}
 use Rattle.protocol.specs.Joint.{Joint}
@@ -36,7 +36,7 @@ module _ (J : Joint) (f : Frame) (s : Course) (held l : List ℕ) (r : Round) wh
   turned-none e {o = o} d k =
       record {
         moved = d;
-        outputs = rw e (let z : s .released + 0 ≡ s .released = omega arith in rw z (sym (take-append-drop (s .released) o)));
+        outputs = rw e (unfold writtenAt in refl);
         given = rw e (omega (arith, k));
       }
 
@@ -69,6 +69,7 @@ module _ (J : Joint) (f : Frame) (l₀ t₀ o₀ : List ℕ) where
         prep = s .prep;
         waiting = s .waiting;
         used = s .used;
+        checks = s .checks;
         written = s .written;
         released = s .released;
         rounds = s .rounds;
@@ -83,7 +84,7 @@ module _ (J : Joint) (f : Frame) (l₀ t₀ o₀ : List ℕ) where
   pub stood : {s : Stop} {places l t o : List ℕ} → Before s places l t o
       → {stop : ℕ} → stop ≡ reach (J .circuit) (f .layout .gates - s .gate) (s .gate)
       → {l′ : List ℕ} → l′ ≡ settledAll f (J .circuit) (J .preps) l (s .gate)
-      → Standing (record { gate = stop; prep = s .prep; waiting = s .waiting; used = s .used; written = s .written; released = s .released; rounds = s .rounds }) places l′ t o
+      → Standing (record { gate = stop; prep = s .prep; waiting = s .waiting; used = s .used; checks = s .checks; written = s .written; released = s .released; rounds = s .rounds }) places l′ t o
   stood inv e d = rw (e, d) (inv .standing)
 
   module _ (able : Runnable J f l₀ t₀ o₀) where

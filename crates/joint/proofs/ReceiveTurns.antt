@@ -12,10 +12,10 @@ use Rattle.field.proofs.Laws.{laws}
 use Rattle.circuit.specs.Gate.{gateSize, Gate, gate}
 use Rattle.circuit.specs.Kind.{Owned, Opens, shape, isLinear}
 use Rattle.circuit.specs.Count.{unchecked}
-use Rattle.circuit.specs.Round.{Check, First, Second, Round, Own, Open, Commit, Reveal}
+use Rattle.circuit.specs.Round.{First, Second, Round, Own, Open, Reveal, nonceSize}
 use Rattle.circuit.proofs.KindLaws.{owned-facts, opens-facts}
 use Rattle.protocol.specs.Position.{reach}
-use Rattle.protocol.specs.Receive.{afterInput, afterOpening, afterOpenOutput, afterLinear, settle, passes}
+use Rattle.protocol.specs.Receive.{afterInput, afterOpening, afterOpenOutput, afterLinear, settle}
 use Rattle.protocol.specs.Holding.{Held, Reads}
 use Rattle.protocol.specs.Code.{layoutOf}
 use Rattle.protocol.specs.Ready.{Opening, Settles, Receives, heardFirst, Named, Summed}
@@ -24,7 +24,10 @@ use Rattle.protocol.proofs.Lengths.{length-differences, length-afterLinear}
 use Rattle.protocol.proofs.Settling.{Settling, Reaching, settling-start, settling-asks, settling-again, settling-end, reaching-start, reaching-again, reaching-stop, reaching-done}
 use Rattle.protocol.proofs.Readiness.{within-there, input-settles, opening-asks, opening-settles, output-settles}
 use Rattle.protocol.proofs.Received as R
-use Rattle.protocol.specs.Joint.{Joint, joined, band, party}
+use Rattle.sha256.specs.Sha256.{wordsOf}
+use Rattle.protocol.specs.Scratch.{band, putNonce, putMarks}
+use Rattle.protocol.proofs.Tails.{nonce-length, marks-length}
+use Rattle.protocol.specs.Joint.{Joint, joined, party}
 use Rattle.joint.specs.declared.Frame.{Frame}
 use Rattle.joint.specs.Code.{Course, siteOf, Lent, prepFrom, keyIn, Prepared, Banded, EachBand, rebanded, receivedIn, SettlesAll}
 use Rattle.protocol.proofs.Words.{length-joined, joined-ext}
@@ -49,6 +52,13 @@ outputLeft f l x e i = afterOpenOutput ops (layoutOf (f .layout)) (band (f .scra
 abbrev pub linearLeft : Frame → List ℕ → List ℕ → ℕ → Gate → ℕ → List ℕ
 linearLeft f preps l j g i = afterLinear ops i (keyIn f preps i) (layoutOf (f .layout)) (band (f .scratch) l i) j g
 
+-- .. where its nonce is noted, and where the marks of all are ..
+abbrev pub nonceLeft : Frame → List ℕ → List ℕ → ℕ → List ℕ
+nonceLeft f l nonces i = putNonce (layoutOf (f .layout)) (band (f .scratch) l i) (wordsOf (band nonceSize nonces i))
+
+abbrev pub marksLeft : Frame → List ℕ → List ℕ → ℕ → List ℕ
+marksLeft f l marks i = putMarks (layoutOf (f .layout)) (band (f .scratch) l i) marks
+
 -- .. and by the linear gates from gate a on
 abbrev pub settledLeft : Frame → List ℕ → List ℕ → List ℕ → ℕ → ℕ → List ℕ
 settledLeft f c preps l a i = settle ops i (keyIn f preps i) c (layoutOf (f .layout)) (f .layout .gates - a) a (band (f .scratch) l i)
@@ -70,6 +80,12 @@ module _ {f : Frame} {l : List ℕ} (b : Banded f l) where
 
   pub linear-each : (preps : List ℕ) (j : ℕ) (g : Gate) (i : ℕ) → i < f .parties → length (linearLeft f preps l j g i) ≡ f .scratch
   linear-each preps j g i h = length-afterLinear ops i (keyIn f preps i) (layoutOf (f .layout)) (band (f .scratch) l i) j g ∙ band-long b i h
+
+  pub nonce-each : (nonces : List ℕ) (i : ℕ) → i < f .parties → length (nonceLeft f l nonces i) ≡ f .scratch
+  nonce-each nonces i h = nonce-length (layoutOf (f .layout)) (band (f .scratch) l i) _ ∙ band-long b i h
+
+  pub marks-each : (marks : List ℕ) (i : ℕ) → i < f .parties → length (marksLeft f l marks i) ≡ f .scratch
+  marks-each marks i h = marks-length (layoutOf (f .layout)) (band (f .scratch) l i) marks ∙ band-long b i h
 
 -- bands that came back as F i
 module _ {f : Frame} {l : List ℕ} (b : Banded f l) (F : ℕ → List ℕ) (each : (i : ℕ) → i < f .parties → length (F i) ≡ f .scratch)
@@ -167,9 +183,9 @@ module _ (f : Frame) (c preps : List ℕ) (a : ℕ) (l₀ : List ℕ) (b : Bande
         (joined-ext (f .parties) (band (f .scratch) l) (settledLeft f c preps l₀ a)
         (λ i k. settling-end c (layoutOf (f .layout)) i (keyIn f preps i) a (band (f .scratch) l₀ i) j (band (f .scratch) l i) (inv .each i k) (inv .reaching) (omega (arith, e))))
 
-module _ (f : Frame) (s : Course) (c preps inputs l heard : List ℕ) (t : Lent (lentAll f c preps inputs []) f) (room : f .parties * f .scratch ≤ length l) where
+module _ (f : Frame) (s : Course) (c preps inputs l heard : List ℕ) (t : Lent (lentAll f c preps inputs [] []) f) (room : f .parties * f .scratch ≤ length l) where
   abbrev J : Joint
-  J = lentAll f c preps inputs []
+  J = lentAll f c preps inputs [] []
 
   banded : Banded f l
   banded = lent-banded t room
@@ -186,20 +202,14 @@ module _ (f : Frame) (s : Course) (c preps inputs l heard : List ℕ) (t : Lent 
   bandsOf r = receivedIn f J (s .point .gate) l r heard
 
   -- a round that leaves the bands
-  pub left-alone : (r : Round) → ((i : ℕ) → i < f .parties → band (f .scratch) l i ≡ bandsOf r i) → l ≡ rebanded f (bandsOf r) l
-  left-alone r same =
-      sym (joined-bands (f .parties) (f .scratch) l room)
-      ∙ ap (λ (z : List ℕ). z ++ drop (f .parties * f .scratch) l) (joined-ext (f .parties) (band (f .scratch) l) (bandsOf r) same)
-
-  pub commit-left : (k : Check) → l ≡ rebanded f (bandsOf (Commit k)) l
-  commit-left k = left-alone (Commit k) (λ i h. R.commit-received ops (party J i) (band (f .scratch) l i) (s .point .gate) heard k)
+  pub left-alone : l ≡ rebanded f (band (f .scratch) l) l
+  left-alone = sym (joined-bands (f .parties) (f .scratch) l room)
 
   pub first-left : l ≡ rebanded f (bandsOf (Reveal First)) l
-  first-left = left-alone (Reveal First) (λ i h. R.first-received ops (party J i) (band (f .scratch) l i) (s .point .gate) heard)
-
-  pub stopped-left : (k : Check) → passes ops (f .parties) (Reveal k) heard ≡ false → l ≡ rebanded f (bandsOf (Reveal k)) l
-  unfolding party
-  stopped-left k e = left-alone (Reveal k) (λ i h. R.stopped-received ops (party J i) (band (f .scratch) l i) (s .point .gate) heard k e)
+  first-left =
+      left-alone
+      ∙ ap (λ (z : List ℕ). z ++ drop (f .parties * f .scratch) l)
+      (joined-ext (f .parties) (band (f .scratch) l) (bandsOf (Reveal First)) (λ i h. R.first-received ops (party J i) (band (f .scratch) l i) (s .point .gate) heard))
 
   -- a round that leaves each band as F i, and then settles it
   module _ (F : ℕ → List ℕ) (each : (i : ℕ) → i < f .parties → length (F i) ≡ f .scratch) {l₁ : List ℕ} (d : l₁ ≡ rebanded f F l) where
@@ -331,10 +341,10 @@ module _ (f : Frame) (s : Course) (c preps inputs l heard : List ℕ) (t : Lent 
       λ i h. rw (lent-keyed t i) (output-settles (party J i) (band (f .scratch) l i) (f .layout) (siteOf c s i) (w i h .ready)),
     )
 
-    pub reveal-received : passes ops (f .parties) (Reveal Second) heard ≡ true → {l₁ : List ℕ} → l₁ ≡ rebanded f (settledLeft f c preps l (s .point .gate + 1)) l → l₁ ≡ rebanded f (bandsOf (Reveal Second)) l
+    pub reveal-received : {l₁ : List ℕ} → l₁ ≡ rebanded f (settledLeft f c preps l (s .point .gate + 1)) l → l₁ ≡ rebanded f (bandsOf (Reveal Second)) l
     unfolding siteOf party
-    reveal-received k d =
+    reveal-received d =
         d
         ∙ ap (λ (z : List ℕ). z ++ drop (f .parties * f .scratch) l)
         (joined-ext (f .parties) (settledLeft f c preps l (s .point .gate + 1)) (bandsOf (Reveal Second))
-        (λ i h. R.reveal-received ops (party J i) (band (f .scratch) l i) (f .layout) (siteOf c s i) heard (w i h .ready) k (rw (lent-keyed t i))))
+        (λ i h. R.reveal-received ops (party J i) (band (f .scratch) l i) (f .layout) (siteOf c s i) heard (w i h .ready) (rw (lent-keyed t i))))

@@ -10,33 +10,34 @@ use lib.ListN.{length, drop}
 use Rattle.field.specs.Words.{size, ops}
 use Rattle.circuit.specs.Gate.{gate, gates}
 use Rattle.circuit.specs.Count.{total, prepAt, unchecked}
-use Rattle.circuit.specs.Round.{Round, Own, words, openedIn, coefficientsIn, overRun, wordCount, coefficientCount}
-use Rattle.protocol.specs.Scratch.{layout, scratchSize}
+use Rattle.circuit.specs.Round.{Round, Own, words, openedIn, coefficientsIn, commitsIn, overRun, wordCount, coefficientCount, checkCount}
+use Rattle.protocol.specs.Scratch.{band, writtenAt, scratchSize}
 use Rattle.protocol.specs.Position.{Point, Stage, Send, Receive, Finished, Aborted, follow, start}
+use Rattle.protocol.specs.Receive.{Nobody}
 use Rattle.protocol.specs.Ready.{Ready}
 use Rattle.protocol.specs.Ask.{mostParties}
 use Rattle.protocol.specs.Entry.{releases}
 use Rattle.protocol.proofs.Following.{start-is}
 use Rattle.protocol.proofs.Points.{FitsStage, spent, sending, spent-follow, Goes, goes-start, spent-le}
 use Rattle.protocol.specs.Send.{overwrite}
-use Rattle.protocol.specs.Joint.{Joint, joined, band, party}
+use Rattle.protocol.specs.Joint.{Joint, joined, party}
 use Rattle.protocol.specs.Run.{State, Run, said, step, released, takes, begun, still, ahead, run, mostRounds, whole}
 use Rattle.protocol.specs.JointEntry as E
 use Rattle.joint.specs.declared.JointAnswer.{JointAnswer}
 use Rattle.joint.specs.declared.Frame.{Frame}
-use Rattle.joint.specs.Code.{Course, jointAnswerOf, siteOf, stateOf, writtenAt, dueAt, noneHeld, Going, Moving, Alike, Turned, Runnable, Ran}
+use Rattle.joint.specs.Code.{Course, jointAnswerOf, siteOf, stateOf, dueAt, noneHeld, Going, Moving, Alike, Turned, Runnable, Ran}
 use Rattle.protocol.proofs.Words.{length-band, joined-ext}
-use Rattle.joint.proofs.Written.{Written, written-more, written-le, written-length, written-done}
+use Rattle.joint.proofs.Written.{Written, written-more, written-le, written-done}
+use Rattle.protocol.proofs.Tails.{length-written}
 use Rattle.protocol.proofs.Bands.{joined-bands}
 use Rattle.protocol.proofs.Gathering.{zeros}
 use Rattle.protocol.proofs.Runs.{Over, run-goes, run-over, next-passed, next-goes, released-fits, released-one}
-use Rattle.protocol.proofs.Said.{length-said}
 use Rattle.joint.proofs.Parties.{party-prep, party-prep-low, party-inputs, party-inputs-low}
 use Rattle.protocol.proofs.Spending.{rounds-le, outputs-all}
 use Rattle.joint.proofs.States.{said-alike, released-alike, step-alike, alike-then}
-use Rattle.joint.proofs.Going.{heardIn, nextIn, within, occurs, point-is, next-fits, going-next}
+use Rattle.joint.proofs.Going.{endsIn, nextIn, within, occurs, heard-long, point-is, next-fits, going-next}
 
--- what a round takes: one round, the words of a party, coefficients, and outputs where it is not stopped
+-- what a round takes: one round, the words of a party, coefficients, checks, and outputs where it is not stopped
 abbrev one : ℕ → Round → ℕ
 one j r = 1
 
@@ -45,6 +46,9 @@ wordsOf c j r = words (gate c j) r
 
 abbrev drawsOf : List ℕ → ℕ → Round → ℕ
 drawsOf c j r = coefficientsIn (unchecked c j) r
+
+abbrev checksOf : ℕ → Round → ℕ
+checksOf j r = commitsIn r
 
 abbrev outputOf : ℕ → Round → ℕ
 outputOf j r = cond (releases r) 1 0
@@ -57,6 +61,7 @@ module _ (J : Joint) (f : Frame) where
     pub rounds : s .rounds ≡ spent (J .circuit) one (sending (s .point .gate) r)
     pub written : s .written ≡ J .parties * spent (J .circuit) (wordsOf (J .circuit)) (sending (s .point .gate) r)
     pub used : s .used ≡ spent (J .circuit) (drawsOf (J .circuit)) (sending (s .point .gate) r)
+    pub checks : s .checks ≡ spent (J .circuit) checksOf (sending (s .point .gate) r)
     pub given : s .released ≡ spent (J .circuit) outputOf (sending (s .point .gate) r)
 
   abbrev pub Due : Course → List ℕ → List ℕ → ℕ → Stage → Type 0
@@ -133,19 +138,22 @@ module _ (J : Joint) (f : Frame) where
 
         -- how many words were said, and where the round led
         said-many : length (said ops J (stateOf f s held l) r) ≡ J .parties * words (gate (J .circuit) (s .point .gate)) r
-        unfolding stateOf
-        said-many = length-said ops J (stateOf f s held l) r (fits .1)
+        said-many = heard-long J f s r held l (due-is .going)
+
+        -- there is room for them
+        said-fits : s .written + length (said ops J (stateOf f s held l) r) ≤ length t
+        said-fits = omega (arith, words-left, said-many)
+
+        released-room : s .released + length (released ops J (stateOf f s held l) r) ≤ length o
+        released-room = released-fits ops J (stateOf f s held l) r (s .released) (length o) (written-le (inv .outs) (inv .long-o)) outputs-left
 
         outputs-length : length o′ ≡ length o
         outputs-length =
-            ap length (d .outputs)
-            ∙ written-length (s .released) (released ops J (stateOf f s held l) r) o
-            (released-fits ops J (stateOf f s held l) r (s .released) (length o) (written-le (inv .outs) (inv .long-o)) outputs-left)
+            ap length (d .outputs) ∙ length-written (s .released) (released ops J (stateOf f s held l) r) o
 
         transcript-length : length t′ ≡ length t
         transcript-length =
-            ap length (d .moved .transcript)
-            ∙ written-length (s .written) (said ops J (stateOf f s held l) r) t (omega (arith, words-left, said-many))
+            ap length (d .moved .transcript) ∙ length-written (s .written) (said ops J (stateOf f s held l) r) t
 
         -- the run from here on is the round and the run after it
         rest : ℕ
@@ -173,7 +181,7 @@ module _ (J : Joint) (f : Frame) where
               there =
                   ap (λ (x : Point). record { gate = x .gate; stage = Send r′ }) (point-is J f s r held l (due-is .going) (d .moved))
                   ∙ ap (λ (z : Stage). record { gate = nextIn J f s r held l (due-is .going) .gate; stage = z }) (sym e′)
-                  ∙ next-goes ops (J .parties) (J .circuit) (s .point .gate) r (heardIn J f s r held l (due-is .going)) r′ e′
+                  ∙ next-goes (J .circuit) (s .point .gate) r (endsIn J f s r held l (due-is .going)) r′ e′
 
           fits-next : FitsStage (J .circuit) (s′ .point .gate) (Send r′)
           fits-next = next-fits J f s r held l (due-is .going) (d .moved) r′ e′
@@ -182,13 +190,18 @@ module _ (J : Joint) (f : Frame) where
           unfolding stateOf step takes
           used-next = d .moved .alike .used ∙ omega (arith, due-is .used, spent-next (drawsOf (J .circuit)))
 
+          checks-next : s′ .checks ≡ spent (J .circuit) checksOf (sending (s′ .point .gate) r′)
+          unfolding stateOf step
+          checks-next = d .moved .alike .checks ∙ omega (arith, due-is .checks, spent-next checksOf)
+
           due-next : DueRound s′ held′ l′ rest r′
-          unfolding coefficientCount
+          unfolding coefficientCount checkCount
           due-next =
               record {
                 going =
                     going-next J f s r held l (due-is .going) (d .moved) r′ e′
-                    (omega (arith, used-next, spent-le (J .circuit) (drawsOf (J .circuit)) (s′ .point .gate) r′ fits-next, able .coefficient-count));
+                    (omega (arith, used-next, spent-le (J .circuit) (drawsOf (J .circuit)) (s′ .point .gate) r′ fits-next, able .coefficient-count))
+                    (rw checks-next (omega (arith, mul-le-mul-left (J .parties) (spent-le (J .circuit) checksOf (s′ .point .gate) r′ fits-next), able .nonce-count)));
                 fuel = omega (arith, due-is .fuel, d .moved .rounds, rest-is);
                 rounds = omega (arith, d .moved .rounds, due-is .rounds, spent-next one);
                 written =
@@ -201,13 +214,14 @@ module _ (J : Joint) (f : Frame) where
                       ap (λ (k : ℕ). J .parties * k) (spent-next (wordsOf (J .circuit))),
                     );
                 used = used-next;
+                checks = checks-next;
                 given =
                     omega (
                       arith,
                       d .given,
                       due-is .given,
                       spent-next outputOf,
-                      released-one ops J (stateOf f s held l) r (next-passed ops (J .parties) (J .circuit) (s .point .gate) r (heardIn J f s r held l (due-is .going)) r′ e′),
+                      released-one ops J (stateOf f s held l) r (next-passed (J .circuit) (s .point .gate) r (endsIn J f s r held l (due-is .going)) r′ e′),
                     );
               }
 
@@ -236,8 +250,8 @@ module _ (J : Joint) (f : Frame) where
               long-t = transcript-length ∙ inv .long-t;
               long-o = outputs-length ∙ inv .long-o;
               excess = d .moved .excess ∙ inv .excess;
-              words = written-more (inv .words) (said ops J (inv .st) r) (d .moved .transcript ∙ ap (λ (w : List ℕ). writtenAt (s .written) w t) said-is) (d .moved .written ∙ ap (λ (w : List ℕ). s .written + length w) said-is);
-              outs = written-more (inv .outs) (released ops J (inv .st) r) (d .outputs ∙ ap (λ (w : List ℕ). writtenAt (s .released) w o) released-is) (d .given ∙ ap (λ (w : List ℕ). s .released + length w) released-is);
+              words = written-more (inv .words) (said ops J (inv .st) r) (rw (← said-is) said-fits) (d .moved .transcript ∙ ap (λ (w : List ℕ). writtenAt (s .written) w t) said-is) (d .moved .written ∙ ap (λ (w : List ℕ). s .written + length w) said-is);
+              outs = written-more (inv .outs) (released ops J (inv .st) r) (rw (← released-is) released-room) (d .outputs ∙ ap (λ (w : List ℕ). writtenAt (s .released) w o) released-is) (d .given ∙ ap (λ (w : List ℕ). s .released + length w) released-is);
               transcript = inv .transcript ∙ ap (λ (x : Run). inv .ws ++ x .transcript) run-is ∙ sym (append-assoc (inv .ws) (said ops J (inv .st) r) _);
               outputs = inv .outputs ∙ ap (λ (x : Run). inv .vs ++ x .outputs) run-is ∙ sym (append-assoc (inv .vs) (released ops J (inv .st) r) _);
               rounds = inv .rounds ∙ ap (λ (x : Run). s .rounds + x .rounds) run-is ∙ omega (arith, d .moved .rounds);
@@ -275,7 +289,11 @@ module _ (J : Joint) (f : Frame) where
       unfolding stateOf
       point-last = ap (λ (x : State). x .point) last-is ∙ sym (inv .alike .point)
 
-      scratch-last : l ≡ joined (J .parties) (whole ops J l₀ .last .scratch) ++ drop (J .parties * scratchSize (layout (J .circuit))) l₀
+      blame-last : whole ops J l₀ .last .blame ≡ Nobody
+      unfolding stateOf
+      blame-last = ap (λ (x : State). x .blame) last-is ∙ sym (inv .alike .blame)
+
+      scratch-last : l ≡ joined (J .parties) (whole ops J l₀ .last .scratch) ++ drop (J .parties * scratchSize (J .parties) (J .circuit)) l₀
       unfolding stateOf
       scratch-last =
           sym (joined-bands (J .parties) (f .scratch) l (omega (arith, inv .long, able .room)))
@@ -284,10 +302,10 @@ module _ (J : Joint) (f : Frame) where
           ∙ ap (λ (k : ℕ). joined (J .parties) (whole ops J l₀ .last .scratch) ++ drop (J .parties * k) l₀) (able .lent .framed .scratch)
 
       -- so the answer tells the end of the whole run, and the lists hold what it leaves
-      pub running-over : {a : JointAnswer} → jointAnswerOf a ≡ E.ended (s .point .stage) (s .point .gate) (s .rounds) → Ran J l₀ t₀ o₀ a l t o
+      pub running-over : {a : JointAnswer} → jointAnswerOf a ≡ E.ended (s .point .stage) (s .point .gate) Nobody (s .rounds) → Ran J l₀ t₀ o₀ a l t o
       running-over e =
           record {
-            answer = rw (point-last, rounds-is) e;
+            answer = rw (point-last, blame-last, rounds-is) e;
             scratch = scratch-last;
             transcript = written-done (inv .words) ∙ ap (λ (x : List ℕ). overwrite x t₀) (sym words-are);
             outputs = written-done (inv .outs) ∙ ap (λ (x : List ℕ). overwrite x o₀) (sym outputs-are);
@@ -298,6 +316,7 @@ pub record Started (s : Course) : Type 0 where
   pub point : s .point ≡ dueAt 0 Own
   pub prep : s .prep ≡ 1
   pub used : s .used ≡ 0
+  pub checks : s .checks ≡ 0
   pub written : s .written ≡ 0
   pub released : s .released ≡ 0
   pub rounds : s .rounds ≡ 0
@@ -356,6 +375,8 @@ module _ (J : Joint) (f : Frame) (l t o : List ℕ) (able : Runnable J f l t o) 
               held = λ i h. zeros mostParties i;
               scratch = λ i h. ap (λ (k : ℕ). band k l i) (able .lent .framed .scratch);
               used = b .used;
+              checks = b .checks;
+              blame = refl;
             };
         left = mostRounds ops J * gates (J .circuit);
         ws = [];
@@ -384,14 +405,19 @@ module _ (J : Joint) (f : Frame) (l t o : List ℕ) (able : Runnable J f l t o) 
                     ready = ready-first;
                     coefficient-count = omega (arith, nothing-drawn, b .used);
                     coefficients-low = able .coefficients-low;
+                    nonce-count = rw no-check (omega arith);
                   };
               fuel = omega (arith, b .rounds);
               rounds = omega (arith, b .rounds, nothing-spent one);
               written = omega (arith, b .written, ap (λ (k : ℕ). J .parties * k) (nothing-spent (wordsOf (J .circuit))));
               used = omega (arith, b .used, nothing-spent (drawsOf (J .circuit)));
+              checks = omega (arith, b .checks, nothing-spent checksOf);
               given = omega (arith, b .released, nothing-spent outputOf);
             });
       }
     where
       nothing-drawn : coefficientsIn (unchecked (J .circuit) (s .point .gate)) Own ≡ 0
       nothing-drawn = unfold coefficientsIn in refl
+
+      no-check : s .checks + commitsIn Own ≡ 0
+      no-check = unfold commitsIn in omega (arith, b .checks)

@@ -12,24 +12,25 @@ use Rattle.field.specs.Words.{size, ops}
 use Rattle.circuit.specs.Gate.{gateSize, gate, gates}
 use Rattle.circuit.specs.Kind.{Owned, Opens, Output, shape, isClass, factor}
 use Rattle.circuit.specs.Count.{total, prepAt, unchecked, uncheckedAfter}
-use Rattle.circuit.specs.Round.{Second, Round, Own, Open, Commit, isCommit, shapeWords, words, coefficientsIn}
+use Rattle.circuit.specs.Round.{Second, Round, Own, Open, Commit, isCommit, isReveal, shapeWords, words, coefficientsIn, commitsIn}
 use Rattle.circuit.specs.Accept.{mostGates}
 use Rattle.circuit.specs.Code.{classOf, shapeOf}
 use Rattle.circuit.specs.declared.Shape as S
 use Rattle.circuit.proofs.KindLaws.{class-is, owned-no-out, opens-no-in, opens-no-out, owned-facts, opens-facts, shape-class, shape-prep, shape-openings, shape-words}
 use Rattle.circuit.proofs.Counts.{unchecked-few}
 use Rattle.circuit.proofs.RoundLaws.{class-at-round}
-use Rattle.protocol.specs.Scratch.{wire}
+use Rattle.protocol.specs.Scratch.{wire, band}
 use Rattle.protocol.specs.Position.{Point, resume}
-use Rattle.protocol.specs.Receive.{heardSum}
+use Rattle.protocol.specs.Receive.{Nobody, passed, heardSum}
 use Rattle.protocol.specs.Holding.{Below, Held}
 use Rattle.protocol.specs.Code.{layoutOf}
 use Rattle.protocol.specs.Ready.{Opening, heardFirst, Named, Hears, Summed}
 use Rattle.protocol.specs.Send.{inputWord}
 use Rattle.protocol.specs.Ask.{mostParties}
-use Rattle.protocol.specs.Joint.{Joint, joined, band}
-use Rattle.protocol.specs.Run.{takes, said, step}
-use Rattle.protocol.proofs.Following.{next-follows, passes-other}
+use Rattle.protocol.specs.Joint.{Joint, joined}
+use Rattle.protocol.specs.Run.{blamed, takes, said, step}
+use Rattle.protocol.proofs.Following.{next-follows}
+use Rattle.protocol.proofs.Marks.{ends-other}
 use Rattle.protocol.proofs.Bands.{band-end}
 use Rattle.protocol.proofs.Gathering.{zeros}
 use Rattle.protocol.proofs.HeardWords.{first-asks, first-found, second-found, output-heard}
@@ -37,33 +38,45 @@ use Rattle.protocol.proofs.Readiness.{input-words, opening-words, output-words}
 use Rattle.joint.specs.declared.Frame.{Frame}
 use Rattle.joint.specs.Code.{Course, Small, Placed, dueAt, stateOf, prepFrom, keyIn, Prepared, Banded, EachBand, rebanded, receivedIn, noneHeld, SettlesAll, settledAll, Going, Moving, Moved}
 use Rattle.joint.proofs.Parties.{undrawn, lent-undrawn, lent-record, lent-key}
-use Rattle.joint.proofs.Going.{within, occurs}
+use Rattle.joint.proofs.Going.{within, occurs, endsIn}
 use Rattle.joint.proofs.Rows.{all-hear}
 use Rattle.joint.proofs.Arrays.{owner-there, owner-few, counted-in, placed-small, placed-on}
 use Rattle.joint.proofs.Later.{resumed-prep}
 use Rattle.joint.proofs.SendTurns.{lentAll, held-zero, openedWords, input-asks, said-input, opening-asks, said-opening, output-asks, said-output}
 use Rattle.joint.proofs.ReceiveTurns.{inputLeft, openingLeft, outputLeft, inputs-ask, inputs-settle, inputs-received, openings-ask, openings-settle, openings-received, outputs-ask, outputs-received}
-use Rattle.joint.proofs.Rounding.{sentAt, heardAt, round-gate, said-low, round-end, round-room, heard-is, sent-to, round-long, round-receives, said-long, round-moved}
+use Rattle.joint.proofs.Rounding.{sentAt, heardAt, round-gate, said-low, round-end, round-room, heard-is, sent-to, round-long, round-receives, said-long, received-step, round-moved}
 
 -- where each party has one word, there are as many as parties
 one-each : (n : ℕ) {k : ℕ} → k ≡ 1 → n ≡ n * k
 one-each n e = rw e (omega arith)
 
-module _ {f : Frame} {s : Course} {c preps inputs coefficients held l : List ℕ} {r : Round} (g : Going (lentAll f c preps inputs coefficients) f s r held l) where
+module _ {f : Frame} {s : Course} {c preps inputs coefficients nonces held l : List ℕ} {r : Round} (g : Going (lentAll f c preps inputs coefficients nonces) f s r held l) where
   -- nobody holds a check share after a round that is no commitment
   pub none-held : isCommit r ≡ false → (i : ℕ) → i < f .parties
-      → Is size (step ops (lentAll f c preps inputs coefficients) (stateOf f s held l) r .held i) (getD noneHeld i 0)
+      → Is size (step ops (lentAll f c preps inputs coefficients nonces) (stateOf f s held l) r .held i) (getD noneHeld i 0)
   none-held e i h = held-zero g e i (zeros mostParties i)
 
   -- which uses no coefficient
-  pub none-taken : isCommit r ≡ false → s .used ≡ s .used + takes ops (lentAll f c preps inputs coefficients) (stateOf f s held l) r
+  pub none-taken : isCommit r ≡ false → s .used ≡ s .used + takes ops (lentAll f c preps inputs coefficients nonces) (stateOf f s held l) r
   unfolding takes stateOf coefficientsIn
   none-taken e = rw e (omega arith)
 
+  -- and begins no check
+  pub none-begun : isCommit r ≡ false → s .checks ≡ s .checks + commitsIn r
+  unfolding commitsIn
+  none-begun e = rw e (omega arith)
+
+  -- a round that is no reveal passes, and names nobody
+  pub quiet-passed : isReveal r ≡ false → passed (endsIn (lentAll f c preps inputs coefficients nonces) f s r held l g) ≡ true
+  quiet-passed e = ap passed (ends-other ops (lentAll f c preps inputs coefficients nonces) (stateOf f s held l) r e)
+
+  pub quiet-named : isReveal r ≡ false → blamed (endsIn (lentAll f c preps inputs coefficients nonces) f s r held l g) ≡ Nobody
+  quiet-named e = ap blamed (ends-other ops (lentAll f c preps inputs coefficients nonces) (stateOf f s held l) r e)
+
 -- a gate's own round, of which m words come back as ws: what it leaves once the bands are those of the definition
-module _ {f : Frame} {s : Course} {c preps inputs coefficients l t : List ℕ} (u : Moving (lentAll f c preps inputs coefficients) f s Own noneHeld l t) where
+module _ {f : Frame} {s : Course} {c preps inputs coefficients nonces l t : List ℕ} (u : Moving (lentAll f c preps inputs coefficients nonces) f s Own noneHeld l t) where
   abbrev J : Joint
-  J = lentAll f c preps inputs coefficients
+  J = lentAll f c preps inputs coefficients nonces
 
   within-gates : s .point .gate < gates c
   within-gates = within J f s Own noneHeld l (u .going)
@@ -92,23 +105,25 @@ module _ {f : Frame} {s : Course} {c preps inputs coefficients l t : List ℕ} (
       omega (arith, shape-prep g _ eg, next-fits, band-end (f .parties) (f .prep) 0 some-parties, lent-key (u .going .lent) .long)
 
   module _ {m : ℕ} (m-is : m ≡ f .parties * words (gate c (s .point .gate)) Own) {ws : List ℕ}
-      (d : ws ≡ said ops (lentAll f c preps inputs coefficients) (stateOf f s noneHeld l) Own) where
+      (d : ws ≡ said ops (lentAll f c preps inputs coefficients nonces) (stateOf f s noneHeld l) Own) where
     own-hears : Hears size (f .parties) c (s .point .gate) Own (heardAt s m t ws)
-    own-hears = all-hear (undrawn J) f s Own (heardAt s m t ws) l (u .going .room) (round-receives u m-is d) some-parties
+    own-hears = all-hear (undrawn J) f s Own (heardAt s m t ws) l (round-receives u m-is d) (round-receives u m-is d 0 some-parties .heard-low) some-parties
 
     own-moved : {l′ : List ℕ} → l′ ≡ rebanded f (receivedIn f (undrawn J) (s .point .gate) l Own (heardAt s m t ws)) l → {s′ : Course}
         → s′ .point ≡ resume c (suc (s .point .gate))
         → s′ .prep ≡ s .prep + shape (gate c (s .point .gate)) .prep
         → s′ .used ≡ s .used
+        → s′ .checks ≡ s .checks
         → s′ .written ≡ s .written + m
         → s′ .rounds ≡ s .rounds + 1
-        → Moved (lentAll f c preps inputs coefficients) f s Own noneHeld l t s′ noneHeld l′ (sentAt s m t ws)
-    own-moved {l′} el at ep eu ew en =
-        round-moved u
+        → Moved (lentAll f c preps inputs coefficients nonces) f s Own noneHeld l t s′ noneHeld l′ (sentAt s m t ws)
+    own-moved {l′} el at ep eu ec ew en =
+        round-moved u _ (received-step u refl (quiet-passed (u .going) refl))
         (subst (λ (z : List ℕ). l′ ≡ rebanded f (receivedIn f (undrawn J) (s .point .gate) l Own z) l) (heard-is u m-is d) el)
-        (next-follows c ops (f .parties) (s .point .gate) _ Own (occurs J f s Own noneHeld l (u .going)) (passes-other ops (f .parties) _ Own refl) at)
+        (quiet-named (u .going) refl)
+        (next-follows c (s .point .gate) _ Own (occurs J f s Own noneHeld l (u .going)) (quiet-passed (u .going) refl) at)
         (ep ∙ omega (arith, u .going .prep-is, next-record) ∙ ap (λ (x : Point). prepAt c (x .gate)) (sym at))
-        refl (none-held (u .going) refl) (eu ∙ none-taken (u .going) refl) (sent-to u m-is d) (ew ∙ omega (arith, said-long u, m-is)) en
+        refl (none-held (u .going) refl) (eu ∙ none-taken (u .going) refl) (ec ∙ none-begun (u .going) refl) (sent-to u m-is d) (ew ∙ omega (arith, said-long u, m-is)) en
 
   -- an in gate
   module _ (cl : shape (gate c (s .point .gate)) .class ≡ Owned) where
@@ -147,7 +162,7 @@ module _ {f : Frame} {s : Course} {c preps inputs coefficients l t : List ℕ} (
           let z : w + 0 ≡ _ = next-waits (owned-no-out cl) ew (sym (owned-facts (gate c (s .point .gate)) cl .openings)) in omega (arith, z)
 
       module _ {ws : List ℕ} (d : ws ≡ joined (f .parties) (λ i. inputWord ops i x (prepFrom f preps (s .prep) i) (getD inputs (getD places i 0) 0) ∷ [])) where
-        input-said : ws ≡ said ops (lentAll f c preps inputs coefficients) (stateOf f s noneHeld l) Own
+        input-said : ws ≡ said ops (lentAll f c preps inputs coefficients nonces) (stateOf f s noneHeld l) Own
         input-said = said-input (u .going) cl placed ex d
 
         pub input-long : length (sentAt s (f .parties) t ws) ≡ length t
@@ -178,9 +193,10 @@ module _ {f : Frame} {s : Course} {c preps inputs coefficients l t : List ℕ} (
                 → s′ .point ≡ resume c (suc (s .point .gate))
                 → s′ .prep ≡ s .prep + g .prep
                 → s′ .used ≡ s .used
+                → s′ .checks ≡ s .checks
                 → s′ .written ≡ s .written + f .parties
                 → s′ .rounds ≡ s .rounds + 1
-                → Moved (lentAll f c preps inputs coefficients) f s Own noneHeld l t s′ noneHeld (settledAll f c preps l₁ (s .point .gate + 1)) (sentAt s (f .parties) t ws)
+                → Moved (lentAll f c preps inputs coefficients nonces) f s Own noneHeld l t s′ noneHeld (settledAll f c preps l₁ (s .point .gate + 1)) (sentAt s (f .parties) t ws)
             input-moved at ep =
                 own-moved each-one input-said
                 (inputs-received f s c preps inputs l (heardAt s (f .parties) t ws) (lent-undrawn (u .going .lent)) (u .going .room) (round-receives u each-one input-said) cl (heard-first .below) el
@@ -224,7 +240,7 @@ module _ {f : Frame} {s : Course} {c preps inputs coefficients l t : List ℕ} (
       opening-sends = opening-asks (u .going) cl named (take (s .written + f .parties * g .openings - s .written) (drop (s .written) t)) (round-room u each-words)
 
       module _ {ws : List ℕ} (d : ws ≡ joined (f .parties) (openedWords f preps l (s .prep) x z (g .openings))) where
-        opening-said : ws ≡ said ops (lentAll f c preps inputs coefficients) (stateOf f s noneHeld l) Own
+        opening-said : ws ≡ said ops (lentAll f c preps inputs coefficients nonces) (stateOf f s noneHeld l) Own
         opening-said = said-opening (u .going) cl named d
 
         pub opening-long : length (sentAt s (f .parties * g .openings) t ws) ≡ length t
@@ -264,17 +280,18 @@ module _ {f : Frame} {s : Course} {c preps inputs coefficients l t : List ℕ} (
                 → s′ .point ≡ resume c (suc (s .point .gate))
                 → s′ .prep ≡ s .prep + g .prep
                 → s′ .used ≡ s .used
+                → s′ .checks ≡ s .checks
                 → s′ .written ≡ s .written + f .parties * g .openings
                 → s′ .rounds ≡ s .rounds + 1
-                → Moved (lentAll f c preps inputs coefficients) f s Own noneHeld l t s′ noneHeld (settledAll f c preps l₁ (s .point .gate + 1)) (sentAt s (f .parties * g .openings) t ws)
+                → Moved (lentAll f c preps inputs coefficients nonces) f s Own noneHeld l t s′ noneHeld (settledAll f c preps l₁ (s .point .gate + 1)) (sentAt s (f .parties * g .openings) t ws)
             opening-moved at ep =
                 own-moved each-words opening-said
                 (openings-received f s c preps inputs l (heardAt s (f .parties * g .openings) t ws) (lent-undrawn (u .going .lent)) (u .going .room) (round-receives u each-words opening-said) cl named summed opened-is refl)
                 at (ep ∙ ap (λ (k : ℕ). s .prep + k) (shape-prep g _ eg))
 
 -- the opening of an output
-module _ {f : Frame} {s : Course} {c preps inputs coefficients l t : List ℕ}
-    (u : Moving (lentAll f c preps inputs coefficients) f s Open noneHeld l t) where
+module _ {f : Frame} {s : Course} {c preps inputs coefficients nonces l t : List ℕ}
+    (u : Moving (lentAll f c preps inputs coefficients nonces) f s Open noneHeld l t) where
   is-out : shape (gate c (s .point .gate)) .class ≡ Output
   is-out = class-at-round c (s .point .gate) Open (occurs _ f _ Open noneHeld l (u .going))
 
@@ -295,14 +312,14 @@ module _ {f : Frame} {s : Course} {c preps inputs coefficients l t : List ℕ}
     show-sends = output-asks (u .going) ex (take (s .written + f .parties - s .written) (drop (s .written) t)) (round-room u shown-each)
 
     module _ {ws : List ℕ} (d : ws ≡ joined (f .parties) (λ i. wire (layoutOf (f .layout)) (band (f .scratch) l i) x .share ∷ [])) where
-      said-is : ws ≡ said ops (lentAll f c preps inputs coefficients) (stateOf f s noneHeld l) Open
+      said-is : ws ≡ said ops (lentAll f c preps inputs coefficients nonces) (stateOf f s noneHeld l) Open
       said-is = said-output (u .going) ex d
 
       pub show-long : length (sentAt s (f .parties) t ws) ≡ length t
       show-long = round-long u shown-each said-is
 
-      pub show-sums : (0 < 1) × (f .parties * 1 ≤ length (heardAt s (f .parties) t ws)) × Below size (heardAt s (f .parties) t ws)
-      show-sums = rw (heard-is u shown-each said-is) (omega arith, omega (arith, said-long u, shown-each), said-low u)
+      pub show-sums : (0 < 1) × (f .parties * 1 ≤ length (heardAt s (f .parties) t ws)) × ((i : ℕ) → i < f .parties → getD (heardAt s (f .parties) t ws) (i * 1 + 0) 0 < size)
+      show-sums = rw (heard-is u shown-each said-is) (omega arith, omega (arith, said-long u, shown-each), λ i h. said-low u (i * 1 + 0))
 
       pub show-asks : Banded f l × (0 < f .layout .capacity) × EachBand f l (λ i m. Held size (layoutOf (f .layout)) m x)
       show-asks =
@@ -316,18 +333,19 @@ module _ {f : Frame} {s : Course} {c preps inputs coefficients l t : List ℕ}
             ∙ ap (λ (k : ℕ). heardSum ops (f .parties) k 0 (heardAt s (f .parties) t ws)) (sym one-word)
             ∙ sym (output-heard ops (f .parties) (heardAt s (f .parties) t ws) Open (gate c (s .point .gate)) is-out)
 
-        left-is : l₁ ≡ rebanded f (receivedIn f (undrawn (lentAll f c preps inputs coefficients)) (s .point .gate) l Open (heardAt s (f .parties) t ws)) l
+        left-is : l₁ ≡ rebanded f (receivedIn f (undrawn (lentAll f c preps inputs coefficients nonces)) (s .point .gate) l Open (heardAt s (f .parties) t ws)) l
         left-is =
             outputs-received f s c preps inputs l (heardAt s (f .parties) t ws) (lent-undrawn (u .going .lent)) (u .going .room)
             (round-receives u shown-each said-is) ex shown-is el
 
-        pub show-moved : {s′ : Course} → s′ .point ≡ dueAt (s .point .gate) (Commit Second) → s′ .prep ≡ s .prep → s′ .used ≡ s .used
+        pub show-moved : {s′ : Course} → s′ .point ≡ dueAt (s .point .gate) (Commit Second) → s′ .prep ≡ s .prep → s′ .used ≡ s .used → s′ .checks ≡ s .checks
             → s′ .written ≡ s .written + f .parties
             → s′ .rounds ≡ s .rounds + 1
-            → Moved (lentAll f c preps inputs coefficients) f s Open noneHeld l t s′ noneHeld l₁ (sentAt s (f .parties) t ws)
-        show-moved at ep eu ew en =
-            round-moved u
-            (subst (λ (z : List ℕ). l₁ ≡ rebanded f (receivedIn f (undrawn (lentAll f c preps inputs coefficients)) (s .point .gate) l Open z) l) (heard-is u shown-each said-is) left-is)
-            (next-follows c ops (f .parties) (s .point .gate) _ Open (occurs _ f _ Open noneHeld l (u .going)) (passes-other ops (f .parties) _ Open refl) at)
-            (ep ∙ u .going .prep-is ∙ ap (λ (x : Point). prepAt c (x .gate)) (sym at)) refl (none-held (u .going) refl) (eu ∙ none-taken (u .going) refl) (sent-to u shown-each said-is)
+            → Moved (lentAll f c preps inputs coefficients nonces) f s Open noneHeld l t s′ noneHeld l₁ (sentAt s (f .parties) t ws)
+        show-moved at ep eu ec ew en =
+            round-moved u _ (received-step u refl (quiet-passed (u .going) refl))
+            (subst (λ (z : List ℕ). l₁ ≡ rebanded f (receivedIn f (undrawn (lentAll f c preps inputs coefficients nonces)) (s .point .gate) l Open z) l) (heard-is u shown-each said-is) left-is)
+            (quiet-named (u .going) refl)
+            (next-follows c (s .point .gate) _ Open (occurs _ f _ Open noneHeld l (u .going)) (quiet-passed (u .going) refl) at)
+            (ep ∙ u .going .prep-is ∙ ap (λ (x : Point). prepAt c (x .gate)) (sym at)) refl (none-held (u .going) refl) (eu ∙ none-taken (u .going) refl) (ec ∙ none-begun (u .going) refl) (sent-to u shown-each said-is)
             (ew ∙ omega (arith, said-long u, shown-each)) en

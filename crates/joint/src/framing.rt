@@ -56,7 +56,7 @@ pub fn starts_of(parties: usize, c: &[Word], count: usize) -> [usize; 8]
 
 // The frame of a circuit of count gates, all of whose runs take those totals.
 pub fn frame_of(parties: usize, c: &[Word], count: usize, totals: Totals) -> Frame
-    requires { ⌜ Valid parties size (now c) × (count ≡ gates (now c)) × Totalled (now c) count totals ⌝ }
+    requires { ⌜ Valid parties size (now c) × (parties ≤ mostParties) × (count ≡ gates (now c)) × Totalled (now c) count totals ⌝ }
     ensures { λ r. ⌜ Framed parties (now (c .entry)) r ⌝ }
 {
     let layout = Layout {
@@ -66,7 +66,7 @@ pub fn frame_of(parties: usize, c: &[Word], count: usize, totals: Totals) -> Fra
     Frame {
         parties,
         layout,
-        scratch: protocol::size_of(layout),
+        scratch: protocol::size_of(parties, layout),
         prep: totals.prep,
     }
 }

@@ -6,16 +6,18 @@ use field::Word;
 ghost use mathlib.Core.Path.{_≡_};
 ghost use mathlib.Core.Bool.{true};
 ghost use Prim.Native.Nat.{_+_, _-_, _*_, _<_};
+ghost use lib.ListN.{length};
 ghost use Rattle.field.specs.Words.{size, ops};
 ghost use Rattle.circuit.specs.Gate.{gateOf};
 ghost use Rattle.circuit.specs.Kind.{Local, kindShape, isClass};
+ghost use Rattle.circuit.specs.Round.{commitWords};
 ghost use Rattle.circuit.specs.Code.{kindOf};
 ghost use Rattle.protocol.specs.Position.{reach};
 ghost use Rattle.protocol.specs.Receive.{afterInput, afterOpening, afterOpenOutput, afterLinear, settle};
 ghost use Rattle.protocol.specs.Holding.{Held, Reads};
 ghost use Rattle.protocol.specs.Code.{layoutOf};
-ghost use Rattle.protocol.specs.Ready.{Opening, Settles};
-ghost use Rattle.protocol.specs.Joint.{band};
+ghost use Rattle.protocol.specs.Ready.{Opening};
+ghost use Rattle.protocol.specs.Scratch.{band, putMarks};
 ghost use Rattle.joint.specs.Code.{prepFrom, keyIn, Prepared, Banded, EachBand, rebanded, SettlesAll, settledAll};
 
 // In gate j, whose record stands at number at of each party's preprocessing; e is the owner's word.
@@ -102,6 +104,22 @@ pub fn receive_outputs(f: Frame, x: usize, scratch: &mut [Word], e: Word)
     while i < f.parties {
         let end = start + f.scratch;
         steps::receiving::after_open_output(f.layout, &mut scratch[start..end], x, e);
+        start = end;
+        i += 1;
+    }
+}
+
+// A commitment, whose words are the marks of all.
+pub fn receive_marks(f: Frame, scratch: &mut [Word], marks: &[Word])
+    requires { ⌜ Banded f (now scratch) × (length (now marks) ≡ f .parties * commitWords) ⌝ }
+    ensures { λ r. ⌜ now (scratch .exit)
+        ≡ rebanded f (λ i. putMarks (layoutOf (f .layout)) (band (f .scratch) (now (scratch .entry)) i) (now (marks .entry))) (now (scratch .entry)) ⌝ }
+{
+    let mut start = 0;
+    let mut i = 0;
+    while i < f.parties {
+        let end = start + f.scratch;
+        steps::scratch::put_marks(&mut scratch[start..end], f.layout, marks);
         start = end;
         i += 1;
     }

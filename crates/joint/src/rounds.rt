@@ -6,25 +6,21 @@ use crate::Stop;
 use crate::receiving;
 use crate::sending;
 use circuit::Shape;
+use circuit::rounds::COMMIT_WORDS;
+use circuit::rounds::NONCE_SIZE;
+use circuit::rounds::REVEAL_WORDS;
 use field::Word;
+use protocol::Blame;
 use protocol::Slot;
 ghost use mathlib.Core.Path.{_≡_};
-ghost use Prim.Native.Nat.{ℕ, suc, _+_, _*_, _<_, _≤_};
-ghost use lib.ListN.{length};
-ghost use Rattle.algebra.specs.Element.{Is};
-ghost use Rattle.field.specs.Words.{size, ops};
+ghost use Prim.Native.Nat.{suc, _+_};
 ghost use Rattle.circuit.specs.Gate.{gate};
 ghost use Rattle.circuit.specs.Kind.{Owned, Opens, shape};
 ghost use Rattle.circuit.specs.Count.{unchecked};
-ghost use Rattle.circuit.specs.Round.{Second, Own, Open, Commit, revealWords};
+ghost use Rattle.circuit.specs.Round.{Second, Own, Open, Commit};
 ghost use Rattle.circuit.specs.Code.{shapeOf};
 ghost use Rattle.protocol.specs.Position.{resume};
-ghost use Rattle.protocol.specs.Receive.{heardSum};
-ghost use Rattle.protocol.specs.Send.{mark};
-ghost use Rattle.protocol.specs.Holding.{Below, Opened};
-ghost use Rattle.protocol.specs.Code.{layoutOf};
-ghost use Rattle.protocol.specs.Ask.{mostParties};
-ghost use Rattle.joint.specs.Code.{jointOf, Placed, courseOf, dueAt, Prepared, Banded, EachBand, Common, shareIn, each, writtenAt, Moving, Moved, noneHeld, Passed, Kept, SettlesAll, settledAll, Runnable, Ran};
+ghost use Rattle.joint.specs.Code.{jointOf, Placed, courseOf, dueAt, Moving, Moved, noneHeld, Passed, Kept, Checks, Checked, SettlesAll, settledAll, Runnable, Ran};
 
 // The round of an in gate, which has the shape g; each party's next input is at its place.
 fn input_round(
@@ -37,14 +33,15 @@ fn input_round(
     places: &mut [usize],
     scratch: &mut [Word],
     coefficients: &[Word],
+    nonces: &[u8],
     transcript: &mut [Word],
 ) -> Stop
-    requires { ⌜ Moving (jointOf (f .parties) (now c) (now preps) (now inputs) (now coefficients)) f (courseOf (dueAt (s .gate) Own) s) Own noneHeld (now scratch) (now transcript)
+    requires { ⌜ Moving (jointOf (f .parties) (now c) (now preps) (now inputs) (now coefficients) (now nonces)) f (courseOf (dueAt (s .gate) Own) s) Own noneHeld (now scratch) (now transcript)
         × (shapeOf g ≡ shape (gate (now c) (s .gate)))
         × (shape (gate (now c) (s .gate)) .class ≡ Owned)
         × (s .waiting ≡ unchecked (now c) (s .gate))
         × Placed (f .parties) (now c) (s .gate) (now places) ⌝ }
-    ensures { λ r. ⌜ Moved (jointOf (f .parties) (now (c .entry)) (now (preps .entry)) (now (inputs .entry)) (now (coefficients .entry))) f (courseOf (dueAt (s .gate) Own) s) Own noneHeld (now (scratch .entry)) (now (transcript .entry)) (courseOf (resume (now (c .entry)) (suc (s .gate))) r) noneHeld (settledAll f (now (c .entry)) (now (preps .entry)) (now (scratch .exit)) (s .gate + 1)) (now (transcript .exit))
+    ensures { λ r. ⌜ Moved (jointOf (f .parties) (now (c .entry)) (now (preps .entry)) (now (inputs .entry)) (now (coefficients .entry)) (now (nonces .entry))) f (courseOf (dueAt (s .gate) Own) s) Own noneHeld (now (scratch .entry)) (now (transcript .entry)) (courseOf (resume (now (c .entry)) (suc (s .gate))) r) noneHeld (settledAll f (now (c .entry)) (now (preps .entry)) (now (scratch .exit)) (s .gate + 1)) (now (transcript .exit))
         × Kept s r
         × Passed (now (c .entry)) s r
         × SettlesAll f (now (c .entry)) (now (preps .entry)) (now (scratch .exit)) (s .gate + 1)
@@ -72,6 +69,7 @@ fn input_round(
         prep: s.prep + g.prep,
         waiting: s.waiting,
         used: s.used,
+        checks: s.checks,
         written: end,
         released: s.released,
         rounds: s.rounds + 1,
@@ -88,13 +86,14 @@ fn opening_round(
     inputs: &[Word],
     scratch: &mut [Word],
     coefficients: &[Word],
+    nonces: &[u8],
     transcript: &mut [Word],
 ) -> Stop
-    requires { ⌜ Moving (jointOf (f .parties) (now c) (now preps) (now inputs) (now coefficients)) f (courseOf (dueAt (s .gate) Own) s) Own noneHeld (now scratch) (now transcript)
+    requires { ⌜ Moving (jointOf (f .parties) (now c) (now preps) (now inputs) (now coefficients) (now nonces)) f (courseOf (dueAt (s .gate) Own) s) Own noneHeld (now scratch) (now transcript)
         × (shapeOf g ≡ shape (gate (now c) (s .gate)))
         × (shape (gate (now c) (s .gate)) .class ≡ Opens)
         × (s .waiting ≡ unchecked (now c) (s .gate)) ⌝ }
-    ensures { λ r. ⌜ Moved (jointOf (f .parties) (now (c .entry)) (now (preps .entry)) (now (inputs .entry)) (now (coefficients .entry))) f (courseOf (dueAt (s .gate) Own) s) Own noneHeld (now (scratch .entry)) (now (transcript .entry)) (courseOf (resume (now (c .entry)) (suc (s .gate))) r) noneHeld (settledAll f (now (c .entry)) (now (preps .entry)) (now (scratch .exit)) (s .gate + 1)) (now (transcript .exit))
+    ensures { λ r. ⌜ Moved (jointOf (f .parties) (now (c .entry)) (now (preps .entry)) (now (inputs .entry)) (now (coefficients .entry)) (now (nonces .entry))) f (courseOf (dueAt (s .gate) Own) s) Own noneHeld (now (scratch .entry)) (now (transcript .entry)) (courseOf (resume (now (c .entry)) (suc (s .gate))) r) noneHeld (settledAll f (now (c .entry)) (now (preps .entry)) (now (scratch .exit)) (s .gate + 1)) (now (transcript .exit))
         × Kept s r
         × Passed (now (c .entry)) s r
         × SettlesAll f (now (c .entry)) (now (preps .entry)) (now (scratch .exit)) (s .gate + 1) ⌝ }
@@ -133,6 +132,7 @@ fn opening_round(
         prep: s.prep + g.prep,
         waiting: s.waiting + k,
         used: s.used,
+        checks: s.checks,
         written: end,
         released: s.released,
         rounds: s.rounds + 1,
@@ -148,10 +148,11 @@ fn show_round(
     inputs: &[Word],
     scratch: &mut [Word],
     coefficients: &[Word],
+    nonces: &[u8],
     transcript: &mut [Word],
 ) -> Stop
-    requires { ⌜ Moving (jointOf (f .parties) (now c) (now preps) (now inputs) (now coefficients)) f (courseOf (dueAt (s .gate) Open) s) Open noneHeld (now scratch) (now transcript) ⌝ }
-    ensures { λ r. ⌜ Moved (jointOf (f .parties) (now (c .entry)) (now (preps .entry)) (now (inputs .entry)) (now (coefficients .entry))) f (courseOf (dueAt (s .gate) Open) s) Open noneHeld (now (scratch .entry)) (now (transcript .entry)) (courseOf (dueAt (s .gate) (Commit Second)) r) noneHeld (now (scratch .exit)) (now (transcript .exit))
+    requires { ⌜ Moving (jointOf (f .parties) (now c) (now preps) (now inputs) (now coefficients) (now nonces)) f (courseOf (dueAt (s .gate) Open) s) Open noneHeld (now scratch) (now transcript) ⌝ }
+    ensures { λ r. ⌜ Moved (jointOf (f .parties) (now (c .entry)) (now (preps .entry)) (now (inputs .entry)) (now (coefficients .entry)) (now (nonces .entry))) f (courseOf (dueAt (s .gate) Open) s) Open noneHeld (now (scratch .entry)) (now (transcript .entry)) (courseOf (dueAt (s .gate) (Commit Second)) r) noneHeld (now (scratch .exit)) (now (transcript .exit))
         × Kept s r
         × (r .gate ≡ s .gate)
         × (r .prep ≡ s .prep) ⌝ }
@@ -167,57 +168,41 @@ fn show_round(
         prep: s.prep,
         waiting: s.waiting,
         used: s.used,
+        checks: s.checks,
         written: end,
         released: s.released,
         rounds: s.rounds + 1,
     }
 }
 
-// Both rounds of a check of the first k opened entries, whose coefficients start at u: the marks of all into the transcript from start on,
-// and then their check shares. The sum of these.
+// Both rounds of a check of the first k opened entries: the marks of all go to the transcript and, with each party's nonce, to the scratch; then
+// what they reveal goes to the transcript. The sum of the check shares, which alone decides: that each reveal fits its mark is proved, and not asked.
 fn check(
     f: Frame,
     k: usize,
-    u: usize,
-    start: usize,
+    s: Stop,
     preps: &[Word],
-    scratch: &[Word],
+    scratch: &mut [Word],
     coefficients: &[Word],
+    nonces: &[u8],
     transcript: &mut [Word],
 ) -> Word
-    requires { ⌜ (f .parties ≤ mostParties)
-        × Prepared f (now preps) 0 1
-        × Banded f (now scratch)
-        × (u + k ≤ length (now coefficients))
-        × Below size (now coefficients)
-        × EachBand f (now scratch) (λ i l. (t : ℕ) → t < k → Opened size (layoutOf (f .layout)) l t)
-        × (0 < f .parties)
-        × (0 < layoutOf (f .layout) .capacity)
-        × Common f (now scratch) k
-        × (start + f .parties + f .parties ≤ length (now transcript)) ⌝ }
-    ensures { λ e. ⌜ (now (transcript .exit)
-        ≡ writtenAt (start + f .parties) (each (f .parties) (shareIn f (now (preps .entry)) (now (scratch .entry)) k u (now (coefficients .entry))))
-        (writtenAt start (each (f .parties) (λ i. mark)) (now (transcript .entry))))
-        × Is size (heardSum ops (f .parties) revealWords 0 (each (f .parties) (shareIn f (now (preps .entry)) (now (scratch .entry)) k u (now (coefficients .entry))))) e ⌝ }
+    requires { ⌜ Checks f (now preps) (now scratch) k (s .used) (now coefficients) (s .checks) (now nonces) (s .written) (now transcript) ⌝ }
+    ensures { λ e. ⌜ Checked f (now (preps .entry)) (now (scratch .entry)) k (s .used) (now (coefficients .entry)) (s .checks) (now (nonces .entry)) (s .written) (now (transcript .entry)) e (now (scratch .exit)) (now (transcript .exit)) ⌝ }
 {
-    let middle = start + f.parties;
-    let end = middle + f.parties;
-    sending::put_marks(f.parties, &mut transcript[start..middle]);
-    sending::check_shares(
-        f,
-        k,
-        u,
-        preps,
-        scratch,
-        coefficients,
-        &mut transcript[middle..end],
-    );
-    steps::receiving::heard_sum(
-        f.parties,
-        circuit::rounds::REVEAL_WORDS,
-        0,
-        &transcript[middle..end],
-    )
+    let n = f.parties;
+    let first = s.checks * n * NONCE_SIZE;
+    let last = first + n * NONCE_SIZE;
+    let start = s.written;
+    let middle = start + n * COMMIT_WORDS;
+    let end = middle + n * REVEAL_WORDS;
+    let mut held = [0u32; 8];
+    sending::check_shares(f, k, s.used, preps, scratch, coefficients, &mut held[0..n]);
+    sending::put_nonces(f, &nonces[first..last], scratch);
+    sending::commit_words(f, &held, scratch, &mut transcript[start..middle]);
+    receiving::receive_marks(f, scratch, &transcript[start..middle]);
+    sending::reveal_words(f, &held, scratch, &mut transcript[middle..end]);
+    steps::receiving::heard_sum(n, REVEAL_WORDS, 0, &transcript[middle..end])
 }
 
 // Gate after gate, until a check stops the run or no gate is left. Each party's next input is at its place. The linear gates after a gate belong
@@ -230,18 +215,20 @@ pub fn run(
     inputs: &[Word],
     scratch: &mut [Word],
     coefficients: &[Word],
+    nonces: &[u8],
     transcript: &mut [Word],
     outputs: &mut [Word],
 ) -> JointAnswer
-    requires { ⌜ Runnable (jointOf (f .parties) (now c) (now preps) (now inputs) (now coefficients)) f (now scratch) (now transcript) (now outputs)
+    requires { ⌜ Runnable (jointOf (f .parties) (now c) (now preps) (now inputs) (now coefficients) (now nonces)) f (now scratch) (now transcript) (now outputs)
         × Placed (f .parties) (now c) 0 (now places) ⌝ }
-    ensures { λ a. ⌜ Ran (jointOf (f .parties) (now (c .entry)) (now (preps .entry)) (now (inputs .entry)) (now (coefficients .entry))) (now (scratch .entry)) (now (transcript .entry)) (now (outputs .entry)) a (now (scratch .exit)) (now (transcript .exit)) (now (outputs .exit)) ⌝ }
+    ensures { λ a. ⌜ Ran (jointOf (f .parties) (now (c .entry)) (now (preps .entry)) (now (inputs .entry)) (now (coefficients .entry)) (now (nonces .entry))) (now (scratch .entry)) (now (transcript .entry)) (now (outputs .entry)) a (now (scratch .exit)) (now (transcript .exit)) (now (outputs .exit)) ⌝ }
 {
     let mut s = Stop {
         gate: 0,
         prep: 1,
         waiting: 0,
         used: 0,
+        checks: 0,
         written: 0,
         released: 0,
         rounds: 0,
@@ -266,12 +253,24 @@ pub fn run(
                 places,
                 scratch,
                 coefficients,
+                nonces,
                 transcript,
             );
             continue;
         }
         if circuit::shapes::opens(class) {
-            s = opening_round(f, s, g, c, preps, inputs, scratch, coefficients, transcript);
+            s = opening_round(
+                f,
+                s,
+                g,
+                c,
+                preps,
+                inputs,
+                scratch,
+                coefficients,
+                nonces,
+                transcript,
+            );
             continue;
         }
         let waiting = s.waiting;
@@ -279,17 +278,18 @@ pub fn run(
             let sum = check(
                 f,
                 waiting,
-                s.used,
-                s.written,
+                s,
                 preps,
                 scratch,
                 coefficients,
+                nonces,
                 transcript,
             );
             let made = s.rounds + 2;
             if sum != 0 {
                 return JointAnswer::Aborted {
                     gate: j,
+                    blame: Blame::Nobody,
                     rounds: made,
                 };
             }
@@ -298,27 +298,33 @@ pub fn run(
                 prep: s.prep,
                 waiting: 0,
                 used: s.used + waiting,
-                written: s.written + f.parties + f.parties,
+                checks: s.checks + 1,
+                written: s.written + f.parties * COMMIT_WORDS + f.parties * REVEAL_WORDS,
                 released: s.released,
                 rounds: made,
             };
             s = next;
             continue;
         }
-        s = show_round(f, s, c, preps, inputs, scratch, coefficients, transcript);
-        let e = check(
+        s = show_round(
             f,
-            1,
-            s.used,
-            s.written,
+            s,
+            c,
             preps,
+            inputs,
             scratch,
             coefficients,
+            nonces,
             transcript,
         );
+        let e = check(f, 1, s, preps, scratch, coefficients, nonces, transcript);
         let rounds = s.rounds + 2;
         if e != 0 {
-            return JointAnswer::Aborted { gate: j, rounds };
+            return JointAnswer::Aborted {
+                gate: j,
+                blame: Blame::Nobody,
+                rounds,
+            };
         }
         let w = f.scratch;
         let at = s.released;
@@ -328,7 +334,8 @@ pub fn run(
             prep: s.prep,
             waiting: 0,
             used: s.used + 1,
-            written: s.written + f.parties + f.parties,
+            checks: s.checks + 1,
+            written: s.written + f.parties * COMMIT_WORDS + f.parties * REVEAL_WORDS,
             released: at + 1,
             rounds,
         };

@@ -1,6 +1,9 @@
 // What all parties send: a loop for each sort of word, in which each party gets its own part of the joined lists. Nothing is
 // asked here: what is needed is what the entry has asked.
 use crate::Frame;
+use circuit::rounds::COMMIT_WORDS;
+use circuit::rounds::NONCE_SIZE;
+use circuit::rounds::REVEAL_WORDS;
 use field::Word;
 use steps::Ends;
 use steps::Sums;
@@ -10,14 +13,16 @@ ghost use Prim.Native.Nat.{ℕ, _+_, _-_, _*_, _<_, _≤_};
 ghost use lib.ListN.{length, getD};
 ghost use Rattle.algebra.specs.Element.{Is};
 ghost use Rattle.field.specs.Words.{ops, size};
-ghost use Rattle.protocol.specs.Scratch.{wire};
+ghost use Rattle.circuit.specs.Round.{commitWords, nonceSize, revealWords};
+ghost use Rattle.sha256.specs.Sha256.{wordsOf};
+ghost use Rattle.protocol.specs.Scratch.{wire, band, putNonce};
 ghost use Rattle.protocol.specs.Send.{mark, inputWord, openingWords};
 ghost use Rattle.protocol.specs.Receive.{heardSum};
 ghost use Rattle.protocol.specs.Holding.{Below, Held, Opened};
 ghost use Rattle.protocol.specs.Code.{layoutOf};
 ghost use Rattle.protocol.specs.Ask.{mostParties};
-ghost use Rattle.protocol.specs.Joint.{joined, band};
-ghost use Rattle.joint.specs.Code.{prepFrom, Prepared, Banded, EachBand, Common, shareIn};
+ghost use Rattle.protocol.specs.Joint.{joined};
+ghost use Rattle.joint.specs.Code.{prepFrom, Prepared, Banded, EachBand, rebanded, Common, shareIn, revealedBy};
 
 // Each party's word of an in gate into out. Its record stands at number at of each party's preprocessing, and each party's next input at its
 // place.
@@ -115,18 +120,6 @@ pub fn output_words(f: Frame, x: usize, scratch: &[Word], out: &mut [Word])
     }
 }
 
-// The mark of each party into out.
-pub fn put_marks(parties: usize, out: &mut [Word])
-    requires { ⌜ (parties ≤ mostParties) × (length (now out) ≡ parties) ⌝ }
-    ensures { λ r. ⌜ now (out .exit) ≡ joined parties (λ i. mark ∷ []) ⌝ }
-{
-    let mut i = 0;
-    while i < parties {
-        out[i] = steps::sending::MARK;
-        i += 1;
-    }
-}
-
 // Each party's check share over the first k opened entries, whose coefficients start at u, into out. The opened values are the same to all, so
 // that their sum is made once.
 pub fn check_shares(
@@ -167,6 +160,64 @@ pub fn check_shares(
             &coefficients[u..v],
         );
         out[i] = h;
+        i += 1;
+    }
+}
+
+// Each party's nonce into its scratch; nonces has those of all.
+pub fn put_nonces(f: Frame, nonces: &[u8], scratch: &mut [Word])
+    requires { ⌜ Banded f (now scratch) × (f .parties * nonceSize ≤ length (now nonces)) ⌝ }
+    ensures { λ r. ⌜ now (scratch .exit)
+        ≡ rebanded f (λ i. putNonce (layoutOf (f .layout)) (band (f .scratch) (now (scratch .entry)) i) (wordsOf (band nonceSize (now (nonces .entry)) i))) (now (scratch .entry)) ⌝ }
+{
+    let mut start = 0;
+    let mut i = 0;
+    while i < f.parties {
+        let end = start + f.scratch;
+        let first = i * NONCE_SIZE;
+        let last = first + NONCE_SIZE;
+        steps::scratch::put_nonce(&mut scratch[start..end], f.layout, &nonces[first..last]);
+        start = end;
+        i += 1;
+    }
+}
+
+// Each party's mark into out; held has the check shares.
+pub fn commit_words(f: Frame, held: &[Word], scratch: &[Word], out: &mut [Word])
+    requires { ⌜ (f .parties ≤ mostParties)
+        × (f .parties ≤ length (now held))
+        × Banded f (now scratch)
+        × (length (now out) ≡ f .parties * commitWords) ⌝ }
+    ensures { λ r. ⌜ now (out .exit) ≡ joined (f .parties) (λ i. mark (revealedBy f (now (held .entry)) (now (scratch .entry)) i)) ⌝ }
+{
+    let mut a = 0;
+    let mut i = 0;
+    while i < f.parties {
+        let b = a + COMMIT_WORDS;
+        let start = i * f.scratch;
+        let end = start + f.scratch;
+        steps::sending::commit_words(held[i], &scratch[start..end], f.layout, &mut out[a..b]);
+        a = b;
+        i += 1;
+    }
+}
+
+// And what each party reveals.
+pub fn reveal_words(f: Frame, held: &[Word], scratch: &[Word], out: &mut [Word])
+    requires { ⌜ (f .parties ≤ mostParties)
+        × (f .parties ≤ length (now held))
+        × Banded f (now scratch)
+        × (length (now out) ≡ f .parties * revealWords) ⌝ }
+    ensures { λ r. ⌜ now (out .exit) ≡ joined (f .parties) (revealedBy f (now (held .entry)) (now (scratch .entry))) ⌝ }
+{
+    let mut a = 0;
+    let mut i = 0;
+    while i < f.parties {
+        let b = a + REVEAL_WORDS;
+        let start = i * f.scratch;
+        let end = start + f.scratch;
+        steps::sending::reveal_words(held[i], &scratch[start..end], f.layout, &mut out[a..b]);
+        a = b;
         i += 1;
     }
 }

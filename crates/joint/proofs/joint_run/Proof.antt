@@ -20,7 +20,7 @@ totals-before-requires c κs = let s = settled _ _ (sym (c .before .before .ask-
 
 frame-of-requires : tie.Need-frame-of-requires
 unfolding verdictOf
-frame-of-requires c κs = let s = settled _ _ (sym (c .before .before .before .ask-setting .ensures) ∙ ap verdictOf (c .before .enum-told .given .1)) in (s .valid, count-is (s .valid), c .totals-before .ensures)
+frame-of-requires c κs = let s = settled _ _ (sym (c .before .before .before .ask-setting .ensures) ∙ ap verdictOf (c .before .enum-told .given .1)) in (s .valid, s .few, count-is (s .valid), c .totals-before .ensures)
 
 ask-lent-requires : tie.Need-ask-lent-requires
 unfolding verdictOf
@@ -28,7 +28,7 @@ ask-lent-requires c κs = let s = settled _ _ (sym (c .before .before .before .b
 
 returns-2 : tie.Need-returns-2
 unfolding verdictOf jointAnswerOf
-returns-2 c = lent-refused _ _ _ _ _ _ _ _ (sym (c .before .before .before .before .before .before .before .before .ask-setting .ensures) ∙ ap verdictOf (c .before .before .before .before .before .before .enum-told .given .1)) _ (c .before .before .before .before .frame-of .ensures) (sym (c .before .before .before .ask-lent .ensures) ∙ ap verdictOf (c .before .number2 .given .1))
+returns-2 c = lent-refused _ _ _ _ _ _ _ _ _ (sym (c .before .before .before .before .before .before .before .before .ask-setting .ensures) ∙ ap verdictOf (c .before .before .before .before .before .before .enum-told .given .1)) _ (c .before .before .before .before .frame-of .ensures) (sym (c .before .before .before .ask-lent .ensures) ∙ ap verdictOf (c .before .number2 .given .1))
 
 starts-of-requires : tie.Need-starts-of-requires
 unfolding verdictOf
@@ -39,11 +39,11 @@ slice-aggregate-run c = sym (c .before .starts-of .ensures .eight)
 
 run-requires : tie.Need-run-requires
 unfolding verdictOf
-run-requires c κs = entry-runs _ _ _ _ _ _ _ _ (sym (c .before .before .before .before .before .before .before .before .before .before .before .before .ask-setting .ensures) ∙ ap verdictOf (c .before .before .before .before .before .before .before .before .before .before .enum-told .given .1)) _ (c .before .before .before .before .before .before .before .before .frame-of .ensures) (sym (c .before .before .before .before .before .before .before .ask-lent .ensures) ∙ ap verdictOf (c .before .before .before .before .before .enum-told2 .given .1)) (c .before .before .before .before .starts-of .ensures)
+run-requires c κs = entry-runs _ _ _ _ _ _ _ _ _ (sym (c .before .before .before .before .before .before .before .before .before .before .before .before .ask-setting .ensures) ∙ ap verdictOf (c .before .before .before .before .before .before .before .before .before .before .enum-told .given .1)) _ (c .before .before .before .before .before .before .before .before .frame-of .ensures) (sym (c .before .before .before .before .before .before .before .ask-lent .ensures) ∙ ap verdictOf (c .before .before .before .before .before .enum-told2 .given .1)) (c .before .before .before .before .starts-of .ensures)
 
 returns-3 : tie.Need-returns-3
 unfolding verdictOf
-returns-3 c = entry-left _ _ _ _ _ _ _ _ (sym (c .before .before .before .before .before .before .before .before .before .before .before .before .before .before .before .before .before .before .before .before .ask-setting .ensures) ∙ ap verdictOf (c .before .before .before .before .before .before .before .before .before .before .before .before .before .before .before .before .before .before .enum-told .given .1)) _ (c .before .before .before .before .before .before .before .before .before .before .before .before .before .before .before .before .frame-of .ensures) (sym (c .before .before .before .before .before .before .before .before .before .before .before .before .before .before .before .ask-lent .ensures) ∙ ap verdictOf (c .before .before .before .before .before .before .before .before .before .before .before .before .before .enum-told2 .given .1)) (c .before .before .before .before .before .before .before .run .ensures)
+returns-3 c = entry-left _ _ _ _ _ _ _ _ _ (sym (c .before .before .before .before .before .before .before .before .before .before .before .before .before .before .before .before .before .before .before .before .ask-setting .ensures) ∙ ap verdictOf (c .before .before .before .before .before .before .before .before .before .before .before .before .before .before .before .before .before .before .enum-told .given .1)) _ (c .before .before .before .before .before .before .before .before .before .before .before .before .before .before .before .before .frame-of .ensures) (sym (c .before .before .before .before .before .before .before .before .before .before .before .before .before .before .before .ask-lent .ensures) ∙ ap verdictOf (c .before .before .before .before .before .before .before .before .before .before .before .before .before .enum-told2 .given .1)) (c .before .before .before .before .before .before .before .run .ensures)
 
 pub joint-run-spec : {M : Type 1} → statement M
 joint-run-spec =

@@ -1,4 +1,4 @@
--- `printing::words_of` meets its contract: a round has two words a party at most.
+-- `printing::words_of` meets its contract: a round has nine words a party at most.
 -- Assumes nothing.
 use native.Mathlib.Omega.{arith}
 use native.Mathlib.Nat.{mul-le-mul-left}
@@ -10,7 +10,7 @@ use Rattle.printing.proofs.words_of.Tie as tie
 
 mul-result : tie.Need-mul-result
 mul-result c =
-    let few : c .words-in .result ≤ 2 = rw (c .words-in .ensures, c .before .shape-of .ensures) (few-words _ _) in
+    let few : c .words-in .result ≤ 9 = rw (c .words-in .ensures, c .before .shape-of .ensures) (few-words _ _) in
     omega (arith, mul-le-mul-left (c .before .before .args .parties) few)
 
 pub words-of-spec : {M : Type 1} → statement M

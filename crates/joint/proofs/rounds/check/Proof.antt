@@ -1,46 +1,106 @@
--- `joint::rounds::check` meets its contract: the marks are put, then the check shares, and these are summed.
+-- `joint::rounds::check` meets its contract: each party's nonce is noted, the marks are put and received, and then what is revealed is put and summed.
 -- Assumes nothing.
+use mathlib.Core.Path.{sym}
 use borrow.Author.Needs.{needs}
 use denote.Ref.{now}
 use native.Mathlib.Omega.{arith}
-use Rattle.protocol.specs.Send.{mark}
-use Rattle.joint.specs.Code.{shareIn}
-use Rattle.joint.proofs.Checking.{share-low, once-room, twice-to, twice-heard, twice-sums}
+use Rattle.joint.proofs.Checking.{held-room, nonces-end, nonces-cut, words-end, noted-banded, held-count, held-enough, marked-long, heard-long, reveal-room, marked-banded, revealed-long, reveals-sum, checked, checked-scratch}
+use Rattle.joint.proofs.Rounding.{part-long}
 use Rattle.joint.proofs.rounds.check.Statement.{statement}
 use Rattle.joint.proofs.rounds.check.Tie as tie
 
+mul-first : tie.Need-mul-first
+mul-first c = omega (arith, c .before .before .before .before .before .before .good, nonces-end (c .before .before .before .before .before .before .args .f .parties) (c .before .before .before .before .before .before .args .s .checks) (now (c .before .before .before .before .before .before .args .nonces)) (c .before .before .before .before .before .before .pre .nonce-count))
+
+mul-first-2 : tie.Need-mul-first-2
+mul-first-2 c = omega (arith, c .before .before .before .before .before .before .good, nonces-end (c .before .before .before .before .before .before .args .f .parties) (c .before .before .before .before .before .before .args .s .checks) (now (c .before .before .before .before .before .before .args .nonces)) (c .before .before .before .before .before .before .pre .nonce-count))
+
+mul-last : tie.Need-mul-last
+mul-last c = omega (arith, c .before .before .before .before .before .before .good, nonces-end (c .before .before .before .before .before .before .args .f .parties) (c .before .before .before .before .before .before .args .s .checks) (now (c .before .before .before .before .before .before .args .nonces)) (c .before .before .before .before .before .before .pre .nonce-count))
+
+add-last : tie.Need-add-last
+add-last c = omega (arith, c .before .before .before .before .before .before .good, nonces-end (c .before .before .before .before .before .before .args .f .parties) (c .before .before .before .before .before .before .args .s .checks) (now (c .before .before .before .before .before .before .args .nonces)) (c .before .before .before .before .before .before .pre .nonce-count))
+
+mul-middle : tie.Need-mul-middle
+mul-middle c = omega (arith, c .before .before .before .before .before .before .good, c .before .before .before .before .before .before .pre .words-fit)
+
+add-middle : tie.Need-add-middle
+add-middle c = omega (arith, c .before .before .before .before .before .before .good, c .before .before .before .before .before .before .pre .words-fit)
+
+mul-end : tie.Need-mul-end
+mul-end c = omega (arith, c .before .before .before .before .before .before .good, c .before .before .before .before .before .before .pre .words-fit)
+
+add-end : tie.Need-add-end
+add-end c = omega (arith, c .before .before .before .before .before .before .good, c .before .before .before .before .before .before .pre .words-fit)
+
+part-held-end : tie.Need-part-held-end
+part-held-end c = omega (arith, c .before .before .before .before .before .before .before .pre .few)
+
 check-shares-requires : tie.Need-check-shares-requires
-check-shares-requires c κs = (c .before .before .before .before .before .before .before .before .before .before .before .pre .0, c .before .before .before .before .before .before .before .before .before .before .before .pre .1, c .before .before .before .before .before .before .before .before .before .before .before .pre .2, c .before .before .before .before .before .before .before .before .before .before .before .pre .3, c .before .before .before .before .before .before .before .before .before .before .before .pre .4, c .before .before .before .before .before .before .before .before .before .before .before .pre .5, c .before .before .before .before .before .before .before .before .before .before .before .pre .6, c .before .before .before .before .before .before .before .before .before .before .before .pre .7, c .before .before .before .before .before .before .before .before .before .before .before .pre .8, once-room (now (c .before .before .before .before .before .before .before .before .before .before .before .args .transcript)) (c .before .before .before .before .before .before .before .before .before .before .before .args .start) (c .before .before .before .before .before .before .before .before .before .before .before .args .f .parties) (c .before .before .before .before .before .before .before .before .before .before .before .pre .9) (λ i. mark) (shareIn (c .before .before .before .before .before .before .before .before .before .before .before .args .f) (now (c .before .before .before .before .before .before .before .before .before .before .before .args .preps)) (now (c .before .before .before .before .before .before .before .before .before .before .before .args .scratch)) (c .before .before .before .before .before .before .before .before .before .before .before .args .k) (c .before .before .before .before .before .before .before .before .before .before .before .args .u) (now (c .before .before .before .before .before .before .before .before .before .before .before .args .coefficients))) (c .before .before .before .put-marks .ensures))
+check-shares-requires c κs = (c .before .before .before .before .before .before .before .before .pre .few, c .before .before .before .before .before .before .before .before .pre .keys, c .before .before .before .before .before .before .before .before .pre .banded, c .before .before .before .before .before .before .before .before .pre .coefficient-count, c .before .before .before .before .before .before .before .before .pre .coefficients-low, c .before .before .before .before .before .before .before .before .pre .opened, c .before .before .before .before .before .before .before .before .pre .some, c .before .before .before .before .before .before .before .before .pre .entries, c .before .before .before .before .before .before .before .before .pre .common, held-room (c .before .before .before .before .before .before .before .before .args .f .parties) (c .before .before .before .before .before .before .before .before .pre .few))
+
+part-put-nonces-end : tie.Need-part-put-nonces-end
+part-put-nonces-end c = nonces-end (c .before .before .before .before .before .before .before .before .before .before .args .f .parties) (c .before .before .before .before .before .before .before .before .before .before .args .s .checks) (now (c .before .before .before .before .before .before .before .before .before .before .args .nonces)) (c .before .before .before .before .before .before .before .before .before .before .pre .nonce-count)
+
+put-nonces-requires : tie.Need-put-nonces-requires
+put-nonces-requires c κs = (c .before .before .before .before .before .before .before .before .before .before .before .before .pre .banded, nonces-cut (c .before .before .before .before .before .before .before .before .before .before .before .before .args .f .parties) (c .before .before .before .before .before .before .before .before .before .before .before .before .args .s .checks) (now (c .before .before .before .before .before .before .before .before .before .before .before .before .args .nonces)) (c .before .before .before .before .before .before .before .before .before .before .before .before .pre .nonce-count))
+
+slice-aggregate-commit-words : tie.Need-slice-aggregate-commit-words
+slice-aggregate-commit-words c = sym (held-count (c .before .before .before .before .before .before .before .before .before .before .before .before .before .before .before .before .pre) (c .before .before .before .put-nonces .ensures) (c .before .before .before .before .before .before .before .check-shares .ensures))
+
+mul-commit-words : tie.Need-mul-commit-words
+mul-commit-words c = omega (arith, c .before .before .before .before .before .before .before .before .before .before .before .before .before .before .before .before .before .good, c .before .before .before .before .before .before .before .before .before .before .before .before .before .before .before .before .before .pre .words-fit)
+
+part-commit-words-end : tie.Need-part-commit-words-end
+part-commit-words-end c = words-end (c .before .before .before .before .before .before .before .before .before .before .before .before .before .before .before .before .before .pre)
+
+commit-words-requires : tie.Need-commit-words-requires
+commit-words-requires c κs = (c .before .before .before .before .before .before .before .before .before .before .before .before .before .before .before .before .before .before .pre .few, held-enough (c .before .before .before .before .before .before .before .before .before .before .before .before .before .before .before .before .before .before .pre) (c .before .before .before .before .before .put-nonces .ensures) (c .before .before .before .before .before .before .before .before .before .check-shares .ensures), noted-banded (c .before .before .before .before .before .before .before .before .before .before .before .before .before .before .before .before .before .before .pre) (c .before .before .before .before .before .put-nonces .ensures), part-long _ _ (now (c .before .before .before .before .before .before .before .before .before .before .before .before .before .before .before .before .before .before .args .transcript)) (words-end (c .before .before .before .before .before .before .before .before .before .before .before .before .before .before .before .before .before .before .pre)))
+
+mul-receive-marks : tie.Need-mul-receive-marks
+mul-receive-marks c = omega (arith, c .before .before .before .before .before .before .before .before .before .before .before .before .before .before .before .before .before .before .before .before .before .before .good, c .before .before .before .before .before .before .before .before .before .before .before .before .before .before .before .before .before .before .before .before .before .before .pre .words-fit, marked-long (c .before .before .before .before .before .before .before .before .before .before .before .before .before .before .before .before .before .before .before .before .before .before .pre) (c .before .before .before .before .before .before .before .before .before .put-nonces .ensures) (c .before .before .before .before .before .before .before .before .before .before .before .before .before .check-shares .ensures) (c .before .before .before .commit-words .ensures))
+
+part-receive-marks-end : tie.Need-part-receive-marks-end
+part-receive-marks-end c = omega (arith, marked-long (c .before .before .before .before .before .before .before .before .before .before .before .before .before .before .before .before .before .before .before .before .before .before .before .pre) (c .before .before .before .before .before .before .before .before .before .before .put-nonces .ensures) (c .before .before .before .before .before .before .before .before .before .before .before .before .before .before .check-shares .ensures) (c .before .before .before .before .commit-words .ensures), words-end (c .before .before .before .before .before .before .before .before .before .before .before .before .before .before .before .before .before .before .before .before .before .before .before .pre))
+
+receive-marks-requires : tie.Need-receive-marks-requires
+receive-marks-requires c κs = (noted-banded (c .before .before .before .before .before .before .before .before .before .before .before .before .before .before .before .before .before .before .before .before .before .before .before .before .pre) (c .before .before .before .before .before .before .before .before .before .before .before .put-nonces .ensures), heard-long (c .before .before .before .before .before .before .before .before .before .before .before .before .before .before .before .before .before .before .before .before .before .before .before .before .pre) (c .before .before .before .before .before .before .before .before .before .before .before .put-nonces .ensures) (c .before .before .before .before .before .before .before .before .before .before .before .before .before .before .before .check-shares .ensures) (c .before .before .before .before .before .commit-words .ensures))
+
+slice-aggregate-reveal-words : tie.Need-slice-aggregate-reveal-words
+slice-aggregate-reveal-words c = sym (held-count (c .before .before .before .before .before .before .before .before .before .before .before .before .before .before .before .before .before .before .before .before .before .before .before .before .before .before .before .before .pre) (c .before .before .before .before .before .before .before .before .before .before .before .before .before .before .before .put-nonces .ensures) (c .before .before .before .before .before .before .before .before .before .before .before .before .before .before .before .before .before .before .before .check-shares .ensures))
+
+mul-reveal-words : tie.Need-mul-reveal-words
+mul-reveal-words c = omega (arith, c .before .before .before .before .before .before .before .before .before .before .before .before .before .before .before .before .before .before .before .before .before .before .before .before .before .before .before .before .before .good, c .before .before .before .before .before .before .before .before .before .before .before .before .before .before .before .before .before .before .before .before .before .before .before .before .before .before .before .before .before .pre .words-fit, marked-long (c .before .before .before .before .before .before .before .before .before .before .before .before .before .before .before .before .before .before .before .before .before .before .before .before .before .before .before .before .before .pre) (c .before .before .before .before .before .before .before .before .before .before .before .before .before .before .before .before .put-nonces .ensures) (c .before .before .before .before .before .before .before .before .before .before .before .before .before .before .before .before .before .before .before .before .check-shares .ensures) (c .before .before .before .before .before .before .before .before .before .before .commit-words .ensures))
+
+part-reveal-words-end : tie.Need-part-reveal-words-end
+part-reveal-words-end c = omega (arith, marked-long (c .before .before .before .before .before .before .before .before .before .before .before .before .before .before .before .before .before .before .before .before .before .before .before .before .before .before .before .before .before .pre) (c .before .before .before .before .before .before .before .before .before .before .before .before .before .before .before .before .put-nonces .ensures) (c .before .before .before .before .before .before .before .before .before .before .before .before .before .before .before .before .before .before .before .before .check-shares .ensures) (c .before .before .before .before .before .before .before .before .before .before .commit-words .ensures), c .before .before .before .before .before .before .before .before .before .before .before .before .before .before .before .before .before .before .before .before .before .before .before .before .before .before .before .before .before .pre .words-fit)
+
+reveal-words-requires : tie.Need-reveal-words-requires
+reveal-words-requires c κs = (c .before .before .before .before .before .before .before .before .before .before .before .before .before .before .before .before .before .before .before .before .before .before .before .before .before .before .before .before .before .before .pre .few, held-enough (c .before .before .before .before .before .before .before .before .before .before .before .before .before .before .before .before .before .before .before .before .before .before .before .before .before .before .before .before .before .before .pre) (c .before .before .before .before .before .before .before .before .before .before .before .before .before .before .before .before .before .put-nonces .ensures) (c .before .before .before .before .before .before .before .before .before .before .before .before .before .before .before .before .before .before .before .before .before .check-shares .ensures), marked-banded (c .before .before .before .before .before .before .before .before .before .before .before .before .before .before .before .before .before .before .before .before .before .before .before .before .before .before .before .before .before .before .pre) (c .before .before .before .before .before .before .before .before .before .before .before .before .before .before .before .before .before .put-nonces .ensures) (c .before .before .before .before .before .before .before .before .before .before .before .before .before .before .before .before .before .before .before .before .before .check-shares .ensures) (c .before .before .before .before .before .before .before .before .before .before .before .commit-words .ensures) (c .before .before .before .before .before .receive-marks .ensures), reveal-room (c .before .before .before .before .before .before .before .before .before .before .before .before .before .before .before .before .before .before .before .before .before .before .before .before .before .before .before .before .before .before .pre) (c .before .before .before .before .before .before .before .before .before .before .before .before .before .before .before .before .before .put-nonces .ensures) (c .before .before .before .before .before .before .before .before .before .before .before .before .before .before .before .before .before .before .before .before .before .check-shares .ensures) (c .before .before .before .before .before .before .before .before .before .before .before .commit-words .ensures))
 
 mul-heard-sum : tie.Need-mul-heard-sum
-mul-heard-sum c = omega (arith, c .before .before .before .before .before .before .before .before .before .before .before .before .before .before .good, c .before .before .before .before .before .before .before .before .before .before .before .before .before .before .pre .9)
+mul-heard-sum c = omega (arith, c .before .before .before .before .before .before .before .before .before .before .before .before .before .before .before .before .before .before .before .before .before .before .before .before .before .before .before .before .before .before .before .before .before .good, c .before .before .before .before .before .before .before .before .before .before .before .before .before .before .before .before .before .before .before .before .before .before .before .before .before .before .before .before .before .before .before .before .before .pre .words-fit, revealed-long (c .before .before .before .before .before .before .before .before .before .before .before .before .before .before .before .before .before .before .before .before .before .before .before .before .before .before .before .before .before .before .before .before .before .pre) (c .before .before .before .before .before .before .before .before .before .before .before .before .before .before .before .before .before .before .before .before .put-nonces .ensures) (c .before .before .before .before .before .before .before .before .before .before .before .before .before .before .before .before .before .before .before .before .before .before .before .before .check-shares .ensures) (c .before .before .before .before .before .before .before .before .before .before .before .before .before .before .commit-words .ensures) (c .before .before .before .before .before .before .before .before .receive-marks .ensures) (c .before .before .reveal-words .ensures))
+
+part-heard-sum-end : tie.Need-part-heard-sum-end
+part-heard-sum-end c = omega (arith, c .before .before .before .before .before .before .before .before .before .before .before .before .before .before .before .before .before .before .before .before .before .before .before .before .before .before .before .before .before .before .before .before .before .before .pre .words-fit, revealed-long (c .before .before .before .before .before .before .before .before .before .before .before .before .before .before .before .before .before .before .before .before .before .before .before .before .before .before .before .before .before .before .before .before .before .before .pre) (c .before .before .before .before .before .before .before .before .before .before .before .before .before .before .before .before .before .before .before .before .before .put-nonces .ensures) (c .before .before .before .before .before .before .before .before .before .before .before .before .before .before .before .before .before .before .before .before .before .before .before .before .before .check-shares .ensures) (c .before .before .before .before .before .before .before .before .before .before .before .before .before .before .before .commit-words .ensures) (c .before .before .before .before .before .before .before .before .before .receive-marks .ensures) (c .before .before .before .reveal-words .ensures))
 
 heard-sum-requires : tie.Need-heard-sum-requires
-heard-sum-requires c κs = twice-sums (now (c .before .before .before .before .before .before .before .before .before .before .before .before .before .before .before .before .args .transcript)) (c .before .before .before .before .before .before .before .before .before .before .before .before .before .before .before .before .args .start) (c .before .before .before .before .before .before .before .before .before .before .before .before .before .before .before .before .args .f .parties) (c .before .before .before .before .before .before .before .before .before .before .before .before .before .before .before .before .pre .9) (λ i. mark) (shareIn (c .before .before .before .before .before .before .before .before .before .before .before .before .before .before .before .before .args .f) (now (c .before .before .before .before .before .before .before .before .before .before .before .before .before .before .before .before .args .preps)) (now (c .before .before .before .before .before .before .before .before .before .before .before .before .before .before .before .before .args .scratch)) (c .before .before .before .before .before .before .before .before .before .before .before .before .before .before .before .before .args .k) (c .before .before .before .before .before .before .before .before .before .before .before .before .before .before .before .before .args .u) (now (c .before .before .before .before .before .before .before .before .before .before .before .before .before .before .before .before .args .coefficients))) (c .before .before .before .before .before .before .before .before .put-marks .ensures) (c .before .before .before .before .check-shares .ensures) (share-low (c .before .before .before .before .before .before .before .before .before .before .before .before .before .before .before .before .args .f) (now (c .before .before .before .before .before .before .before .before .before .before .before .before .before .before .before .before .args .preps)) (now (c .before .before .before .before .before .before .before .before .before .before .before .before .before .before .before .before .args .scratch)) (c .before .before .before .before .before .before .before .before .before .before .before .before .before .before .before .before .args .k) (c .before .before .before .before .before .before .before .before .before .before .before .before .before .before .before .before .args .u) (now (c .before .before .before .before .before .before .before .before .before .before .before .before .before .before .before .before .args .coefficients)))
+heard-sum-requires c κs = reveals-sum (c .before .before .before .before .before .before .before .before .before .before .before .before .before .before .before .before .before .before .before .before .before .before .before .before .before .before .before .before .before .before .before .before .before .before .before .pre) (c .before .before .before .before .before .before .before .before .before .before .before .before .before .before .before .before .before .before .before .before .before .before .put-nonces .ensures) (c .before .before .before .before .before .before .before .before .before .before .before .before .before .before .before .before .before .before .before .before .before .before .before .before .before .before .check-shares .ensures) (c .before .before .before .before .before .before .before .before .before .before .before .before .before .before .before .before .commit-words .ensures) (c .before .before .before .before .before .before .before .before .before .before .receive-marks .ensures) (c .before .before .before .before .reveal-words .ensures)
+
+same-length : tie.Need-same-length
+same-length c = checked-scratch (checked (c .before .before .before .before .before .before .before .before .before .before .before .before .before .before .before .before .before .before .before .before .before .before .before .before .before .before .before .before .before .before .before .before .before .before .before .before .pre) (c .before .before .before .before .before .before .before .before .before .before .before .before .before .before .before .before .before .before .before .before .before .before .before .put-nonces .ensures) (c .before .before .before .before .before .before .before .before .before .before .before .before .before .before .before .before .before .before .before .before .before .before .before .before .before .before .before .check-shares .ensures) (c .before .before .before .before .before .before .before .before .before .before .before .before .before .before .before .before .before .commit-words .ensures) (c .before .before .before .before .before .before .before .before .before .before .before .receive-marks .ensures) (c .before .before .before .before .before .reveal-words .ensures) (c .heard-sum .ensures)) (c .before .before .before .before .before .before .before .before .before .before .before .before .before .before .before .before .before .before .before .before .before .before .before .before .before .before .before .before .before .before .before .before .before .before .before .before .pre .banded)
+
+same-length-2 : tie.Need-same-length-2
+same-length-2 c = revealed-long (c .before .before .before .before .before .before .before .before .before .before .before .before .before .before .before .before .before .before .before .before .before .before .before .before .before .before .before .before .before .before .before .before .before .before .before .before .pre) (c .before .before .before .before .before .before .before .before .before .before .before .before .before .before .before .before .before .before .before .before .before .before .before .put-nonces .ensures) (c .before .before .before .before .before .before .before .before .before .before .before .before .before .before .before .before .before .before .before .before .before .before .before .before .before .before .before .check-shares .ensures) (c .before .before .before .before .before .before .before .before .before .before .before .before .before .before .before .before .before .commit-words .ensures) (c .before .before .before .before .before .before .before .before .before .before .before .receive-marks .ensures) (c .before .before .before .before .before .reveal-words .ensures)
 
 returns : tie.Need-returns
-returns c = (twice-to (now (c .before .before .before .before .before .before .before .before .before .before .before .before .before .before .before .before .before .args .transcript)) (c .before .before .before .before .before .before .before .before .before .before .before .before .before .before .before .before .before .args .start) (c .before .before .before .before .before .before .before .before .before .before .before .before .before .before .before .before .before .args .f .parties) (c .before .before .before .before .before .before .before .before .before .before .before .before .before .before .before .before .before .pre .9) (λ i. mark) (shareIn (c .before .before .before .before .before .before .before .before .before .before .before .before .before .before .before .before .before .args .f) (now (c .before .before .before .before .before .before .before .before .before .before .before .before .before .before .before .before .before .args .preps)) (now (c .before .before .before .before .before .before .before .before .before .before .before .before .before .before .before .before .before .args .scratch)) (c .before .before .before .before .before .before .before .before .before .before .before .before .before .before .before .before .before .args .k) (c .before .before .before .before .before .before .before .before .before .before .before .before .before .before .before .before .before .args .u) (now (c .before .before .before .before .before .before .before .before .before .before .before .before .before .before .before .before .before .args .coefficients))) (c .before .before .before .before .before .before .before .before .before .put-marks .ensures) (c .before .before .before .before .before .check-shares .ensures), rw (twice-heard (now (c .before .before .before .before .before .before .before .before .before .before .before .before .before .before .before .before .before .args .transcript)) (c .before .before .before .before .before .before .before .before .before .before .before .before .before .before .before .before .before .args .start) (c .before .before .before .before .before .before .before .before .before .before .before .before .before .before .before .before .before .args .f .parties) (c .before .before .before .before .before .before .before .before .before .before .before .before .before .before .before .before .before .pre .9) (λ i. mark) (shareIn (c .before .before .before .before .before .before .before .before .before .before .before .before .before .before .before .before .before .args .f) (now (c .before .before .before .before .before .before .before .before .before .before .before .before .before .before .before .before .before .args .preps)) (now (c .before .before .before .before .before .before .before .before .before .before .before .before .before .before .before .before .before .args .scratch)) (c .before .before .before .before .before .before .before .before .before .before .before .before .before .before .before .before .before .args .k) (c .before .before .before .before .before .before .before .before .before .before .before .before .before .before .before .before .before .args .u) (now (c .before .before .before .before .before .before .before .before .before .before .before .before .before .before .before .before .before .args .coefficients))) (c .before .before .before .before .before .before .before .before .before .put-marks .ensures) (c .before .before .before .before .before .check-shares .ensures)) at (c .heard-sum .ensures))
+returns c = checked (c .before .before .before .before .before .before .before .before .before .before .before .before .before .before .before .before .before .before .before .before .before .before .before .before .before .before .before .before .before .before .before .before .before .before .before .before .pre) (c .before .before .before .before .before .before .before .before .before .before .before .before .before .before .before .before .before .before .before .before .before .before .before .put-nonces .ensures) (c .before .before .before .before .before .before .before .before .before .before .before .before .before .before .before .before .before .before .before .before .before .before .before .before .before .before .before .check-shares .ensures) (c .before .before .before .before .before .before .before .before .before .before .before .before .before .before .before .before .before .commit-words .ensures) (c .before .before .before .before .before .before .before .before .before .before .before .receive-marks .ensures) (c .before .before .before .before .before .reveal-words .ensures) (c .heard-sum .ensures)
 
 pub check-spec : {M : Type 1} → statement M
 check-spec =
     tie.close
-    (tie.spec
-    (λ c. search needs)
-    (λ c. search needs)
-    (λ c. search needs)
-    (λ c. search needs)
-    (λ c. search needs)
-    (λ c. search needs)
-    (λ c κs. search needs)
-    (λ c. search needs)
-    (λ c. search needs)
-    (λ c. search needs)
-    (λ c. search needs)
-    check-shares-requires
-    mul-heard-sum
-    (λ c. search needs)
-    (λ c. search needs)
-    (λ c. search needs)
-    heard-sum-requires
-    (λ c. search needs)
-    returns)
+    (tie.spec mul-first mul-first-2 mul-last add-last mul-middle add-middle mul-end add-end (λ c. search needs) (λ c. search needs) part-held-end
+    check-shares-requires (λ c. search needs) (λ c. search needs) part-put-nonces-end put-nonces-requires slice-aggregate-commit-words mul-commit-words
+    (λ c. search needs) (λ c. search needs) part-commit-words-end commit-words-requires mul-receive-marks (λ c. search needs) (λ c. search needs)
+    part-receive-marks-end receive-marks-requires slice-aggregate-reveal-words mul-reveal-words (λ c. search needs) (λ c. search needs) part-reveal-words-end
+    reveal-words-requires mul-heard-sum (λ c. search needs) (λ c. search needs) part-heard-sum-end heard-sum-requires same-length same-length-2 returns)

@@ -9,31 +9,31 @@ use Rattle.joint.proofs.rounds.show_round.Statement.{statement}
 use Rattle.joint.proofs.rounds.show_round.Tie as tie
 
 first-at-requires : tie.Need-first-at-requires
-first-at-requires c κs = round-gate (c .before .before .before .before .before .before .before .pre)
+first-at-requires c κs = round-gate (c .before .before .before .before .before .before .before .before .pre)
 
 part-output-words-end : tie.Need-part-output-words-end
-part-output-words-end c = show-end (c .before .before .before .before .before .before .before .before .before .pre)
+part-output-words-end c = show-end (c .before .before .before .before .before .before .before .before .before .before .pre)
 
 output-words-requires : tie.Need-output-words-requires
-output-words-requires c κs = show-sends (c .before .before .before .before .before .before .before .before .before .before .pre) (c .before .before .first-at .ensures)
+output-words-requires c κs = show-sends (c .before .before .before .before .before .before .before .before .before .before .before .pre) (c .before .before .first-at .ensures)
 
 mul-heard-sum : tie.Need-mul-heard-sum
-mul-heard-sum c = omega (arith, c .before .before .before .before .before .before .before .before .before .before .before .before .before .good, show-end (c .before .before .before .before .before .before .before .before .before .before .before .before .before .pre), show-long (c .before .before .before .before .before .before .before .before .before .before .before .before .before .pre) (c .before .before .before .before .before .first-at .ensures) (c .before .before .output-words .ensures))
+mul-heard-sum c = omega (arith, c .before .before .before .before .before .before .before .before .before .before .before .before .before .before .good, show-end (c .before .before .before .before .before .before .before .before .before .before .before .before .before .before .pre), show-long (c .before .before .before .before .before .before .before .before .before .before .before .before .before .before .pre) (c .before .before .before .before .before .first-at .ensures) (c .before .before .output-words .ensures))
 
 part-heard-sum-end : tie.Need-part-heard-sum-end
-part-heard-sum-end c = omega (arith, show-end (c .before .before .before .before .before .before .before .before .before .before .before .before .before .before .pre), show-long (c .before .before .before .before .before .before .before .before .before .before .before .before .before .before .pre) (c .before .before .before .before .before .before .first-at .ensures) (c .before .before .before .output-words .ensures))
+part-heard-sum-end c = omega (arith, show-end (c .before .before .before .before .before .before .before .before .before .before .before .before .before .before .before .pre), show-long (c .before .before .before .before .before .before .before .before .before .before .before .before .before .before .before .pre) (c .before .before .before .before .before .before .first-at .ensures) (c .before .before .before .output-words .ensures))
 
 heard-sum-requires : tie.Need-heard-sum-requires
-heard-sum-requires c κs = show-sums (c .before .before .before .before .before .before .before .before .before .before .before .before .before .before .before .pre) (c .before .before .before .before .before .before .before .first-at .ensures) (c .before .before .before .before .output-words .ensures)
+heard-sum-requires c κs = show-sums (c .before .before .before .before .before .before .before .before .before .before .before .before .before .before .before .before .pre) (c .before .before .before .before .before .before .before .first-at .ensures) (c .before .before .before .before .output-words .ensures)
 
 receive-outputs-requires : tie.Need-receive-outputs-requires
-receive-outputs-requires c κs = show-asks (c .before .before .before .before .before .before .before .before .before .before .before .before .before .before .before .before .before .pre) (c .before .before .before .before .before .before .before .before .before .first-at .ensures) (c .before .before .before .before .before .before .output-words .ensures)
+receive-outputs-requires c κs = show-asks (c .before .before .before .before .before .before .before .before .before .before .before .before .before .before .before .before .before .before .pre) (c .before .before .before .before .before .before .before .before .before .first-at .ensures) (c .before .before .before .before .before .before .output-words .ensures)
 
-add-t18 : tie.Need-add-t18
-add-t18 c = omega (arith, c .before .before .before .before .before .before .before .before .before .before .before .before .before .before .before .before .before .before .before .before .before .pre .rounds-few, c .before .before .before .before .before .before .before .before .before .before .before .before .before .before .before .before .before .before .before .before .before .pre .going .lent .valid .few)
+add-t19 : tie.Need-add-t19
+add-t19 c = omega (arith, c .before .before .before .before .before .before .before .before .before .before .before .before .before .before .before .before .before .before .before .before .before .before .pre .rounds-few, c .before .before .before .before .before .before .before .before .before .before .before .before .before .before .before .before .before .before .before .before .before .before .pre .going .lent .valid .few)
 
 returns : tie.Need-returns
-returns c = (show-moved (c .before .before .before .before .before .before .before .before .before .before .before .before .before .before .before .before .before .before .before .before .before .pre) (c .before .before .before .before .before .before .before .before .before .before .before .before .before .first-at .ensures) (c .before .before .before .before .before .before .before .before .before .before .output-words .ensures) (c .before .before .before .before .before .heard-sum .ensures) (c .before .before .before .receive-outputs .ensures) refl refl refl refl refl, record { used = refl; released = refl }, refl, refl)
+returns c = (show-moved (c .before .before .before .before .before .before .before .before .before .before .before .before .before .before .before .before .before .before .before .before .before .before .pre) (c .before .before .before .before .before .before .before .before .before .before .before .before .before .first-at .ensures) (c .before .before .before .before .before .before .before .before .before .before .output-words .ensures) (c .before .before .before .before .before .heard-sum .ensures) (c .before .before .before .receive-outputs .ensures) refl refl refl refl refl refl, record { used = refl; released = refl }, refl, refl)
 
 pub show-round-spec : {M : Type 1} → statement M
 show-round-spec =
@@ -52,7 +52,7 @@ show-round-spec =
     part-heard-sum-end
     heard-sum-requires
     receive-outputs-requires
-    add-t18
+    add-t19
     (λ c. search needs)
     (λ c. search needs)
     returns)

@@ -4,9 +4,8 @@ use Prim.Native.Nat.{ℕ, _-_}
 use mathlib.Core.Path.{refl, ap}
 use mathlib.Core.List.{[], _∷_}
 use native.Mathlib.Omega.{arith}
-use Rattle.protocol.specs.Scratch.{wire}
+use Rattle.protocol.specs.Scratch.{wire, band}
 use Rattle.protocol.specs.Code.{layoutOf}
-use Rattle.protocol.specs.Joint.{band}
 use Rattle.joint.proofs.Cutting.{band-fits, band-is, band-room}
 use Rattle.steps.proofs.Numbers.{share-of}
 use Rattle.protocol.proofs.Filling.{Filled, filled-start}
