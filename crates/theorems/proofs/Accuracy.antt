@@ -32,6 +32,7 @@ use Rattle.theorems.specs.Premises.{Honest, after}
 use Rattle.theorems.specs.Accuracy.{Accurate, theKey, openAfter}
 use Rattle.theorems.specs.Abort.{Fails}
 use Rattle.protocol.proofs.Said.{length-said}
+use Rattle.protocol.proofs.Tails.{nonce-room}
 use Rattle.theorems.proofs.Given.{Given, given-honest}
 use Rattle.theorems.proofs.Closed.{Opening, Shown, every-at, keys, sumOf, wires, opened, openedValue, accurate, CarriesOpened}
 use Rattle.theorems.proofs.Closed.{carries-shown}
@@ -39,6 +40,7 @@ use Rattle.theorems.proofs.Holds.{Holds}
 use Rattle.protocol.proofs.Points.{FitsStage, sending, spentStage, spent, doneStage, done, goes-start, goes-resume, follow-stays}
 use Rattle.protocol.proofs.Points.{follow-leaves, spent-follow}
 use Rattle.theorems.proofs.Sent.{revealed-sum}
+use Rattle.theorems.proofs.Sealing.{Kept, kept-room, kept-after}
 use Rattle.theorems.proofs.Honest.{underCheck, pending, length-pending, Inv, HoldsAt, fits-at, holds-at, checks-at}
 use Rattle.theorems.proofs.Honest.{carries-pending, passing, point-step, inv-step, inv-begun}
 use Rattle.theorems.proofs.Runs.{Idle, longer, first as firstly, last-first, first-longer, first-idle, after-step, after-idle}
@@ -64,14 +66,18 @@ module _ {O : Ops} (F : Field O) (J : Joint) (scratch : List ℕ) (honest : Hone
   abbrev state : ℕ → State
   state k = after O J scratch k
 
-  -- The invariant holds after any number of rounds.
+  -- A run keeps what it keeps on any preprocessing ..
+  kept : (k : ℕ) → Kept O J (state k)
+  kept = kept-after O J scratch (honest .enough) (has .valid)
+
+  -- .. and the invariant holds after any number of rounds.
   pub inv-after : (k : ℕ) → Inv O J (state k)
   unfolding after
-  inv-after zero = inv-begun F J has scratch (honest .room)
+  inv-after zero = inv-begun F J has scratch (honest .enough .room)
   inv-after (suc k) = go (state k .point .stage) refl (inv-after k)
     where
       go : (g : Stage) → state k .point .stage ≡ g → Inv O J (state k) → Inv O J (state (suc k))
-      go (Send r) e inv = subst (Inv O J) (sym (after-step O J scratch k r e)) (inv-step F J has (state k) inv r e)
+      go (Send r) e inv = subst (Inv O J) (sym (after-step O J scratch k r e)) (inv-step F J has (state k) (kept k) inv r e)
       go (Receive r) e inv = subst (Inv O J) (sym (after-idle O J scratch k (subst Idle (sym e) tt))) inv
       go Finished e inv = subst (Inv O J) (sym (after-idle O J scratch k (subst Idle (sym e) tt))) inv
       go Aborted e inv = subst (Inv O J) (sym (after-idle O J scratch k (subst Idle (sym e) tt))) inv
@@ -160,14 +166,14 @@ module _ {O : Ops} (F : Field O) (J : Joint) (scratch : List ℕ) (honest : Hone
   -- No check fails.
   no-fail : (k : ℕ) (r : Round) → Fails O J scratch k r → ⊥
   no-fail k r f =
-      f .nonzero (revealed-sum F J (state k) r (f .reveals) ∙ checks-at O J (state k) r (f .sending) (inv-after k) (f .reveals))
+      f .nonzero (revealed-sum F J (state k) r (f .reveals) (kept-room O J (state k) (kept k)) ∙ checks-at O J (state k) r (f .sending) (inv-after k) (f .reveals))
 
   -- So the run finishes.
   finishing : whole O J scratch .last .point ≡ finished (J .circuit)
-  finishing = aborts F J scratch (honest .accepts) .finishes no-fail
+  finishing = aborts O J scratch (honest .accepts) (honest .enough) .finishes no-fail
 
   -- what a round releases, where s is an honest state about to send it
-  module _ (s : State) (inv : Inv O J s) where
+  module _ (s : State) (keeps : Kept O J s) (inv : Inv O J s) where
     -- the gate of the round
     abbrev at : ℕ
     at = s .point .gate
@@ -177,7 +183,7 @@ module _ {O : Ops} (F : Field O) (J : Joint) (scratch : List ℕ) (honest : Hone
         → released O J s (Reveal Second) ≡ value O J (gate (J .circuit) at .first) ∷ []
     unfolding released
     releases-value e k =
-        rw (passing F J has s (Reveal Second) e inv) (ap (λ (v : ℕ). v ∷ []) (stored ∙ shown))
+        rw (passing F J has s (Reveal Second) e keeps inv) (ap (λ (v : ℕ). v ∷ []) (stored ∙ shown))
       where
         held : Holds O J 0 at (Shown (gate (J .circuit) at .first) ∷ []) (s .scratch 0)
         held = unfold pending underCheck in holds-at O J s (Reveal Second) e inv 0 (has .some)
@@ -265,7 +271,7 @@ module _ {O : Ops} (F : Field O) (J : Joint) (scratch : List ℕ) (honest : Hone
             ap (λ (R : Run). R .outputs) (first-longer O J scratch k r e)
             ∙ ap (λ (s : State). firstly O J scratch k .outputs ++ released O J s r) (last-first O J scratch k)
             ∙ ap (λ (l : List ℕ). l ++ released O J (state k) r) (t .given-out ∙ ap (λ (g : Stage). scores O J (doneStage (J .circuit) at-k g)) e)
-            ∙ sym (score-step (state k) (inv-after k) r e)
+            ∙ sym (score-step (state k) (kept k) (inv-after k) r e)
             ∙ ap (λ (p : Point). scores O J (done (J .circuit) p)) (sym place);
       }
     where
@@ -276,7 +282,7 @@ module _ {O : Ops} (F : Field O) (J : Joint) (scratch : List ℕ) (honest : Hone
       fits = fits-at O J (state k) r e (inv-after k)
 
       place : state (suc k) .point ≡ follow (J .circuit) at-k r
-      place = ap (λ (s : State). s .point) (after-step O J scratch k r e) ∙ point-step F J has (state k) (inv-after k) r e
+      place = ap (λ (s : State). s .point) (after-step O J scratch k r e) ∙ point-step F J has (state k) (kept k) (inv-after k) r e
 
       behind : spent (J .circuit) wordsOf (state k .point) ≡ spent (J .circuit) wordsOf (sending at-k r)
       behind = ap (spentStage (J .circuit) wordsOf at-k) e
@@ -289,7 +295,7 @@ module _ {O : Ops} (F : Field O) (J : Joint) (scratch : List ℕ) (honest : Hone
           ap (λ (R : Run). length (R .transcript)) (first-longer O J scratch k r e)
           ∙ length-append (firstly O J scratch k .transcript) (said O J (firstly O J scratch k .last) r)
           ∙ ap (λ (s : State). length (firstly O J scratch k .transcript) + length (said O J s r)) (last-first O J scratch k)
-          ∙ ap (λ (m : ℕ). length (firstly O J scratch k .transcript) + m) (length-said O J (state k) r (fits .1))
+          ∙ ap (λ (m : ℕ). length (firstly O J scratch k .transcript) + m) (length-said O J (state k) r (fits .1) (λ i l. nonce-room (J .parties) (J .circuit) (kept-room O J (state k) (kept k) i l)))
 
   -- Where nothing is sent nothing is told.
   told-idle : (k : ℕ) → Idle (state k .point .stage) → Told k → Told (suc k)

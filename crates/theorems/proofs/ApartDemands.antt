@@ -20,8 +20,9 @@ use Rattle.protocol.specs.Party.{Party}
 use Rattle.protocol.specs.Holding.{Below}
 use Rattle.protocol.specs.Ask.{askLent}
 use Rattle.protocol.proofs.Passing.{lent-passes}
-use Rattle.protocol.specs.Joint.{Joint, joined, band, inputsAt, party}
-use Rattle.protocol.specs.Run.{State, Run, takes}
+use Rattle.protocol.specs.Scratch.{band}
+use Rattle.protocol.specs.Joint.{Joint, joined, inputsAt, party, nonceFor}
+use Rattle.protocol.specs.Run.{State, Run, takes, taken}
 use Rattle.protocol.specs.Good.{Good}
 use Rattle.protocol.specs.Formula.{roundFormula}
 use Rattle.protocol.proofs.Inputs.{inputs-all}
@@ -38,20 +39,20 @@ use Rattle.theorems.proofs.Runs.{first, last-first}
 use Rattle.theorems.proofs.Abort.{whole-first}
 use Rattle.theorems.proofs.Accuracy.{accuracy}
 use Rattle.theorems.proofs.Secrecy.{SameFirst, same-first, secrecy}
-use Rattle.theorems.proofs.Joined.{length-inputs, inputs-joined, passed, circuit-accepted, parties-accepted, circuit-valid, prep-long, inputs-long, scratch-long, bands-room}
-use Rattle.theorems.proofs.Apart.{held-free, together}
+use Rattle.theorems.proofs.Joined.{length-inputs, inputs-joined, passed, circuit-accepted, parties-accepted, circuit-valid, prep-long, inputs-long, scratch-long}
+use Rattle.theorems.proofs.Apart.{enough, held-free, together}
 
-module _ {O : Ops} (F : Field O) (D : Apart) (cs : List ℕ) (ok : Meets O D cs) where
+module _ {O : Ops} (F : Field O) (D : Apart) (cs ns : List ℕ) (ok : Meets O D cs ns) where
   open Ops O using (size)
 
   -- the joint run
   abbrev J : Joint
-  J = jointly D cs
+  J = jointly D cs ns
 
   -- Its number of parties and its circuit are accepted.
   accepts : Accepts O (D .parties) (D .circuit)
   accepts =
-      record { parties = parties-accepted F D cs (ok .some) (ok .lent); circuit = circuit-accepted F D cs (ok .some) (ok .lent) }
+      record { parties = parties-accepted F D cs ns (ok .some) (ok .lent); circuit = circuit-accepted F D cs ns (ok .some) (ok .lent) }
 
   -- The parties' inputs, joined, pass.
   inputs-pass : InputsPass O (D .circuit) (joined (D .parties) (D .inputs))
@@ -59,14 +60,14 @@ module _ {O : Ops} (F : Field O) (D : Apart) (cs : List ℕ) (ok : Meets O D cs)
       then-both
       (ask-yes 10 0
       (eq-eqb _ _
-      (length-inputs (D .circuit) (D .inputs) (D .parties) (inputs-long F D cs (ok .some) (ok .lent))
-      ∙ inputs-all (circuit-valid F D cs (ok .some) (ok .lent)))))
+      (length-inputs (D .circuit) (D .inputs) (D .parties) (inputs-long F D cs ns (ok .some) (ok .lent))
+      ∙ inputs-all (circuit-valid F D cs ns (ok .some) (ok .lent)))))
       (elements-all 11 size _
-      (below-joined (omega (arith, F .one-lt)) (D .parties) (D .inputs) (λ i h. passed F D cs (ok .some) (ok .lent) i h .inputs-low)))
+      (below-joined (omega (arith, F .one-lt)) (D .parties) (D .inputs) (λ i h. passed F D cs ns (ok .some) (ok .lent) i h .inputs-low)))
 
   module _ (good : GoodApart O D) where
     honest : Honest O J (bands D)
-    honest = record { accepts = accepts; good = good; inputs = inputs-pass; room = bands-room F D cs (ok .some) (ok .lent) }
+    honest = record { accepts = accepts; good = good; inputs = inputs-pass; enough = enough F D cs ns ok }
 
     accurate : Accurate O J (bands D)
     accurate = accuracy F J (bands D) honest
@@ -79,14 +80,14 @@ module _ {O : Ops} (F : Field O) (D : Apart) (cs : List ℕ) (ok : Meets O D cs)
         ∙ accurate .finishes
 
     -- So every party is finished, and its outputs are the scores.
-    scored : Scored O D cs
+    scored : Scored O D cs ns
     scored =
         record {
           finishes =
-              λ i h. together F D cs ok .position (roundFormula (D .circuit)) i h
-              ∙ ap₂ holding finished-then (held-free F D cs ok (roundFormula (D .circuit)) i h (rw finished-then (unfold mayHold finished in refl)));
+              λ i h. together F D cs ns ok .position (roundFormula (D .circuit)) i h
+              ∙ ap₂ holding finished-then (held-free F D cs ns ok (roundFormula (D .circuit)) i h (rw finished-then (unfold mayHold finished in refl)));
           outputs =
-              λ i h. together F D cs ok .outputs (roundFormula (D .circuit)) i h
+              λ i h. together F D cs ns ok .outputs (roundFormula (D .circuit)) i h
               ∙ ap (λ (R : Run). R .outputs) (sym (whole-first O J (bands D) accepts))
               ∙ accurate .outputs;
         }
@@ -139,7 +140,7 @@ module _ {O : Ops} (F : Field O) (D : Apart) (cs : List ℕ) (ok : Meets O D cs)
           (below-part m′ (prepSize c) (i * prepSize c) low′)
           (is .counts i h)
           (subst (Below size) (own′ i h) (below-part x′ (inputCount c i) (inputsAt c i) inputs-low′))
-          (scratch-long F D cs (ok .some) (ok .lent) i h)
+          (scratch-long F D cs ns (ok .some) (ok .lent) i h)
 
       -- The joint run of the second parties is the one that secrecy speaks of.
       preps-are : joined n (band (prepSize c) m′) ≡ m′
@@ -148,24 +149,27 @@ module _ {O : Ops} (F : Field O) (D : Apart) (cs : List ℕ) (ok : Meets O D cs)
           ∙ ap (λ (ys : List ℕ). joined n (band (prepSize c) m′) ++ ys) (sym (drop-of-length-le m′ {i = n * prepSize c} (omega (arith, good′ .long))))
           ∙ joined-bands n (prepSize c) m′ (omega (arith, good′ .long))
 
-      same : (k : ℕ) → SameFirst O J (jointly D′ cs) (bands D) k
+      same : (k : ℕ) → SameFirst O J (jointly D′ cs ns) (bands D) k
       unfolding matched rule
       same k =
-          subst (λ (p : List ℕ). SameFirst O J (record { parties = n; circuit = c; preps = p; inputs = x′; coefficients = cs }) (bands D) k) (sym preps-are)
-          (same-first F n c A x x′ (is .compared) m good cs (bands D) (bands-room F D cs (ok .some) (ok .lent)) k)
+          subst (λ (p : List ℕ). SameFirst O J (record { parties = n; circuit = c; preps = p; inputs = x′; coefficients = cs; nonces = ns }) (bands D) k) (sym preps-are)
+          (same-first F n c A x x′ (is .compared) m good cs ns (bands D) (enough F D cs ns ok) k)
 
       -- So the second parties are not refused either.
       bands-are : bands D′ ≡ bands D
       unfolding bands matched
       bands-are = refl
 
-      point-is : (k : ℕ) → after O (jointly D′ cs) (bands D′) k .point ≡ after O J (bands D) k .point
-      point-is k = ap (λ (l : List ℕ). after O (jointly D′ cs) l k .point) bands-are ∙ same k .point
+      point-is : (k : ℕ) → after O (jointly D′ cs ns) (bands D′) k .point ≡ after O J (bands D) k .point
+      point-is k = ap (λ (l : List ℕ). after O (jointly D′ cs ns) l k .point) bands-are ∙ same k .point
 
-      used-is : (k : ℕ) → after O (jointly D′ cs) (bands D′) k .used ≡ after O J (bands D) k .used
-      used-is k = ap (λ (l : List ℕ). after O (jointly D′ cs) l k .used) bands-are ∙ same k .used
+      used-is : (k : ℕ) → after O (jointly D′ cs ns) (bands D′) k .used ≡ after O J (bands D) k .used
+      used-is k = ap (λ (l : List ℕ). after O (jointly D′ cs ns) l k .used) bands-are ∙ same k .used
 
-      meets : Meets O D′ cs
+      checks-is : (k : ℕ) → after O (jointly D′ cs ns) (bands D′) k .checks ≡ after O J (bands D) k .checks
+      checks-is k = ap (λ (l : List ℕ). after O (jointly D′ cs ns) l k .checks) bands-are ∙ same k .checks
+
+      meets : Meets O D′ cs ns
       unfolding matched
       meets =
           record {
@@ -175,7 +179,11 @@ module _ {O : Ops} (F : Field O) (D : Apart) (cs : List ℕ) (ok : Meets O D cs)
             handed =
                 λ k i r h e.
                 ok .handed k i r h (ap (λ (p : Point). p .stage) (sym (point-is k)) ∙ e)
-                ∙ (unfold takes in rw (point-is k, used-is k));
+                ∙ (unfold taken takes in rw (point-is k, used-is k));
+            noncing =
+                λ k i r h e.
+                ok .noncing k i r h (ap (λ (p : Point). p .stage) (sym (point-is k)) ∙ e)
+                ∙ (unfold nonceFor in rw (checks-is k));
             room =
                 λ k i r h e. rw (point-is k) (ok .room k i r h (ap (λ (p : Point). p .stage) (sym (point-is k)) ∙ e));
           }
@@ -189,20 +197,20 @@ module _ {O : Ops} (F : Field O) (D : Apart) (cs : List ℕ) (ok : Meets O D cs)
             parties = n;
             me = i;
             circuit = c;
-            prep = (secret .keeps m good i h a ∙ band-joined (prepSize c) n (D .prep) (prep-long F D cs (ok .some) (ok .lent)) i h) t;
+            prep = (secret .keeps m good i h a ∙ band-joined (prepSize c) n (D .prep) (prep-long F D cs ns (ok .some) (ok .lent)) i h) t;
             inputs =
                 (sym (own′ i h)
                 ∙ is .compared .agree i h a
-                ∙ inputs-joined c (D .inputs) n (inputs-long F D cs (ok .some) (ok .lent)) i h) t;
+                ∙ inputs-joined c (D .inputs) n (inputs-long F D cs ns (ok .some) (ok .lent)) i h) t;
           }
 
       -- All words are the same ..
       spoken-are : (k : ℕ) → spoken O D′ k ≡ spoken O D k
       spoken-are k =
-          together F D′ cs meets .transcript k
-          ∙ ap (λ (l : List ℕ). first O (jointly D′ cs) l k .transcript) bands-are
+          together F D′ cs ns meets .transcript k
+          ∙ ap (λ (l : List ℕ). first O (jointly D′ cs ns) l k .transcript) bands-are
           ∙ same k .transcript
-          ∙ sym (together F D cs ok .transcript k)
+          ∙ sym (together F D cs ns ok .transcript k)
 
       -- .. round by round ..
       words-are : (k : ℕ) → heardIn O D′ k (apart O D′ k) ≡ heardIn O D k (apart O D k)
@@ -217,20 +225,20 @@ module _ {O : Ops} (F : Field O) (D : Apart) (cs : List ℕ) (ok : Meets O D cs)
       unfolding apart round matched
       locals-are zero i h a = ap (λ (P : Party). opens O P (D .scratch i)) (parties-are i h a)
       locals-are (suc k) i h a =
-          ap₂ (λ (P : Party) (s : Local). receives O P (heardIn O D′ k (apart O D′ k)) (sends O P (D .coefficients k i) (D .out k i) s))
+          ap₂ (λ (P : Party) (s : Local). receives O P (heardIn O D′ k (apart O D′ k)) (sends O P (D .coefficients k i) (D .nonces k i) (D .out k i) s))
           (parties-are i h a) (locals-are k i h a)
-          ∙ ap (λ (ws : List ℕ). receives O (partyIn D i) ws (sends O (partyIn D i) (D .coefficients k i) (D .out k i) (apart O D k i))) (words-are k)
+          ∙ ap (λ (ws : List ℕ). receives O (partyIn D i) ws (sends O (partyIn D i) (D .coefficients k i) (D .nonces k i) (D .out k i) (apart O D k i))) (words-are k)
 
-      alike-apart : AlikeApart O D D′ A cs
+      alike-apart : AlikeApart O D D′ A cs ns
       alike-apart = record { meets = meets; parties = parties-are; words = words-are; locals = locals-are }
 
 -- With good preprocessing every party releases the scores on plain inputs.
 pub scores-apart : {O : Ops} → Field O → Scores O
-scores-apart F D cs ok good = scored F D cs ok good
+scores-apart F D cs ns ok good = scored F D cs ns ok good
 
 -- Demand 3 of parties apart, over every field.
 pub secrecy-apart : {O : Ops} → Field O → SecrecyApart O
-secrecy-apart F D cs A inputs′ ok good is = alike-apart F D cs ok good A inputs′ is
+secrecy-apart F D cs ns A inputs′ ok good is = alike-apart F D cs ns ok good A inputs′ is
 
 -- Both at the operations that the contracts cite.
 pub scores-apart-here : Scores ops

@@ -8,7 +8,8 @@ use lib.ListN.{length, getD, take, drop}
 use Rattle.algebra.specs.Ops.{Ops}
 use Rattle.algebra.specs.Field.{Field}
 use Rattle.algebra.proofs.Ring.{norm-zero, add-lt}
-use Rattle.protocol.specs.Joint.{joined, band}
+use Rattle.protocol.specs.Scratch.{band}
+use Rattle.protocol.specs.Joint.{joined}
 use Rattle.protocol.specs.Holding.{Below}
 use Rattle.protocol.proofs.Said.{below-of, below-part}
 use Rattle.theorems.specs.Matching.{addLists}

@@ -1,7 +1,7 @@
 -- What the comparison of two runs asks for, and what that gives: a party outside A, equal values at every output, equal inputs at A, and
 -- the questions that are left.
 -- Assumes nothing.
-use Prim.Native.Nat.{ℕ, zero, suc, _+_, _*_, _<_, _≤_}
+use Prim.Native.Nat.{ℕ, zero, suc, _+_, _*_, _<_}
 use mathlib.Core.Path.{_≡_, refl, sym, ap, ap₂, _∙_}
 use mathlib.Core.Bool.{Bool, true, false, cond, _&&_}
 use mathlib.Core.List.{List, _++_}
@@ -10,20 +10,20 @@ use native.Mathlib.Omega.{arith}
 use lib.Dec.{leb, eqb}
 use lib.ListN.{length, getD, take, drop, length-append}
 use lib.Seq.{take-at, drop-at}
-use borrow.Author.Tests.{leb-true, eq-eqb}
+use borrow.Author.Tests.{eq-eqb}
 use Rattle.algebra.specs.Ops.{Ops}
 use Rattle.algebra.specs.Field.{Field}
 use Rattle.algebra.proofs.Ring.{sub-self}
-use Rattle.circuit.specs.Verdict.{Verdict, Accepted, ask, _then_, elements}
+use Rattle.circuit.specs.Verdict.{Verdict, ask, _then_, elements}
 use Rattle.circuit.specs.Gate.{Gate, gate}
 use Rattle.circuit.specs.Kind.{Output, shape, isOut}
 use Rattle.circuit.proofs.Tests.{by-cases}
 use Rattle.circuit.proofs.KindLaws.{class-is}
 use Rattle.circuit.specs.Count.{inputAt, inCount, outCount}
-use Rattle.circuit.specs.Round.{wordCount, coefficientCount}
-use Rattle.circuit.proofs.Verdicts.{ask-true, ask-yes, then-left, then-right, then-passed, elements-all}
+use Rattle.circuit.specs.Round.{nonceSize, wordCount, coefficientCount, checkCount}
+use Rattle.circuit.proofs.Verdicts.{ask-yes, then-left, then-right, then-passed, elements-all}
 use Rattle.protocol.specs.Party.{inputOf}
-use Rattle.protocol.specs.Scratch.{layout, scratchSize}
+use Rattle.protocol.specs.Scratch.{scratchSize}
 use Rattle.protocol.specs.Joint.{party}
 use Rattle.protocol.specs.Plain.{plainInput, value, scoreOf, scores}
 use Rattle.protocol.specs.JointAsk.{askJoint}
@@ -103,12 +103,13 @@ module _ (O : Ops) (n : ℕ) (c x x′ : List ℕ) where
       own : (x : List ℕ) → plainInput O (plainly n c x) j ≡ getD (party (plainly n c x) i .inputs) (inputAt c i j) 0
       own x = unfold plainInput plainly inputOf party in rw g
 
--- the questions that are left once the lists of one run have passed theirs: about the scratch, the coefficients and the room
-unfoldable pub left : ℕ → ℕ → List ℕ → List ℕ → List ℕ → ℕ → ℕ → Verdict
-left q n c coefficients scratch transcriptRoom outputRoom =
-    ask 12 0 (leb (n * scratchSize (layout c)) (length scratch))
+-- the questions that are left once the lists of one run have passed theirs: about the scratch, the coefficients, the nonces and the room
+unfoldable pub left : ℕ → ℕ → List ℕ → List ℕ → List ℕ → List ℕ → ℕ → ℕ → Verdict
+left q n c coefficients nonces scratch transcriptRoom outputRoom =
+    ask 12 0 (leb (n * scratchSize n c) (length scratch))
     then ask 16 0 (eqb (length coefficients) (coefficientCount c))
     then elements 17 q coefficients
+    then ask 25 0 (eqb (length nonces) (nonceSize * (n * checkCount c)))
     then ask 18 0 (leb (n * wordCount c) transcriptRoom && leb (outCount c) outputRoom)
 
 module _ {O : Ops} (F : Field O) (n : ℕ) (c : List ℕ) (A : ℕ → Bool) where
@@ -116,19 +117,13 @@ module _ {O : Ops} (F : Field O) (n : ℕ) (c : List ℕ) (A : ℕ → Bool) whe
 
   -- With an accepted circuit, good preprocessing and accepted inputs, only those questions are left.
   pub asked : Accepts O n c → (m x : List ℕ) → Good O n c m → InputsPass O c x
-      → (coefficients scratch : List ℕ) (t o : ℕ)
-      → askJoint size (runOf O n c A m x coefficients) scratch t o ≡ left size n c coefficients scratch t o
+      → (coefficients nonces scratch : List ℕ) (t o : ℕ)
+      → askJoint size (runOf O n c A m x coefficients nonces) scratch t o ≡ left size n c coefficients nonces scratch t o
   unfolding askJoint left
-  asked a m x g p coefficients scratch t o =
+  asked a m x g p coefficients nonces scratch t o =
       then-passed _ (a .parties)
       ∙ then-passed _ (a .circuit)
       ∙ then-passed _ (ask-yes 8 0 (eq-eqb _ _ (g .long)))
       ∙ then-passed _ (elements-all 9 size m (elements-of F m (g .elements)))
       ∙ then-passed _ (then-left (ask 10 0 (eqb (length x) (inCount c))) _ p)
       ∙ then-passed _ (then-right (ask 10 0 (eqb (length x) (inCount c))) (elements 11 size x) p)
-
-  -- Where those are answered by yes, the scratch is long enough.
-  pub room-of : (coefficients scratch : List ℕ) (t o : ℕ) → left size n c coefficients scratch t o ≡ Accepted → n * scratchSize (layout c) ≤ length scratch
-  unfolding left
-  room-of coefficients scratch t o e =
-      leb-true (n * scratchSize (layout c)) (length scratch) (ask-true 12 0 _ (then-left (ask 12 0 (leb (n * scratchSize (layout c)) (length scratch))) _ e))

@@ -13,6 +13,7 @@ use Rattle.protocol.specs.Position.{Point, finished}
 use Rattle.protocol.specs.Send.{overwrite}
 use Rattle.protocol.specs.Entry.{leave}
 use Rattle.protocol.specs.Joint.{Joint}
+use Rattle.protocol.specs.Run.{whole}
 use Rattle.protocol.specs.JointEntry.{Done, ended, jointly, verdict, jointAnswer, jointOutputs}
 use Rattle.protocol.specs.Plain.{scores}
 use Rattle.protocol.specs.Formula.{roundFormula}
@@ -28,7 +29,7 @@ module _ {O : Ops} (F : Field O) (J : Joint) (scratch t o : List ℕ) (honest : 
   pub call-finishes : jointAnswer O J scratch t o ≡ Done (roundFormula (J .circuit))
   unfolding jointAnswer jointly ended finished
   call-finishes =
-      rw (e, accurate .rounds) (ap (λ (x : Point). ended (x .stage) (x .gate) (roundFormula (J .circuit))) (accurate .finishes))
+      rw (e, accurate .rounds) (ap (λ (x : Point). ended (x .stage) (x .gate) (whole O J scratch .last .blame) (roundFormula (J .circuit))) (accurate .finishes))
 
   -- .. and the outputs that it writes are the scores on plain inputs.
   pub call-writes-scores : jointOutputs O J scratch t o ≡ overwrite (scores O J (gates (J .circuit))) o

@@ -8,19 +8,24 @@ use mathlib.Core.List.{List}
 use native.Mathlib.Omega.{arith}
 use lib.Dec.{eqb}
 use lib.ListN.{getD}
-use borrow.Author.Tests.{eqb-false}
+use borrow.Author.Tests.{leb-true, eqb-false}
 use Rattle.algebra.specs.Ops.{Ops}
 use Rattle.field.specs.Words.{ops}
 use Rattle.field.specs.Prime.{modular}
 use Rattle.field.specs.Prime.Laws.{prime-is-modular}
 use Rattle.circuit.proofs.Tests.{false-no}
+use Rattle.circuit.specs.Round.{commitsIn, checkCount}
 use Rattle.protocol.specs.Joint.{party}
+use Rattle.protocol.specs.Run.{Run, begun}
 use Rattle.protocol.specs.Good.{Good}
 use Rattle.protocol.specs.Docket.{circuit, docket, rooms}
 use Rattle.protocol.proofs.Computing.{computing}
-use Rattle.theorems.proofs.Docket.{docket-table}
+use Rattle.theorems.proofs.Known.{hashed}
+use Rattle.theorems.proofs.Hashed.{runs, whole-is, answer-is, scratch-is, hashing}
+use Rattle.theorems.proofs.Docket.{accepts, docket-table}
+use Rattle.theorems.specs.Premises.{Enough}
 use Rattle.theorems.specs.Matching.{leftOut, addLists, only, plainly, inputMove, valueMove, moved, productMove, maskMove, recordMove, prepMove, match, rule}
-use Rattle.theorems.specs.Secrecy.{Compared, Alike}
+use Rattle.theorems.specs.Secrecy.{bandOf, Compared, Alike}
 use Rattle.theorems.specs.Example.{A, inputs₁, inputs₂, preps, matched, blank, unwritten, exampleRun, wordsOn, Example}
 use Rattle.theorems.proofs.Secrecy.{secrecy-here}
 
@@ -57,8 +62,17 @@ differs : wordsOn modular preps inputs₂ ≢ wordsOn modular preps inputs₁
 unfolding computing modular
 differs = differ-at 0 (wordsOn modular preps inputs₂) (wordsOn modular preps inputs₁) refl
 
+-- The runs have nonces and scratch enough.
+enough : (m x : List ℕ) → Enough (exampleRun modular m x) rooms
+unfolding computing checkCount commitsIn
+enough m x = record { nonces = leb-true _ _ refl; room = leb-true _ _ refl }
+
+words : (m x : List ℕ) → wordsOn modular m x ≡ runs hashed modular (exampleRun modular m x) 20 (begun modular (exampleRun modular m x) rooms) .transcript
+unfolding computing
+words m x = ap (λ (R : Run). R .transcript) (whole-is modular (exampleRun modular m x) rooms accepts (enough m x))
+
 computed : Example modular
-unfolding computing modular leftOut addLists only plainly inputMove valueMove moved productMove maskMove recordMove prepMove match rule
+unfolding hashing modular leftOut addLists only plainly inputMove valueMove moved productMove maskMove recordMove prepMove match rule
 computed =
     record {
       compared = compares;
@@ -68,16 +82,18 @@ computed =
       match-is = refl;
       match-differs = differ-at 1 matched preps refl;
       match-keeps = refl;
-      first-answer = refl;
-      second-answer = refl;
-      first-words = refl;
-      second-words = refl;
-      same-bands = refl;
+      first-answer = answer-is modular (exampleRun modular preps inputs₁) rooms blank unwritten accepts (enough preps inputs₁);
+      second-answer = answer-is modular (exampleRun modular matched inputs₂) rooms blank unwritten accepts (enough matched inputs₂);
+      first-words = words preps inputs₁;
+      second-words = words matched inputs₂;
+      same-bands =
+          ap (λ (l : List ℕ). bandOf modular 2 circuit A l 1) (scratch-is modular (exampleRun modular matched inputs₂) rooms blank unwritten accepts (enough matched inputs₂))
+          ∙ sym (ap (λ (l : List ℕ). bandOf modular 2 circuit A l 1) (scratch-is modular (exampleRun modular preps inputs₁) rooms blank unwritten accepts (enough preps inputs₁)));
       first-accepted = refl;
       unmatched-accepted = refl;
       unmatched-word = refl;
       unmatched-differs = differs;
-      no-identity = λ s. differs (s .alike preps is-good (docket .coefficients) rooms blank unwritten blank unwritten .words refl refl);
+      no-identity = λ s. differs (s .alike preps is-good (docket .coefficients) (docket .nonces) rooms blank unwritten blank unwritten .words refl refl);
     }
 
 -- The example, at the operations that the contracts cite.
@@ -94,5 +110,5 @@ same-words =
         (exampleRun ops preps inputs₁) (exampleRun ops (rule ops 2 circuit A inputs₁ inputs₂ preps) inputs₂)
         rooms blank unwritten blank unwritten
     both =
-        secrecy-here 2 circuit A inputs₁ inputs₂ (example .compared) .alike preps (example .good) (docket .coefficients) rooms
+        secrecy-here 2 circuit A inputs₁ inputs₂ (example .compared) .alike preps (example .good) (docket .coefficients) (docket .nonces) rooms
         blank unwritten blank unwritten

@@ -4,11 +4,10 @@
 use Prim.Native.Nat.{ℕ, suc, _+_, _-_, _*_, _<_, _≤_}
 use mathlib.Core.Path.{_≡_, refl, sym, ap, ap₂, subst, _∙_}
 use mathlib.Core.Logic.{inl, inr}
-use mathlib.Core.Bool.{Bool, true, false, cond}
+use mathlib.Core.Bool.{true}
 use mathlib.Core.List.{List, [], _∷_}
 use native.Mathlib.Omega.{arith}
-use lib.ListN.{length, getD, take, drop}
-use lib.Dec.{eqb}
+use lib.ListN.{length, getD}
 use borrow.Author.Tests.{eq-eqb}
 use Rattle.algebra.specs.Ops.{Ops}
 use Rattle.algebra.specs.Field.{Field}
@@ -17,8 +16,8 @@ use Rattle.algebra.proofs.Sums.{sum-ext}
 use Rattle.circuit.specs.Gate.{Gate, gate, gates}
 use Rattle.circuit.specs.Kind.{Class, Owned, Opens, Output, shape, isOut, factor}
 use Rattle.circuit.specs.Count.{unchecked}
-use Rattle.circuit.specs.Round.{Check, First, Second, Round, Own, Open, Commit, Reveal, isCommit, isReveal, rounds, following, shapeWords, words, revealWords, checked, openedIn}
-use Rattle.circuit.proofs.Tests.{false-no}
+use Rattle.circuit.specs.Round.{Check, First, Second, Round, Own, Open, Commit, Reveal, isCommit, isReveal, rounds, following, shapeWords, words, checked, openedIn}
+use Rattle.circuit.proofs.Tests.{by-cases, false-no}
 use Rattle.circuit.proofs.KindLaws.{class-is, owned-facts, opens-facts, output-facts}
 use Rattle.circuit.proofs.Gates.{owner-named, output-named, opens-named, factor-named}
 use Rattle.circuit.proofs.RoundLaws as Order
@@ -26,16 +25,19 @@ use Rattle.protocol.specs.Part.{Part}
 use Rattle.protocol.specs.Scratch.{layout, scratchSize}
 use Rattle.protocol.specs.Position.{Point, Stage, Send, Receive, Finished, Aborted, finished, reach, resume, start, follow, keep}
 use Rattle.protocol.specs.Party.{aAt, bAt}
-use Rattle.protocol.specs.Send.{inputWord, checkShare, opening, ownWords, sent, holds}
-use Rattle.protocol.specs.Receive.{heardSum, onward, ownReceived, revealed, received, passes, next}
-use Rattle.protocol.specs.Joint.{Joint, party}
-use Rattle.protocol.specs.Run.{State, begun, takes, said, step}
+use Rattle.protocol.specs.Send.{inputWord, checkShare, opening, ownWords, sent, holds, noted}
+use Rattle.protocol.specs.Receive.{Nobody, Ruling, Passed, weighs, heardSum, onward, ownReceived, checkPassed, received, next, left}
+use Rattle.protocol.specs.Joint.{Joint, party, nonceFor}
+use Rattle.protocol.specs.Run.{State, begun, taken, said, notes, ends, step}
 use Rattle.theorems.proofs.Given.{Given}
 use Rattle.theorems.proofs.Closed.{Opening, Masked, Shown, openings, length-openings, openings-output, Every, every-at, keys}
 use Rattle.theorems.proofs.Closed.{ownerWord, sumOf, opened, CarriesOpened, carries-shown, carries-openings, check-zero}
 use Rattle.protocol.proofs.Words.{length-band, getD-joined, heard-sum}
 use Rattle.protocol.proofs.Said.{length-sent}
-use Rattle.theorems.proofs.Holds.{Holds, holds-pass, holds-checked, own-masked, own-shown, holds-input, holds-product}
+use Rattle.protocol.proofs.Tails.{slots-room, nonce-room, nonce-length, marks-length}
+use Rattle.protocol.proofs.Marks.{ends-other}
+use Rattle.theorems.proofs.Sealing.{Kept, kept-room, ends-sum, commit-slots}
+use Rattle.theorems.proofs.Holds.{Holds, holds-alike, holds-pass, holds-checked, own-masked, own-shown, holds-input, holds-product}
 use Rattle.theorems.proofs.Holds.{holds-shown, holds-settle}
 use Rattle.protocol.proofs.InOrder.{begins}
 use Rattle.protocol.proofs.Points.{Reached, reached, Entered, ended, begun as beginning, entered, Fits, FitsStage, goes-entered}
@@ -200,19 +202,14 @@ module _ {O : Ops} (F : Field O) (J : Joint) (has : Given O J) where
   carries-pending j (Commit k) f = carries-check j k (f .0) (Order.class-at-round (J .circuit) j (Commit k) (f .1))
   carries-pending j (Reveal k) f = carries-check j k (f .0) (Order.class-at-round (J .circuit) j (Reveal k) (f .1))
 
-  -- A reveal's words sum to zero, so every round passes.
-  pub passing : (s : State) (r : Round) → s .point .stage ≡ Send r → Inv O J s → passes O (J .parties) r (said O J s r) ≡ true
-  unfolding passes
-  passing s r e inv = go (isReveal r) refl
+  -- A reveal fits its marks and its check shares sum to zero, so every round passes.
+  pub passing : (s : State) (r : Round) → s .point .stage ≡ Send r → Kept O J s → Inv O J s → ends O J s r ≡ Passed
+  passing s r e kept inv = by-cases (isReveal r) reveals (ends-other O J s r)
     where
-      go : (b : Bool) → isReveal r ≡ b → cond b (eqb (heardSum O (J .parties) revealWords 0 (said O J s r)) 0) true ≡ true
-      go true q = eq-eqb _ 0 (revealed-sum F J s r q ∙ checks-at O J s r e inv q)
-      go false q = refl
-
-  -- A round that passes leads to what follows it.
-  next-follows : (j : ℕ) (r : Round) (heard : List ℕ) → passes O (J .parties) r heard ≡ true → next O (J .parties) (J .circuit) j r heard ≡ follow (J .circuit) j r
-  unfolding next
-  next-follows j r heard e = rw e
+      reveals : isReveal r ≡ true → ends O J s r ≡ Passed
+      reveals q =
+          ends-sum O J s kept (has .some) r e q
+          ∙ ap (weighs Nobody) (eq-eqb _ 0 (revealed-sum F J s r q (kept-room O J s kept) ∙ checks-at O J s r e inv q))
 
   -- The scratch after the gates that follow gate j up to the next stop.
   holds-onward : (i j : ℕ) (l : List ℕ) → j < gates (J .circuit) → Holds O J i (suc j) (openings (J .circuit) (suc j)) l
@@ -220,7 +217,7 @@ module _ {O : Ops} (F : Field O) (J : Joint) (has : Given O J) where
   unfolding onward party keys
   holds-onward i j l lt h = holds-settle O J F (has .valid) i (gates (J .circuit) - suc j) (suc j) l (omega arith) h
 
-  module _ (s : State) (inv : Inv O J s) where
+  module _ (s : State) (kept : Kept O J s) (inv : Inv O J s) where
     -- the gate of the round
     abbrev at : ℕ
     at = s .point .gate
@@ -231,12 +228,19 @@ module _ {O : Ops} (F : Field O) (J : Joint) (has : Given O J) where
 
     -- party i's scratch after round r
     abbrev later : Round → ℕ → List ℕ
-    later r i = received O (party J i) (s .scratch i) at r (heard r)
+    later r i = received O (party J i) (notes O J s r i) at r (heard r)
 
     -- What party i receives in a gate's own round, by the gate's class.
     later-class : (i : ℕ) {k : Class} → shape (gate (J .circuit) at) .class ≡ k → later Own i ≡ ownReceived O (party J i) (s .scratch i) at (heard Own) k
-    unfolding received party
+    unfolding received party notes noted
     later-class i e = ap (ownReceived O (party J i) (s .scratch i) at (heard Own)) e
+
+    -- Every party sends the words of the round.
+    sent-long : (r : Round) → s .point .stage ≡ Send r → (i : ℕ) → i < J .parties → length (saidBy O J s r i) ≡ words (gate (J .circuit) at) r
+    unfolding party
+    sent-long r e i l =
+        length-sent O (party J i) (s .scratch i) at (s .held i) (taken O J s r) (nonceFor J (s .checks) i) r (fits-at O J s r e inv .1)
+        (nonce-room (J .parties) (J .circuit) (kept-room O J s kept i l))
 
     -- What is heard of the words t is what is opened, where each party sends its share of that.
     heard-opened : (r : Round) → s .point .stage ≡ Send r → (t : ℕ) (o : Opening) → t < words (gate (J .circuit) at) r
@@ -245,7 +249,7 @@ module _ {O : Ops} (F : Field O) (J : Joint) (has : Given O J) where
     unfolding said sumOf
     heard-opened r e t o lt h =
         heard-sum F (J .parties) (words (gate (J .circuit) at) r) t (saidBy O J s r)
-        (λ i l. unfold party in length-sent O (party J i) (s .scratch i) at (s .held i) r (fits-at O J s r e inv .1)) lt
+        (sent-long r e) lt
         ∙ sum-ext F (J .parties) _ _ h
 
     -- What is heard of an input is the owner's word.
@@ -266,11 +270,11 @@ module _ {O : Ops} (F : Field O) (J : Joint) (has : Given O J) where
         sent-by =
             unfold said in
             getD-joined (J .parties) (words (gate (J .circuit) at) Own) (saidBy O J s Own)
-            (λ i l. unfold party in length-sent O (party J i) (s .scratch i) at (s .held i) Own (fits-at O J s Own e inv .1)) x 0
+            (sent-long Own e) x 0
             (owner-named (has .valid) at (fits-at O J s Own e inv .0) k) one
 
         word : getD (saidBy O J s Own x) 0 0 ≡ ownerWord O J at x
-        word = ap (λ (ws : List ℕ). getD ws 0 0) (sent-class O J x _ at _ k) ∙ (unfold ownWords inputWord ownerWord party in rw (eq-eqb x x refl))
+        word = ap (λ (ws : List ℕ). getD ws 0 0) (sent-class O J x _ at _ _ _ k) ∙ (unfold ownWords inputWord ownerWord party in rw (eq-eqb x x refl))
 
     -- After the round of an input every scratch holds the owner's input.
     after-input : s .point .stage ≡ Send Own → shape (gate (J .circuit) at) .class ≡ Owned → (i : ℕ) → i < J .parties → Resumed O J i (suc at) (later Own i)
@@ -303,7 +307,7 @@ module _ {O : Ops} (F : Field O) (J : Joint) (has : Given O J) where
         many = (opens-facts g k .some, unfold shapeWords in opens-facts g k .words)
 
         word : (i t : ℕ) → getD (saidBy O J s Own i) t 0 ≡ getD (opening O (party J i) (s .scratch i) at (shape g .openings)) t 0
-        word i t = ap (λ (ws : List ℕ). getD ws t 0) (sent-class O J i _ at _ k) ∙ (unfold ownWords party in refl)
+        word i t = ap (λ (ws : List ℕ). getD ws t 0) (sent-class O J i _ at _ _ _ k) ∙ (unfold ownWords party in refl)
 
         heard-first : heardSum O (J .parties) (words g Own) 0 (heard Own) ≡ sumOf O J (opened O J (Masked at (g .first) aAt))
         heard-first =
@@ -325,7 +329,7 @@ module _ {O : Ops} (F : Field O) (J : Joint) (has : Given O J) where
         → (i : ℕ)
         → i < J .parties
         → Holds O J i at (underCheck (J .circuit) at Second) (later Open i)
-    unfolding received party underCheck
+    unfolding received party notes noted underCheck
     after-open e k i l = holds-shown O J F (has .valid) lt _ (own i l) k heard-shown
       where
         lt : at < gates (J .circuit)
@@ -347,16 +351,24 @@ module _ {O : Ops} (F : Field O) (J : Joint) (has : Given O J) where
         → (i : ℕ)
         → i < J .parties
         → Resumed O J i (suc at) (later (Reveal Second) i)
-    unfolding received revealed party
+    unfolding received checkPassed party notes noted
     after-output e k i l =
-        rw (passing s (Reveal Second) e inv)
-        (holds-onward i at _ lt (rw (openings-output (J .circuit) at k) (holds-pass O J (holds-at O J s (Reveal Second) e inv i l) lt (rw out))))
+        holds-onward i at _ lt (rw (openings-output (J .circuit) at k) (holds-pass O J (holds-at O J s (Reveal Second) e inv i l) lt (rw out)))
       where
         lt : at < gates (J .circuit)
         lt = fits-at O J s (Reveal Second) e inv .0
 
         out : isOut (gate (J .circuit) at) ≡ true
         out = class-is k
+
+    -- A commitment writes nonce and marks, and nothing else.
+    after-commit : (k : Check) → s .point .stage ≡ Send (Commit k) → (i : ℕ) → i < J .parties
+        → Holds O J i at (underCheck (J .circuit) at k) (later (Commit k) i)
+    unfolding received party notes noted
+    after-commit k e i l =
+        holds-alike O J (marks-length _ _ (heard (Commit k)) ∙ nonce-length _ (s .scratch i) _)
+        (commit-slots O J s kept k e (fits-at O J s (Commit k) e inv) i l)
+        (unfold pending in holds-at O J s (Commit k) e inv i l)
 
     -- The check shares made at a commitment sum to zero.
     committed : (r : Round) → s .point .stage ≡ Send r → isCommit r ≡ true → (taken : List ℕ)
@@ -407,32 +419,31 @@ module _ {O : Ops} (F : Field O) (J : Joint) (has : Given O J) where
             stays Open (Commit Second) _ _ _ e f (λ i l. unfold pending in after-open e k i l) (λ z. false-no z)
         go (Commit h) e k f =
             stays (Commit h) (Reveal h) _ _ _ e f
-            (λ i l. unfold received pending in (unfold pending in holds-at O J s (Commit h) e inv i l))
+            (λ i l. unfold pending in after-commit h e i l)
             (λ z. committed (Commit h) e refl taken)
         go (Reveal First) e k f =
             stays (Reveal First) Open _ _ _ e f
-            (λ i l. unfold received revealed pending in holds-checked O J (holds-at O J s (Reveal First) e inv i l))
+            (λ i l. unfold received checkPassed notes noted pending in holds-checked O J (holds-at O J s (Reveal First) e inv i l))
             (λ z. false-no z)
         go (Reveal Second) e k f = leaves (Reveal Second) _ _ e f (after-output e k)
 
     -- A round leads to what follows it.
     pub point-step : (r : Round) → s .point .stage ≡ Send r → step O J s r .point ≡ follow (J .circuit) at r
-    unfolding step
-    point-step r e = next-follows at r (heard r) (passing s r e inv)
+    unfolding step next
+    point-step r e = rw (passing s r e kept inv)
 
     -- A round keeps the invariant.
     pub inv-step : (r : Round) → s .point .stage ≡ Send r → Inv O J (step O J s r)
-    unfolding step
+    unfolding step next left
     inv-step r e =
-        subst (λ (p : Point). Sound O J p (λ i. keep r (holds O (party J i) (s .scratch i) at r (taken r))) (later r))
-        (sym (point-step r e))
-        (after-round r e (taken r))
-      where
-        taken : Round → List ℕ
-        taken r = take (takes O J s r) (drop (s .used) (J .coefficients))
+        subst
+        (λ (v : Ruling).
+        Sound O J (next (J .circuit) at r v) (λ i. keep r (holds O (party J i) (s .scratch i) at r (taken O J s r)))
+        (λ i. left O (party J i) v (notes O J s r i) at r (heard r)))
+        (sym (passing s r e kept inv)) (after-round r e (taken O J s r))
 
   -- A run on enough scratch starts with the invariant.
-  pub inv-begun : (scratch : List ℕ) → J .parties * scratchSize (layout (J .circuit)) ≤ length scratch → Inv O J (begun O J scratch)
+  pub inv-begun : (scratch : List ℕ) → J .parties * scratchSize (J .parties) (J .circuit) ≤ length scratch → Inv O J (begun O J scratch)
   unfolding begun
   inv-begun scratch room =
       sound-entered O J 0 (start (J .circuit)) _ _ (entered-start (J .circuit) (has .valid))
@@ -440,7 +451,9 @@ module _ {O : Ops} (F : Field O) (J : Joint) (has : Given O J) where
       record {
         within = omega arith;
         few = unfold openings in omega arith;
-        long = let e = length-band (scratchSize (layout (J .circuit))) (J .parties) scratch room i l in omega arith;
+        long =
+            slots-room (J .parties) (J .circuit)
+            (let e = length-band (scratchSize (J .parties) (J .circuit)) (J .parties) scratch room i l in omega (arith, e));
         worked = λ x lx. absurd (omega arith);
         values = λ t lx. unfold openings in absurd (omega arith);
         macs = λ t lx. unfold openings in absurd (omega arith);

@@ -13,10 +13,10 @@ use Rattle.circuit.specs.Verdict.{Accepted}
 use Rattle.circuit.specs.Count.{prepSize, inputCount}
 use Rattle.circuit.specs.Accept.{askCircuit}
 use Rattle.circuit.specs.Valid.{Valid}
-use Rattle.protocol.specs.Scratch.{layout, scratchSize}
+use Rattle.protocol.specs.Scratch.{scratchSize, band}
 use Rattle.protocol.specs.Ask.{askParties, askLent}
 use Rattle.protocol.proofs.Accepted.{Lends, lends}
-use Rattle.protocol.specs.Joint.{joined, band, inputsAt, party}
+use Rattle.protocol.specs.Joint.{joined, inputsAt, party}
 use Rattle.protocol.proofs.Inputs.{starts-suc, starts-mono}
 use Rattle.protocol.proofs.Words.{length-joined}
 use Rattle.protocol.proofs.Bands.{band-joined}
@@ -53,7 +53,7 @@ module _ (c : List ℕ) (f : ℕ → List ℕ) where
           )
           (earlier (omega arith))
 
-module _ {O : Ops} (F : Field O) (D : Apart) (coefficients : List ℕ) (some : 0 < D .parties)
+module _ {O : Ops} (F : Field O) (D : Apart) (coefficients nonces : List ℕ) (some : 0 < D .parties)
     (lent : (i : ℕ) → i < D .parties → askLent (O .size) (partyIn D i) (D .scratch i) ≡ Accepted) where
   open Ops O using (size)
 
@@ -78,11 +78,11 @@ module _ {O : Ops} (F : Field O) (D : Apart) (coefficients : List ℕ) (some : 0
   pub inputs-long : (i : ℕ) → i < D .parties → length (D .inputs i) ≡ inputCount (D .circuit) i
   inputs-long i h = passed i h .inputs-long
 
-  pub scratch-long : (i : ℕ) → i < D .parties → scratchSize (layout (D .circuit)) ≤ length (D .scratch i)
+  pub scratch-long : (i : ℕ) → i < D .parties → scratchSize (D .parties) (D .circuit) ≤ length (D .scratch i)
   scratch-long i h = passed i h .room
 
   -- Party i of the joint run is party i.
-  pub party-is : (i : ℕ) → i < D .parties → party (jointly D coefficients) i ≡ partyIn D i
+  pub party-is : (i : ℕ) → i < D .parties → party (jointly D coefficients nonces) i ≡ partyIn D i
   unfolding party
   party-is i h =
       λ t.
@@ -95,14 +95,14 @@ module _ {O : Ops} (F : Field O) (D : Apart) (coefficients : List ℕ) (some : 0
       }
 
   -- Its band is the front of the party's scratch.
-  front-long : (i : ℕ) → i < D .parties → length (take (scratchSize (layout (D .circuit))) (D .scratch i)) ≡ scratchSize (layout (D .circuit))
-  front-long i h = length-take-le (scratchSize (layout (D .circuit))) (D .scratch i) (scratch-long i h)
+  front-long : (i : ℕ) → i < D .parties → length (take (scratchSize (D .parties) (D .circuit)) (D .scratch i)) ≡ scratchSize (D .parties) (D .circuit)
+  front-long i h = length-take-le (scratchSize (D .parties) (D .circuit)) (D .scratch i) (scratch-long i h)
 
-  pub band-is : (i : ℕ) → i < D .parties → band (scratchSize (layout (D .circuit))) (bands D) i ≡ take (scratchSize (layout (D .circuit))) (D .scratch i)
+  pub band-is : (i : ℕ) → i < D .parties → band (scratchSize (D .parties) (D .circuit)) (bands D) i ≡ take (scratchSize (D .parties) (D .circuit)) (D .scratch i)
   unfolding bands
-  band-is i h = band-joined (scratchSize (layout (D .circuit))) (D .parties) _ front-long i h
+  band-is i h = band-joined (scratchSize (D .parties) (D .circuit)) (D .parties) _ front-long i h
 
-  pub bands-room : D .parties * scratchSize (layout (D .circuit)) ≤ length (bands D)
+  pub bands-room : D .parties * scratchSize (D .parties) (D .circuit) ≤ length (bands D)
   unfolding bands
   bands-room =
-      omega (arith, length-joined (D .parties) (scratchSize (layout (D .circuit))) (λ i. take (scratchSize (layout (D .circuit))) (D .scratch i)) front-long)
+      omega (arith, length-joined (D .parties) (scratchSize (D .parties) (D .circuit)) (λ i. take (scratchSize (D .parties) (D .circuit)) (D .scratch i)) front-long)

@@ -6,9 +6,10 @@ pub mod Values
 pub mod Closed
 pub mod Holds
 pub mod Sent
+pub mod Runs
+pub mod Sealing
 pub mod Honest
 pub mod Rounds
-pub mod Runs
 pub mod Abort
 pub mod Accuracy
 pub mod Bands
@@ -20,6 +21,8 @@ pub mod SameRound
 pub mod Twins
 pub mod Secrecy
 pub mod Corollaries
+pub mod Known
+pub mod Hashed
 pub mod Docket
 pub mod Example
 pub mod Squares
@@ -31,3 +34,6 @@ pub mod ApartDemands
 pub mod DocketApart
 pub mod PartyOrder
 pub mod JointOrder
+pub mod Fitting
+pub mod Binding
+pub mod Cancelled

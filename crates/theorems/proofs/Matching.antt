@@ -28,7 +28,8 @@ use Rattle.circuit.proofs.KindLaws.{local-facts, owned-facts, opens-facts, outp
 use Rattle.circuit.proofs.Gates.{owner-named}
 use Rattle.protocol.specs.Part.{partAt}
 use Rattle.protocol.specs.Party.{recordIn, maskAt, wholeMaskAt, aAt, bAt, cAt}
-use Rattle.protocol.specs.Joint.{joined, band}
+use Rattle.protocol.specs.Scratch.{band}
+use Rattle.protocol.specs.Joint.{joined}
 use Rattle.protocol.specs.Good.{Good, GoodRecord, GoodMask, GoodTriple, recordAt, wholeKey, shareSum, macSum}
 use Rattle.theorems.specs.Matching.{only, addLists, inputMove, valueMove, moved, productMove, maskMove, recordMove, prepMove, match}
 use Rattle.protocol.proofs.Words.{length-band, length-joined}

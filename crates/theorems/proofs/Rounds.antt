@@ -13,15 +13,15 @@ use Rattle.circuit.specs.Verdict.{Accepted}
 use Rattle.circuit.specs.Gate.{kindMul, kindSq, Gate, gate, gates}
 use Rattle.circuit.specs.Kind.{Class, Local, Owned, Opens, Output, shape, isClass, isIn, opens, isOut}
 use Rattle.circuit.specs.Count.{total, count, prepAt, prepSize, capacity, inCount, outCount, unchecked, uncheckedAfter}
-use Rattle.circuit.specs.Round.{Round, checkRounds, classRounds, rounds, shapeWords, words, coefficientsIn, overRounds, overRun, roundCount, wordCount, coefficientCount}
+use Rattle.circuit.specs.Round.{Round, checkRounds, classRounds, rounds, shapeWords, words, coefficientsIn, overRounds, overRun, roundCount, wordCount, coefficientCount, commitsIn, checkCount, commitWords, revealWords}
 use Rattle.circuit.specs.Accept.{fewestGates, mostGates, askCircuit}
 use Rattle.circuit.specs.Valid.{Valid}
 use Rattle.circuit.proofs.Tests.{by-cases}
 use Rattle.circuit.proofs.Counts.{unchecked-valued, unchecked-out}
 use Rattle.circuit.proofs.KindLaws.{class-is, shape-low, local-no-out, owned-no-out, opens-no-out, local-facts, owned-facts, opens-facts, output-facts}
-use Rattle.circuit.proofs.RoundLaws.{words-local, words-owned, words-opens, words-first, words-later, coefficients-local, coefficients-owned, coefficients-opens, coefficients-all}
+use Rattle.circuit.proofs.RoundLaws.{words-local, words-owned, words-opens, words-first, words-later, coefficients-local, coefficients-owned, coefficients-opens, coefficients-all, checks-first, checks-later, checks-valued}
 use Rattle.circuit.proofs.Gates.{gate-zero}
-use Rattle.protocol.specs.Scratch.{layout, scratchSize}
+use Rattle.protocol.specs.Scratch.{layout, slotsSize, nonceAt, marksAt, scratchSize}
 use Rattle.protocol.specs.Formula.{opensJust, mulCount, squareCount, bareOuts, roundFormula, mostRoundsOfAll}
 use Rattle.protocol.proofs.Computing.{computing}
 
@@ -132,7 +132,7 @@ opened c j = total (λ g. shape g .openings) c j
 -- The words of a gate.
 words-of : (u : ℕ) (g : Gate) (k : Class) → shape g .class ≡ k
     → overRounds (shapeWords (shape g)) (classRounds u k)
-    ≡ cond (isClass Owned k) 1 0 + shape g .openings + 3 * cond (isClass Output k) 1 0 + 2 * cond (isClass Output k && not (eqb u 0)) 1 0
+    ≡ cond (isClass Owned k) 1 0 + shape g .openings + 18 * cond (isClass Output k) 1 0 + 17 * cond (isClass Output k && not (eqb u 0)) 1 0
 unfolding isClass
 words-of u g Local e = let f = local-facts g e in omega (arith, words-local u (shape g), f .openings)
 words-of u g Owned e = let f = owned-facts g e in omega (arith, words-owned u (shape g), f .openings, f .words)
@@ -144,7 +144,7 @@ words-of u g Output e =
 
 -- The words of the gates before j, by their classes.
 words-before : (c : List ℕ) (j : ℕ)
-    → overRun (λ j r. words (gate c j) r) c j ≡ count isIn c j + opened c j + 3 * count isOut c j + 2 * checkedOuts c j
+    → overRun (λ j r. words (gate c j) r) c j ≡ count isIn c j + opened c j + 18 * count isOut c j + 17 * checkedOuts c j
 unfolding overRun checkedOuts count total rounds
 words-before c zero = refl
 words-before c (suc j) = omega (arith, words-before c j, words-of (unchecked c j) (gate c j) (shape (gate c j) .class) refl)
@@ -199,11 +199,30 @@ unfolding count total
 opened-before c zero = refl
 opened-before c (suc j) = omega (arith, opened-before c j, two-or-one (shape (gate c j) .openings) (shape-low (gate c j) .openings))
 
--- The words that a party sends in a run: one for each in gate, two for each mul gate, one for each sq gate, three for each out gate, and two
--- for each out gate with something unchecked.
-pub words-are : (c : List ℕ) → wordCount c ≡ inCount c + 2 * mulCount c + squareCount c + 3 * outCount c + 2 * checkedOuts c (gates c)
+-- The checks of a gate: an output has one, and another where anything is unchecked.
+checks-of : (u : ℕ) (k : Class) → overRounds commitsIn (classRounds u k) ≡ cond (isClass Output k) 1 0 + cond (isClass Output k && not (eqb u 0)) 1 0
+unfolding isClass
+checks-of u Local = checks-valued u Local (unfold isClass in refl)
+checks-of u Owned = checks-valued u Owned (unfold isClass in refl)
+checks-of u Opens = checks-valued u Opens (unfold isClass in refl)
+checks-of u Output =
+    by-cases (eqb u 0) (λ z. rw z (omega (arith, checks-first u (eqb-true u 0 z)))) (λ z. rw z (omega (arith, checks-later u z)))
+
+checks-before : (c : List ℕ) (j : ℕ) → overRun (λ j r. commitsIn r) c j ≡ count isOut c j + checkedOuts c j
+unfolding overRun checkedOuts count total rounds
+checks-before c zero = refl
+checks-before c (suc j) = omega (arith, checks-before c j, checks-of (unchecked c j) (shape (gate c j) .class))
+
+-- The checks of a run: one for each out gate, and one more for each with something unchecked.
+pub checks-are : (c : List ℕ) → checkCount c ≡ outCount c + checkedOuts c (gates c)
+unfolding checkCount outCount
+checks-are c = checks-before c (gates c)
+
+-- The words that a party sends in a run: one for each in gate, two for each mul gate, one for each sq gate, one for each out gate, and for each
+-- check the eight of a mark and the nine of a reveal.
+pub words-are : (c : List ℕ) → wordCount c ≡ inCount c + 2 * mulCount c + squareCount c + outCount c + (commitWords + revealWords) * checkCount c
 unfolding wordCount inCount mulCount squareCount outCount
-words-are c = omega (arith, words-before c (gates c), opened-before c (gates c))
+words-are c = omega (arith, words-before c (gates c), opened-before c (gates c), checks-are c)
 
 -- "all draws in order of use, 2M + outs of them", and one more for each sq gate
 pub coefficients-are : {n q : ℕ} {c : List ℕ} → Valid n q c → coefficientCount c ≡ 2 * mulCount c + squareCount c + outCount c
@@ -216,10 +235,10 @@ unfolding prepSize prepAt inCount mulCount squareCount
 prep-is c = omega (arith, prep-before c (gates c), opened-before c (gates c), opens-before c (gates c))
 
 -- "Scratch is one list, L being the number of lines: L shares, L MAC shares, 2M + 1 opened values, 2M + 1 MAC shares of those", and one more of
--- each for each sq gate
-pub scratch-is : (c : List ℕ) → scratchSize (layout c) ≡ 2 * gates c + 2 * (2 * mulCount c + squareCount c + 1)
-unfolding scratchSize layout capacity mulCount squareCount
-scratch-is c = omega (arith, opened-before c (gates c))
+-- each for each sq gate; "The scratch's end gains eight numbers for the seat's nonce .. then eight for each seat's mark"
+pub scratch-is : (n : ℕ) (c : List ℕ) → scratchSize n c ≡ 2 * gates c + 2 * (2 * mulCount c + squareCount c + 1) + 8 + n * 8
+unfolding scratchSize marksAt nonceAt slotsSize layout capacity mulCount squareCount
+scratch-is n c = omega (arith, opened-before c (gates c))
 
 -- k times a gate of a kind, of gate 0 and perhaps gate 0 again, and an out gate
 kindOuts : ℕ → ℕ → List ℕ

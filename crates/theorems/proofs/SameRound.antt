@@ -48,9 +48,9 @@ module _ {O : Ops} {F : Field O} (P : Pair F) where
   J′ = run′ P
 
   -- An in gate: its owner sends the same, and all others send 0.
-  pub same-input : (j : ℕ) → j < gates c → shape (gate c j) .class ≡ Owned → (l l′ : List ℕ) (held held′ i : ℕ)
-      → sent O (party J′ i) l′ j held′ Own ≡ sent O (party J i) l j held Own
-  same-input j lj e l l′ held held′ i = sent-class O J′ i l′ j held′ e ∙ same ∙ sym (sent-class O J i l j held e)
+  pub same-input : (j : ℕ) → j < gates c → shape (gate c j) .class ≡ Owned → (l l′ : List ℕ) (held held′ i : ℕ) (co ns : List ℕ)
+      → sent O (party J′ i) l′ j held′ co ns Own ≡ sent O (party J i) l j held co ns Own
+  same-input j lj e l l′ held held′ i co ns = sent-class O J′ i l′ j held′ co ns e ∙ same ∙ sym (sent-class O J i l j held co ns e)
     where
       word : Joint → ℕ
       word J = sub (inputOf (party J i) j) (getD (recordOf (party J i) j) wholeMaskAt 0)
@@ -74,9 +74,9 @@ module _ {O : Ops} {F : Field O} (P : Pair F) where
         ∙ sym (ap (λ (q : Part). q .share) e)
 
     -- A product: every party sends the same parts of what is opened.
-    pub same-opening : j < gates c → shape (gate c j) .class ≡ Opens → (held held′ : ℕ)
-        → sent O (party J′ i) l′ j held′ Own ≡ sent O (party J i) l j held Own
-    same-opening lj e held held′ = sent-class O J′ i l′ j held′ e ∙ same ∙ sym (sent-class O J i l j held e)
+    pub same-opening : j < gates c → shape (gate c j) .class ≡ Opens → (held held′ : ℕ) (co ns : List ℕ)
+        → sent O (party J′ i) l′ j held′ co ns Own ≡ sent O (party J i) l j held co ns Own
+    same-opening lj e held held′ co ns = sent-class O J′ i l′ j held′ co ns e ∙ same ∙ sym (sent-class O J i l j held co ns e)
       where
         part : Joint → List ℕ → ℕ → ℕ → ℕ
         part J l x k = masked O (layout c) l x (recordOf (party J i) j) k .share
@@ -100,10 +100,10 @@ module _ {O : Ops} {F : Field O} (P : Pair F) where
             (λ b. rw b (ap {B = List ℕ} (λ (u : ℕ). u ∷ []) first))
 
     -- An out gate: every party sends the same share of what is shown.
-    pub same-shown : j < gates c → shape (gate c j) .class ≡ Output → (held held′ : ℕ)
-        → sent O (party J′ i) l′ j held′ Open ≡ sent O (party J i) l j held Open
+    pub same-shown : j < gates c → shape (gate c j) .class ≡ Output → (held held′ : ℕ) (co ns : List ℕ)
+        → sent O (party J′ i) l′ j held′ co ns Open ≡ sent O (party J i) l j held co ns Open
     unfolding sent party
-    same-shown lj e held held′ =
+    same-shown lj e held held′ co ns =
         let ref = output-named (has .valid) j lj e in
         ap {B = List ℕ} (λ (u : ℕ). u ∷ []) (same-share _ (agrees-shown P j lj e) (own-shown O J _ p ref) (own-shown O J′ _ p′ ref))
 

@@ -1,7 +1,7 @@
 -- Demand 3: two whole runs, on two sets of inputs that agree at A's parties and give equal scores, cannot be told apart by A, whatever
 -- good preprocessing the first was given, since one rule matches it one for one with good preprocessing for the second.
 -- Assumes nothing.
-use Prim.Native.Nat.{ℕ, _*_, _<_, _≤_}
+use Prim.Native.Nat.{ℕ, _<_}
 use mathlib.Core.Path.{_≡_, refl, sym, ap, ap₂, _∙_}
 use mathlib.Core.Bool.{Bool, true, false}
 use mathlib.Core.Logic.{_≢_}
@@ -17,12 +17,12 @@ use Rattle.circuit.specs.Gate.{gates}
 use Rattle.circuit.specs.Count.{prepSize}
 use Rattle.circuit.specs.Valid.{Valid}
 use Rattle.circuit.proofs.Valid.{valid}
-use Rattle.protocol.specs.Scratch.{layout, scratchSize}
-use Rattle.protocol.specs.Joint.{Joint, band, party}
+use Rattle.protocol.specs.Scratch.{band}
+use Rattle.protocol.specs.Joint.{Joint, party}
 use Rattle.protocol.specs.Run.{State, begun, run, whole}
 use Rattle.protocol.specs.JointEntry.{verdict, jointAnswer, jointScratch}
 use Rattle.protocol.specs.Good.{Good}
-use Rattle.theorems.specs.Premises.{after}
+use Rattle.theorems.specs.Premises.{Enough, after}
 use Rattle.theorems.specs.Matching.{leftOut, plainly, match, rule}
 use Rattle.theorems.specs.Secrecy.{runOf, bandOf, Compared, Alike, Secret, Shows, Secrecy, Blindness}
 use Rattle.theorems.proofs.Given.{given}
@@ -31,13 +31,15 @@ use Rattle.theorems.proofs.Matching.{matched-good, matched-kept, matche
 use Rattle.theorems.proofs.SideBySide.{Pair}
 use Rattle.theorems.proofs.Runs.{last-first}
 use Rattle.theorems.proofs.Twins.{Ends, twins-first, twins-whole}
-use Rattle.theorems.proofs.Compared.{left-out, equal-outputs, no-move, left, asked, room-of}
+use Rattle.theorems.proofs.Abort.{called-enough}
+use Rattle.theorems.proofs.Compared.{left-out, equal-outputs, no-move, left, asked}
 
 -- two runs after k rounds
 pub record SameFirst (O : Ops) (J J′ : Joint) (scratch : List ℕ) (k : ℕ) : Type 0 where
   pub transcript : run O J′ k (begun O J′ scratch) .transcript ≡ run O J k (begun O J scratch) .transcript
   pub point : after O J′ scratch k .point ≡ after O J scratch k .point
   pub used : after O J′ scratch k .used ≡ after O J scratch k .used
+  pub checks : after O J′ scratch k .checks ≡ after O J scratch k .checks
 
 module _ {O : Ops} (F : Field O) (n : ℕ) (c : List ℕ) (A : ℕ → Bool) where
   open Ops O using (size)
@@ -83,13 +85,13 @@ module _ {O : Ops} (F : Field O) (n : ℕ) (c : List ℕ) (A : ℕ → Bool) whe
     match-keeps : (m : List ℕ) → Good O n c m → (i : ℕ) → i < n → A i ≡ true → band (prepSize c) (match O n c h x x′ m) i ≡ band (prepSize c) m i
     match-keeps m g i l a = matched-kept F n c h x x′ m g i (inside i a) (λ j owned. no-move O n c x x′ F h i (is .agree i l a) j) l
 
-    module _ (m : List ℕ) (g : Good O n c m) (co : List ℕ) where
+    module _ (m : List ℕ) (g : Good O n c m) (co ns : List ℕ) where
       -- the two runs
       abbrev J : Joint
-      J = runOf O n c A m x co
+      J = runOf O n c A m x co ns
 
       abbrev J′ : Joint
-      J′ = runOf O n c A (match O n c h x x′ m) x′ co
+      J′ = runOf O n c A (match O n c h x x′ m) x′ co ns
 
       -- the two runs as a pair
       abbrev pair : Pair F
@@ -102,6 +104,7 @@ module _ {O : Ops} (F : Field O) (n : ℕ) (c : List ℕ) (A : ℕ → Bool) whe
             x′ = x′;
             m = m;
             co = co;
+            ns = ns;
             h-lt = h-out .0;
             good = g;
             has = given F J (is .accepts) g (is .first);
@@ -116,56 +119,58 @@ module _ {O : Ops} (F : Field O) (n : ℕ) (c : List ℕ) (A : ℕ → Bool) whe
           λ u. record { parties = n; me = i; circuit = c; prep = match-keeps m g i l a u; inputs = is .agree i l a u }
 
       -- After any number of rounds the two runs stand alike, and the same words are written.
-      pub same-first : (scratch : List ℕ) → n * scratchSize (layout c) ≤ length scratch → (k : ℕ) → SameFirst O J J′ scratch k
-      same-first scratch room k =
-          let ends = twins-first pair A known scratch room k in
+      pub same-first : (scratch : List ℕ) → Enough J scratch → (k : ℕ) → SameFirst O J J′ scratch k
+      same-first scratch enough k =
+          let ends = twins-first pair A known scratch enough k in
           record {
             transcript = ends .transcript;
             point = ap (λ (s : State). s .point) (sym (last-first O J′ scratch k)) ∙ ends .last .point ∙ ap (λ (s : State). s .point) (last-first O J scratch k);
             used = ap (λ (s : State). s .used) (sym (last-first O J′ scratch k)) ∙ ends .last .used ∙ ap (λ (s : State). s .used) (last-first O J scratch k);
+            checks = ap (λ (s : State). s .checks) (sym (last-first O J′ scratch k)) ∙ ends .last .checks ∙ ap (λ (s : State). s .checks) (last-first O J scratch k);
           }
 
-    module _ (m : List ℕ) (g : Good O n c m) (co scratch t o t′ o′ : List ℕ) where
+    module _ (m : List ℕ) (g : Good O n c m) (co ns scratch t o t′ o′ : List ℕ) where
       -- the two runs
       abbrev R : Joint
-      R = J m g co
+      R = J m g co ns
 
       abbrev R′ : Joint
-      R′ = J′ m g co
+      R′ = J′ m g co ns
 
-      -- Each run is left with the questions about its scratch, coefficients and room, which are the same in both.
-      asked-here : verdict O R scratch t o ≡ left size n c co scratch (length t) (length o)
+      -- Each run is left with the questions about its scratch, coefficients, nonces and room, which are the same in both.
+      asked-here : verdict O R scratch t o ≡ left size n c co ns scratch (length t) (length o)
       unfolding verdict
-      asked-here = asked F n c A (is .accepts) m x g (is .first) co scratch (length t) (length o)
+      asked-here = asked F n c A (is .accepts) m x g (is .first) co ns scratch (length t) (length o)
 
-      asked-there : verdict O R′ scratch t′ o′ ≡ left size n c co scratch (length t′) (length o′)
+      asked-there : verdict O R′ scratch t′ o′ ≡ left size n c co ns scratch (length t′) (length o′)
       unfolding verdict
-      asked-there = asked F n c A (is .accepts) (match O n c h x x′ m) x′ (match-good m g) (is .second) co scratch (length t′) (length o′)
+      asked-there = asked F n c A (is .accepts) (match O n c h x x′ m) x′ (match-good m g) (is .second) co ns scratch (length t′) (length o′)
 
-      -- A run that is not refused has room.
-      room : verdict O R scratch t o ≡ Accepted → n * scratchSize (layout c) ≤ length scratch
-      room e = room-of F n c A co scratch (length t) (length o) (sym asked-here ∙ e)
+      -- A run that is not refused has nonces and room.
+      enough : verdict O R scratch t o ≡ Accepted → Enough R scratch
+      unfolding verdict
+      enough e = called-enough O R scratch (length t) (length o) e
 
       module _ (e : verdict O R scratch t o ≡ Accepted) (e′ : verdict O R′ scratch t′ o′ ≡ Accepted) where
         -- Both runs end alike.
-        ends : Ends (pair m g co) A (known m g co) (whole O R scratch) (whole O R′ scratch)
-        ends = twins-whole (pair m g co) A (known m g co) scratch (room e)
+        ends : Ends (pair m g co ns) A (known m g co ns) (whole O R scratch) (whole O R′ scratch)
+        ends = twins-whole (pair m g co ns) A (known m g co ns) scratch (enough e)
 
         -- They give the same answer.
         same-answer : jointAnswer O R′ scratch t′ o′ ≡ jointAnswer O R scratch t o
         unfolding jointAnswer
-        same-answer = rw (e, e′, ends .rounds, ends .last .point)
+        same-answer = rw (e, e′, ends .rounds, ends .last .point, ends .last .blame)
 
         -- They leave the same numbers in the scratch of A's parties.
         same-bands : (i : ℕ) → i < n → A i ≡ true → bandOf O n c A (jointScratch O R′ scratch t′ o′) i ≡ bandOf O n c A (jointScratch O R scratch t o) i
         same-bands i l a =
-            band-left O R′ scratch t′ o′ (room e) e′ i l ∙ ends .last .bands i l a ∙ sym (band-left O R scratch t o (room e) e i l)
+            band-left O R′ scratch t′ o′ (enough e .room) e′ i l ∙ ends .last .bands i l a ∙ sym (band-left O R scratch t o (enough e .room) e i l)
 
       -- The two runs are alike.
       alike : Alike O n c A R R′ scratch t o t′ o′
       alike =
           record {
-            refusals = λ lt lo. asked-there ∙ ap₂ (left size n c co scratch) (sym lt) (sym lo) ∙ sym asked-here;
+            refusals = λ lt lo. asked-there ∙ ap₂ (left size n c co ns scratch) (sym lt) (sym lo) ∙ sym asked-here;
             answers = same-answer;
             rounds = λ e e′. ends e e′ .rounds;
             words = λ e e′. ends e e′ .transcript;
@@ -175,24 +180,24 @@ module _ {O : Ops} (F : Field O) (n : ℕ) (c : List ℕ) (A : ℕ → Bool) whe
 -- Demand 3, over every field.
 pub secrecy : {O : Ops} → Field O → Secrecy O
 unfolding rule
-secrecy F n c A x x′ is =
+secrecy {O} F n c A x x′ is =
     record {
       there-good = match-good F n c A x x′ is;
       back-good = match-good F n c A x′ x (exchanged F n c A x x′ is);
       back-there = match-back F n c A x x′ is;
       there-back = match-back F n c A x′ x (exchanged F n c A x x′ is);
       keeps = match-keeps F n c A x x′ is;
-      alike = λ m g co scratch t o t′ o′. alike F n c A x x′ is m g co scratch t o t′ o′;
+      alike = λ m g co ns scratch t o t′ o′. alike F n c A x x′ is m g co ns scratch t o t′ o′;
     }
 
 module _ {O : Ops} (n : ℕ) (c : List ℕ) (A : ℕ → Bool) where
   -- What one run shows to A, the run on matched preprocessing shows too.
   shown : (x x′ : List ℕ) (there back : List ℕ → List ℕ) → Secret O n c A x x′ there back
-      → (co scratch t o words : List ℕ) (preps bands : ℕ → List ℕ) (m : List ℕ)
+      → (co ns scratch t o words : List ℕ) (preps bands : ℕ → List ℕ) (m : List ℕ)
       → Good O n c m
-      → Shows O n c A (runOf O n c A m x co) scratch t o words preps bands
-      → Good O n c (there m) × Shows O n c A (runOf O n c A (there m) x′ co) scratch t o words preps bands
-  shown x x′ there back is co scratch t o words preps bands m g shows = (
+      → Shows O n c A (runOf O n c A m x co ns) scratch t o words preps bands
+      → Good O n c (there m) × Shows O n c A (runOf O n c A (there m) x′ co ns) scratch t o words preps bands
+  shown x x′ there back is co ns scratch t o words preps bands m g shows = (
     is .there-good m g,
     record {
       owns = λ i l a. is .keeps m g i l a ∙ shows .owns i l a;
@@ -202,18 +207,18 @@ module _ {O : Ops} (n : ℕ) (c : List ℕ) (A : ℕ → Bool) where
     },
   )
     where
-      runs : Alike O n c A (runOf O n c A m x co) (runOf O n c A (there m) x′ co) scratch t o t o
-      runs = is .alike m g co scratch t o t o
+      runs : Alike O n c A (runOf O n c A m x co ns) (runOf O n c A (there m) x′ co ns) scratch t o t o
+      runs = is .alike m g co ns scratch t o t o
 
-      accepted : verdict O (runOf O n c A (there m) x′ co) scratch t o ≡ Accepted
+      accepted : verdict O (runOf O n c A (there m) x′ co ns) scratch t o ≡ Accepted
       accepted = runs .refusals refl refl ∙ shows .accepted
 
 -- A view tells nothing of the inputs, over every field.
 pub blindness : {O : Ops} → Field O → Blindness O
-blindness {O} F n c A x x′ is co scratch t o words preps bands =
+blindness {O} F n c A x x′ is co ns scratch t o words preps bands =
     record {
-      there-shows = shown n c A x x′ _ _ here co scratch t o words preps bands;
-      back-shows = shown n c A x′ x _ _ (secrecy F n c A x′ x (exchanged F n c A x x′ is)) co scratch t o words preps bands;
+      there-shows = shown n c A x x′ _ _ here co ns scratch t o words preps bands;
+      back-shows = shown n c A x′ x _ _ (secrecy F n c A x′ x (exchanged F n c A x x′ is)) co ns scratch t o words preps bands;
       back-there = here .back-there;
       there-back = here .there-back;
     }

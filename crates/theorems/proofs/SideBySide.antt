@@ -30,18 +30,18 @@ use Rattle.theorems.proofs.Closed.{Opening, Masked, Shown, openings, Ev
 use Rattle.theorems.proofs.Matching.{Moved, MovedMask, MovedTriple, same-key, moved-mask, moved-triple}
 
 -- a joint run of n parties
-abbrev pub runWith : ℕ → List ℕ → List ℕ → List ℕ → List ℕ → Joint
-runWith n c preps inputs coefficients =
-    record { parties = n; circuit = c; preps = preps; inputs = inputs; coefficients = coefficients }
+abbrev pub runWith : ℕ → List ℕ → List ℕ → List ℕ → List ℕ → List ℕ → Joint
+runWith n c preps inputs coefficients nonces =
+    record { parties = n; circuit = c; preps = preps; inputs = inputs; coefficients = coefficients; nonces = nonces }
 
 -- two rows of parts, one part a party, that are the same at every party but h
 abbrev pub Beside : ℕ → ℕ → (ℕ → Part) → (ℕ → Part) → Type 0
 Beside n h w w′ = (i : ℕ) → i < n → i ≢ h → w′ i ≡ w i
 
 -- A value on plain inputs depends on the circuit and the inputs alone.
-pub plain-value : (O : Ops) (n : ℕ) (c m x co : List ℕ) (j : ℕ) → value O (runWith n c m x co) j ≡ value O (plainly n c x) j
+pub plain-value : (O : Ops) (n : ℕ) (c m x co ns : List ℕ) (j : ℕ) → value O (runWith n c m x co ns) j ≡ value O (plainly n c x) j
 unfolding value values plainInput plainly inputOf party
-plain-value O n c m x co j = refl
+plain-value O n c m x co ns j = refl
 
 -- party i's check share of what is opened in os, with coefficients r
 abbrev pub sigma : Ops → Joint → List Opening → (ℕ → ℕ) → ℕ → ℕ
@@ -58,7 +58,7 @@ sigma-sum {O} F J has os r carries =
     check-zero F (J .parties) (length os) (keys O J) r _ (λ t i. opened O J (getD os t (Shown 0)) i .mac)
     (λ t lt. carries t lt .macs ∙ ap (O .mul _) (sym (carries t lt .shares)))
 
--- n parties run circuit c twice with coefficients co: on inputs x with good preprocessing m, and on x′ with its match, in which party h
+-- n parties run circuit c twice with coefficients co and nonces ns: on inputs x with good preprocessing m, and on x′ with its match, in which party h
 -- carries the differences
 pub record Pair {O : Ops} (F : Field O) : Type 0 where
   pub n : ℕ
@@ -68,25 +68,26 @@ pub record Pair {O : Ops} (F : Field O) : Type 0 where
   pub x′ : List ℕ
   pub m : List ℕ
   pub co : List ℕ
+  pub ns : List ℕ
   pub h-lt : h < n
   pub good : Good O n c m
-  pub has : Given O (runWith n c m x co)
-  pub has′ : Given O (runWith n c (match O n c h x x′ m) x′ co)
+  pub has : Given O (runWith n c m x co ns)
+  pub has′ : Given O (runWith n c (match O n c h x x′ m) x′ co ns)
   -- the outputs are equal
   pub outputs : (j : ℕ) → j < gates c → shape (gate c j) .class ≡ Output
       → value O (plainly n c x′) (gate c j .first) ≡ value O (plainly n c x) (gate c j .first)
 
 module _ {O : Ops} {F : Field O} (P : Pair F) where
-  open Pair P using (n, c, h, x, x′, m, co, h-lt, good, has, has′, outputs)
+  open Pair P using (n, c, h, x, x′, m, co, ns, h-lt, good, has, has′, outputs)
   open Ops O using (norm, add, sub, mul)
   open Field F using (norm-add)
 
   -- the two runs
   abbrev pub J : Joint
-  J = runWith n c m x co
+  J = runWith n c m x co ns
 
   abbrev pub J′ : Joint
-  J′ = runWith n c (match O n c h x x′ m) x′ co
+  J′ = runWith n c (match O n c h x x′ m) x′ co ns
 
   -- The key shares are the same.
   pub same-keys : (i : ℕ) → i < n → keys O J′ i ≡ keys O J i
@@ -119,7 +120,7 @@ module _ {O : Ops} {F : Field O} (P : Pair F) where
       ∙ sub-moved F (plainInput O (plainly n c x) j) (plainInput O (plainly n c x′) j) _
       ∙ ap (λ (u : ℕ). sub u (getD (recordOf (party J (gate c j .first)) j) wholeMaskAt 0)) (own x m)
     where
-      own : (x m : List ℕ) → plainInput O (plainly n c x) j ≡ inputOf (party (runWith n c m x co) (gate c j .first)) j
+      own : (x m : List ℕ) → plainInput O (plainly n c x) j ≡ inputOf (party (runWith n c m x co ns) (gate c j .first)) j
       own x m = unfold plainInput plainly inputOf party in refl
 
   -- What hides a value moves with it, so that what is opened is the same.
@@ -127,9 +128,9 @@ module _ {O : Ops} {F : Field O} (P : Pair F) where
       → openedValue O J′ (Masked j y k) ≡ openedValue O J (Masked j y k)
   unfolding openedValue valueMove
   same-masked j y k v =
-      ap₂ sub (plain-value O n c (match O n c h x x′ m) x′ co y) (sum-prepared j k _ v)
+      ap₂ sub (plain-value O n c (match O n c h x x′ m) x′ co ns y) (sum-prepared j k _ v)
       ∙ sub-moved F (value O (plainly n c x) y) (value O (plainly n c x′) y) _
-      ∙ ap (λ (u : ℕ). sub u (sumOf O J (prepared O J j k))) (sym (plain-value O n c m x co y))
+      ∙ ap (λ (u : ℕ). sub u (sumOf O J (prepared O J j k))) (sym (plain-value O n c m x co ns y))
 
   -- what is opened carries its value in both runs, and the value is the same
   pub record SameValue (o : Opening) : Type 0 where
@@ -258,7 +259,7 @@ module _ {O : Ops} {F : Field O} (P : Pair F) where
             record {
               carries = carries-shown F J has j l e;
               carries′ = carries-shown F J′ has′ j l e;
-              values = plain-value O n c (match O n c h x x′ m) x′ co y ∙ outputs j l e ∙ sym (plain-value O n c m x co y);
+              values = plain-value O n c (match O n c h x x′ m) x′ co ns y ∙ outputs j l e ∙ sym (plain-value O n c m x co ns y);
             };
         others = beside y (omega (arith, ref .earlier));
         low = reduced J (has .valid) y (omega (arith, ref .earlier)) h;

@@ -1,18 +1,26 @@
 -- The example with an sq gate, computed.
 -- Assumes nothing.
 use Prim.Native.Nat.{ℕ, zero, suc, _<_}
-use mathlib.Core.Path.{refl, sym, subst}
+use mathlib.Core.Path.{_≡_, refl, sym, ap, subst, _∙_}
+use mathlib.Core.List.{List}
 use native.Mathlib.Omega.{arith}
+use borrow.Author.Tests.{leb-true}
 use Rattle.field.specs.Words.{ops}
 use Rattle.field.specs.Prime.{modular}
 use Rattle.field.specs.Prime.Laws.{prime-is-modular}
 use Rattle.circuit.specs.Gate.{gate, gates}
 use Rattle.circuit.specs.Kind.{shape}
+use Rattle.circuit.specs.Round.{commitsIn, checkCount}
+use Rattle.protocol.specs.Run.{Run, begun, whole}
 use Rattle.protocol.specs.Good.{GoodRecord}
 use Rattle.protocol.proofs.Computing.{computing}
-use Rattle.theorems.specs.Premises.{after}
+use Rattle.theorems.specs.Premises.{Accepts, Enough, after}
 use Rattle.theorems.specs.Matching.{leftOut, addLists, only, plainly, inputMove, valueMove, moved, productMove, maskMove, recordMove, prepMove, match, rule}
-use Rattle.theorems.specs.Squares.{circuit, preps, inputs₁, inputs₂, Squares}
+use Rattle.theorems.specs.Secrecy.{bandOf}
+use Rattle.theorems.specs.Example.{A, blank, unwritten}
+use Rattle.theorems.specs.Squares.{circuit, preps, matched, inputs₁, inputs₂, rooms, squaring, Squares}
+use Rattle.theorems.proofs.Known.{hashed}
+use Rattle.theorems.proofs.Hashed.{runs, whole-is, answer-is, scratch-is, outputs-are, hashing}
 use Rattle.theorems.proofs.Docket.{allBelow, below}
 use Rattle.theorems.proofs.Example.{agree}
 
@@ -23,21 +31,35 @@ good-records (suc zero) l = record { mac-a = refl; mac-b = refl; mac-c = refl; p
 good-records (suc (suc zero)) l = tt
 good-records (suc (suc (suc j))) l = absurd (omega arith)
 
+accepts : Accepts modular 2 circuit
+unfolding computing modular
+accepts = record { parties = refl; circuit = refl }
+
+-- The runs have nonces and scratch enough.
+enough : (m x : List ℕ) → Enough (squaring modular m x) rooms
+unfolding computing checkCount commitsIn
+enough m x = record { nonces = leb-true _ _ refl; room = leb-true _ _ refl }
+
+words : (m x : List ℕ)
+    → whole modular (squaring modular m x) rooms .transcript ≡ runs hashed modular (squaring modular m x) 15 (begun modular (squaring modular m x) rooms) .transcript
+unfolding computing
+words m x = ap (λ (R : Run). R .transcript) (whole-is modular (squaring modular m x) rooms accepts (enough m x))
+
 computed : Squares modular
-unfolding computing modular allBelow after leftOut addLists only plainly inputMove valueMove moved productMove maskMove recordMove prepMove match rule
+unfolding hashing modular allBelow after leftOut addLists only plainly inputMove valueMove moved productMove maskMove recordMove prepMove match rule
 computed =
     record {
       good = record { long = refl; elements = below 2147483647 preps tt; records = good-records };
       opened-E = (refl, refl);
       macs-of-E = (refl, refl);
       square = (refl, refl);
-      rounds = refl;
+      rounds = answer-is modular (squaring modular preps inputs₁) rooms blank unwritten accepts (enough preps inputs₁);
       formula = refl;
-      output = refl;
-      words = refl;
+      output = outputs-are modular (squaring modular preps inputs₁) rooms blank unwritten accepts (enough preps inputs₁);
+      words = words preps inputs₁;
       compared =
           record {
-            accepts = record { parties = refl; circuit = refl };
+            accepts = accepts;
             outside = (0, omega arith, refl);
             first = refl;
             second = refl;
@@ -45,8 +67,10 @@ computed =
             equal-scores = refl;
           };
       match-is = refl;
-      same-words = refl;
-      same-bands = refl;
+      same-words = words matched inputs₂;
+      same-bands =
+          ap (λ (l : List ℕ). bandOf modular 2 circuit A l 1) (scratch-is modular (squaring modular matched inputs₂) rooms blank unwritten accepts (enough matched inputs₂))
+          ∙ sym (ap (λ (l : List ℕ). bandOf modular 2 circuit A l 1) (scratch-is modular (squaring modular preps inputs₁) rooms blank unwritten accepts (enough preps inputs₁)));
     }
 
 -- at the operations that the contracts cite

@@ -1,10 +1,10 @@
--- What a joint run keeps on any preprocessing, good or bad: every scratch holds what the next round asks, the check shares held are elements,
--- the shown value is the same at all parties, and the coefficients used are those of the rounds made.
+-- What a joint run keeps on any preprocessing, good or bad, beside its course: every scratch holds what the next round asks, the check shares held
+-- are elements, and the shown value is the same at all parties.
 -- Assumes nothing.
-use Prim.Native.Nat.{ℕ, suc, _+_, _-_, _*_, _<_, _≤_}
+use Prim.Native.Nat.{ℕ, suc, _-_, _<_, _≤_}
 use mathlib.Core.Path.{_≡_, refl, sym, ap, subst, _∙_}
 use mathlib.Core.Bool.{Bool, true, false, cond}
-use mathlib.Core.List.{List}
+use mathlib.Core.List.{List, []}
 use native.Mathlib.Omega.{arith}
 use lib.ListN.{length}
 use Rattle.algebra.specs.Ops.{Ops}
@@ -12,23 +12,25 @@ use Rattle.algebra.specs.Field.{Field}
 use Rattle.algebra.proofs.Ring.{sub-lt}
 use Rattle.circuit.specs.Gate.{gate, gates}
 use Rattle.circuit.specs.Count.{unchecked}
-use Rattle.circuit.specs.Round.{Check, First, Second, Round, Own, Open, Commit, Reveal, isCommit, openedIn, coefficientsIn, overRun}
+use Rattle.circuit.specs.Round.{Check, First, Second, Round, Own, Open, Commit, Reveal, isCommit, openedIn, nonceIn}
 use Rattle.circuit.specs.Valid.{Valid}
 use Rattle.circuit.proofs.Tests.{by-cases, false-no}
 use Rattle.circuit.proofs.Counts.{unchecked-fits}
-use Rattle.protocol.specs.Scratch.{layout, scratchSize, Value, read}
-use Rattle.protocol.specs.Position.{Point, Stage, Send, Receive, Finished, Aborted, finished, aborted, reach, resume, start, follow, keep, mayHold}
+use Rattle.protocol.specs.Scratch.{layout, Value, read}
+use Rattle.protocol.specs.Position.{Point, Stage, Send, Receive, Finished, Aborted, finished, aborted, reach, resume, start, keep, mayHold}
 use Rattle.protocol.specs.Party.{key}
-use Rattle.protocol.specs.Send.{checkShare, holds}
-use Rattle.protocol.specs.Receive.{afterOpenOutput, passes, next, received}
-use Rattle.protocol.specs.Joint.{Joint, party}
-use Rattle.protocol.specs.Run.{State, begun, takes, said, step}
+use Rattle.protocol.specs.Send.{checkShare, holds, noted}
+use Rattle.protocol.specs.Receive.{afterOpenOutput, passed, received, left}
+use Rattle.protocol.specs.Joint.{Joint, party, nonceFor}
+use Rattle.protocol.specs.Run.{State, begun, said, notes, ends, step}
 use Rattle.protocol.proofs.InOrder.{begins}
 use Rattle.protocol.proofs.Following.{followed, next-followed, next-aborted, next-holds, start-is}
-use Rattle.protocol.proofs.Points.{Reached, reached, Entered, ended, begun as beginning, entered, Fits, FitsStage, spentStage, spent, goes-start, fits-follow, spent-follow}
+use Rattle.protocol.proofs.Points.{Reached, reached, Entered, ended, begun as beginning, entered, FitsStage}
 use Rattle.protocol.proofs.Slots.{value-opened-same}
-use Rattle.protocol.proofs.Keeping.{Stands, Stood, received-stands, start-stands}
-use Rattle.protocol.proofs.Words.{length-band}
+use Rattle.protocol.proofs.Keeping.{Stands, Stood, received-stands, noted-stood, start-stands}
+use Rattle.protocol.proofs.Tails.{slots-room}
+use Rattle.protocol.proofs.Marks.{ends-reveals}
+use Rattle.theorems.proofs.Sealing.{Kept, kept-room, said-long, commit-slots}
 
 -- the rounds in which the shown value is checked: those of the second check
 unfoldable pub isSecond : Check → Bool
@@ -69,48 +71,46 @@ shown-resumed c j l l₀ h =
     let k : Reached c j (reach c (gates c - j) j) = reached c (gates c - j) j (omega arith) in
     shown-entered c _ _ l l₀ (entered c _ (k .within) (k .stands))
 
--- a run that has ended
-abbrev pub Over : Stage → Type 0
-Over (Send r) = ⊥
-Over (Receive r) = ⊥
-Over Finished = Unit {0}
-Over Aborted = Unit {0}
-
 module _ {O : Ops} (F : Field O) (J : Joint) (ok : Valid (J .parties) (O .size) (J .circuit)) where
   open Ops O using (size)
 
   -- party i in a run
   pub record Sound (s : State) (i : ℕ) : Type 0 where
-    pub long : length (s .scratch i) ≡ scratchSize (layout (J .circuit))
     pub low : s .held i < size
     pub none : mayHold (s .point .stage) ≡ false → s .held i ≡ 0
     pub stands : Stands size (J .circuit) (s .scratch i) (s .point .gate) (s .point .stage)
     pub alike : ShownAlike (J .circuit) (s .point .stage) (s .scratch i) (s .scratch 0)
 
-  -- how many coefficients a round takes
-  abbrev pub taking : ℕ → Round → ℕ
-  taking j r = coefficientsIn (unchecked (J .circuit) j) r
-
-  -- where a run stands: a round is about to be sent, with the coefficients of those before it used; or the run has ended
-  pub data Course (s : State) : Type 0 where
-    going : (r : Round) → s .point .stage ≡ Send r → FitsStage (J .circuit) (s .point .gate) (Send r)
-        → s .used ≡ spentStage (J .circuit) taking (s .point .gate) (Send r)
-        → Course s
-    over : Over (s .point .stage) → Course s
-
-  module _ (s : State) (r : Round) (e : s .point .stage ≡ Send r) (fits : FitsStage (J .circuit) (s .point .gate) (Send r)) where
+  module _ (s : State) (kept : Kept O J s) (r : Round) (e : s .point .stage ≡ Send r) (fits : FitsStage (J .circuit) (s .point .gate) (Send r)) where
     -- What a round asks is there.
-    pub stood : (i : ℕ) → Sound s i → Stood (J .parties) size (J .circuit) (s .scratch i) (s .point .gate) r
-    stood i k =
+    pub stood : (i : ℕ) → i < J .parties → Sound s i → Stood (J .parties) size (J .circuit) (s .scratch i) (s .point .gate) r
+    stood i l k =
         let t = subst (Stands size (J .circuit) (s .scratch i) (s .point .gate)) e (k .stands) in
         record {
           valid = ok;
-          room = omega (arith, k .long);
+          room = kept-room O J s kept i l;
           within = fits .0;
           occurs = fits .1;
           worked = t .0;
           opened = t .1;
         }
+
+    -- the nonce that party i is handed: at a commitment its own, and none elsewhere
+    abbrev pub handedNonce : ℕ → List ℕ
+    handedNonce i = cond (isCommit r) (nonceFor J (s .checks) i) []
+
+    pub handed-long : (i : ℕ) → i < J .parties → length (handedNonce i) ≡ nonceIn r
+    unfolding nonceIn
+    handed-long i l = by-cases (isCommit r) (λ z. rw z (kept .nonces r e z i l)) (λ z. rw z)
+
+    -- Elsewhere a nonce does not matter.
+    pub notes-handed : (i : ℕ) → notes O J s r i ≡ noted O (party J i) (s .scratch i) r (handedNonce i)
+    unfolding notes noted
+    notes-handed i = by-cases (isCommit r) (λ z. rw z) (λ z. rw z)
+
+    pub stood-noted : (i : ℕ) → i < J .parties → Sound s i → Stood (J .parties) size (J .circuit) (notes O J s r i) (s .point .gate) r
+    unfolding party
+    stood-noted i l k = rw (notes-handed i) (noted-stood F (party J i) (s .scratch i) (s .point .gate) [] r (handedNonce i) (handed-long i l) (stood i l k))
 
     -- the words of all
     abbrev heard : List ℕ
@@ -130,89 +130,61 @@ module _ {O : Ops} (F : Field O) (J : Joint) (ok : Valid (J .parties) (O .size) 
     holds-none i taken h = rw h
 
     -- The value that is shown is the same at all.
-    shown-next : (t : Round) → r ≡ t → (i : ℕ) → Sound s i → Sound s 0 → passes O (J .parties) t (said O J s t) ≡ true
+    shown-next : (t : Round) → r ≡ t → (i : ℕ) → i < J .parties → 0 < J .parties → Sound s i
         → ShownAlike (J .circuit) (followed (J .circuit) (s .point .gate) t .stage)
-        (received O (party J i) (s .scratch i) (s .point .gate) t (said O J s t))
-        (received O (party J 0) (s .scratch 0) (s .point .gate) t (said O J s t))
-    shown-next Own q i k k₀ h = shown-resumed (J .circuit) (suc (s .point .gate)) _ _ (fits .0)
-    shown-next Open q i k k₀ h =
-        λ z. unfold received afterOpenOutput party in
-        value-opened-same (layout (J .circuit)) (s .scratch i) 0 _ _ (omega (arith, k .long)) some
-        ∙ sym (value-opened-same (layout (J .circuit)) (s .scratch 0) 0 _ _ (omega (arith, k₀ .long)) some)
+        (received O (party J i) (notes O J s t i) (s .point .gate) t (said O J s t))
+        (received O (party J 0) (notes O J s t 0) (s .point .gate) t (said O J s t))
+    shown-next Own q i l l₀ k = shown-resumed (J .circuit) (suc (s .point .gate)) _ _ (fits .0)
+    shown-next Open q i l l₀ k =
+        λ z. unfold received afterOpenOutput party notes noted in
+        value-opened-same (layout (J .circuit)) (s .scratch i) 0 _ _ (slots-room (J .parties) (J .circuit) (kept-room O J s kept i l)) some
+        ∙ sym (value-opened-same (layout (J .circuit)) (s .scratch 0) 0 _ _ (slots-room (J .parties) (J .circuit) (kept-room O J s kept 0 l₀)) some)
       where
         some : 0 < layout (J .circuit) .capacity
         some = unfold layout in omega (arith, unchecked-fits (J .circuit) (s .point .gate) (omega (arith, fits .0)))
-    shown-next (Commit x) q i k k₀ h =
-        λ z. unfold received in
-        subst (λ (g : Stage). ShownAlike (J .circuit) g (s .scratch i) (s .scratch 0)) (e ∙ ap Send q) (k .alike) (unfold checksOutput in z)
-    shown-next (Reveal First) q i k k₀ h = λ z. unfold checksOutput in false-no z
-    shown-next (Reveal Second) q i k k₀ h = shown-resumed (J .circuit) (suc (s .point .gate)) _ _ (fits .0)
+    shown-next (Commit x) q i l l₀ k =
+        λ z. unfold received party notes noted in
+        commit-slots O J s kept x (e ∙ ap Send q) there i l (Value 0) some
+        ∙ subst (λ (g : Stage). ShownAlike (J .circuit) g (s .scratch i) (s .scratch 0)) (e ∙ ap Send q) (k .alike) (unfold checksOutput in z)
+        ∙ sym (commit-slots O J s kept x (e ∙ ap Send q) there 0 l₀ (Value 0) some)
+      where
+        some : 0 < layout (J .circuit) .capacity
+        some = unfold layout in omega (arith, unchecked-fits (J .circuit) (s .point .gate) (omega (arith, fits .0)))
+
+        there : FitsStage (J .circuit) (s .point .gate) (Send (Commit x))
+        there = subst (λ (t : Round). FitsStage (J .circuit) (s .point .gate) (Send t)) q fits
+    shown-next (Reveal First) q i l l₀ k = λ z. unfold checksOutput in false-no z
+    shown-next (Reveal Second) q i l l₀ k = shown-resumed (J .circuit) (suc (s .point .gate)) _ _ (fits .0)
 
     -- A round keeps all that.
-    pub sound-step : (i : ℕ) → Sound s i → Sound s 0 → Sound (step O J s r) i
-    unfolding step party
-    sound-step i k k₀ =
-        let t = received-stands F (party J i) (s .scratch i) (s .point .gate) heard r (stood i k) in
+    pub sound-step : (i : ℕ) → i < J .parties → 0 < J .parties → Sound s i → Sound (step O J s r) i
+    sound-step i l l₀ k =
         record {
-          long = t .len ∙ k .long;
-          low = unfold keep in by-cases (isCommit r) (λ h. rw h (holds-low i _)) (λ h. rw h (omega (arith, F .one-lt)));
-          none = λ h. unfold keep in (rw (sym (next-holds (J .circuit) O (J .parties) (s .point .gate) heard r (fits .1)) ∙ h));
-          stands = t .stands;
-          alike =
-              by-cases (passes O (J .parties) r heard)
-              (λ h. rw (next-followed (J .circuit) O (J .parties) (s .point .gate) heard r (fits .1) h) (shown-next r refl i k k₀ h))
-              (λ h. rw (next-aborted (J .circuit) O (J .parties) (s .point .gate) heard r (fits .1) h) (unfold aborted in tt));
+          low = unfold step keep in by-cases (isCommit r) (λ h. rw h (holds-low i _)) (λ h. rw h (omega (arith, F .one-lt)));
+          none = λ h. unfold step keep in (rw (sym (holding-then h)));
+          stands = unfold step party in received-stands F (party J i) (notes O J s r i) (s .point .gate) heard r (stood-noted i l k) (said-long O J s kept r fits) (ends O J s r) .stands;
+          alike = by-cases (passed (ends O J s r)) on off;
         }
-
-    -- It leads on, or the run ends.
-    pub course-step : s .used ≡ spentStage (J .circuit) taking (s .point .gate) (Send r) → Course (step O J s r)
-    course-step used = go (passes O (J .parties) r heard) refl
       where
-        after : passes O (J .parties) r heard ≡ true → step O J s r .point ≡ follow (J .circuit) (s .point .gate) r
-        after h = unfold step next in rw h
+        holding-then : mayHold (step O J s r .point .stage) ≡ false → false ≡ isCommit r
+        holding-then h = sym h ∙ (unfold step in next-holds (J .circuit) (s .point .gate) (ends O J s r) r (fits .1) (ends-reveals O J s r))
 
-        spends : step O J s r .used ≡ spentStage (J .circuit) taking (s .point .gate) (Send r) + taking (s .point .gate) r
-        spends = unfold step takes in ap (λ (k : ℕ). k + taking (s .point .gate) r) used
+        on : passed (ends O J s r) ≡ true → ShownAlike (J .circuit) (step O J s r .point .stage) (step O J s r .scratch i) (step O J s r .scratch 0)
+        on h =
+            unfold step left in
+            rw (next-followed (J .circuit) (s .point .gate) (ends O J s r) r (fits .1) h, h) (shown-next r refl i l l₀ k)
 
-        on : (x : Point) → step O J s r .point ≡ x → Fits (J .circuit) x → spent (J .circuit) taking x ≡ spentStage (J .circuit) taking (s .point .gate) (Send r) + taking (s .point .gate) r
-            → Course (step O J s r)
-        on x q f behind = at (x .stage) refl
-          where
-            at : (g : Stage) → x .stage ≡ g → Course (step O J s r)
-            at (Send t) z =
-                going t (ap (λ (y : Point). y .stage) q ∙ z)
-                (subst (λ (y : Point). FitsStage (J .circuit) (y .gate) (Send t)) (sym q) (subst (FitsStage (J .circuit) (x .gate)) z f))
-                (spends
-                ∙ sym behind
-                ∙ ap (spentStage (J .circuit) taking (x .gate)) z
-                ∙ ap (λ (y : Point). spentStage (J .circuit) taking (y .gate) (Send t)) (sym q))
-            at (Receive t) z = absurd (subst (FitsStage (J .circuit) (x .gate)) z f)
-            at Finished z = over (subst Over (sym (ap (λ (y : Point). y .stage) q ∙ z)) tt)
-            at Aborted z = absurd (subst (FitsStage (J .circuit) (x .gate)) z f)
-
-        go : (b : Bool) → passes O (J .parties) r heard ≡ b → Course (step O J s r)
-        go true h = on (follow (J .circuit) (s .point .gate) r) (after h) (fits-follow (J .circuit) (s .point .gate) r fits) (spent-follow (J .circuit) taking (s .point .gate) r fits)
-        go false h =
-            let q : step O J s r .point ≡ aborted (s .point .gate) = (unfold step next in rw h) in
-            over (subst (λ (x : Point). Over (x .stage)) (sym q) (unfold aborted in tt))
+        off : passed (ends O J s r) ≡ false → ShownAlike (J .circuit) (step O J s r .point .stage) (step O J s r .scratch i) (step O J s r .scratch 0)
+        off h = unfold step in (rw (next-aborted (J .circuit) (s .point .gate) (ends O J s r) r (fits .1) h) (unfold aborted in tt))
 
   -- It holds where a run begins.
-  pub sound-begun : (scratch : List ℕ) → J .parties * scratchSize (layout (J .circuit)) ≤ length scratch → (i : ℕ) → i < J .parties → Sound (begun O J scratch) i
+  pub sound-begun : (scratch : List ℕ) (i : ℕ) → Sound (begun O J scratch) i
   unfolding begun
-  sound-begun scratch room i h =
+  sound-begun scratch i =
       let q : start (J .circuit) ≡ record { gate = 0; stage = Send Own } = start-is (J .circuit) (J .parties) size ok in
       record {
-        long = length-band (scratchSize (layout (J .circuit))) (J .parties) scratch room i h;
         low = omega (arith, F .one-lt);
         none = λ z. refl;
         stands = rw q (start-stands size (J .circuit) _);
         alike = rw q (λ z. unfold checksOutput in false-no z);
       }
-
-  pub course-begun : (scratch : List ℕ) → Course (begun O J scratch)
-  unfolding begun overRun
-  course-begun scratch =
-      let q : start (J .circuit) ≡ record { gate = 0; stage = Send Own } = start-is (J .circuit) (J .parties) size ok in
-      let g = goes-start (J .circuit) ok in
-      going Own (ap (λ (x : Point). x .stage) q) (rw q (subst (Fits (J .circuit)) q (g .fits)))
-      (sym (g .spent-is taking) ∙ ap (spent (J .circuit) taking) q ∙ ap (λ (x : Point). spentStage (J .circuit) taking (x .gate) (Send Own)) (sym q))

@@ -9,7 +9,8 @@ use Rattle.algebra.specs.Ops.{Ops}
 use Rattle.circuit.specs.Gate.{gates}
 use Rattle.circuit.specs.Count.{prepSize, inputCount}
 use Rattle.protocol.specs.Position.{holding, finished}
-use Rattle.protocol.specs.Joint.{joined, band}
+use Rattle.protocol.specs.Scratch.{band}
+use Rattle.protocol.specs.Joint.{joined}
 use Rattle.protocol.specs.Plain.{scores}
 use Rattle.protocol.specs.Good.{Good}
 use Rattle.protocol.specs.Formula.{roundFormula}
@@ -18,11 +19,11 @@ use Rattle.theorems.specs.Secrecy.{Compared}
 use Rattle.theorems.specs.Apart.{Apart, partyIn, outputsIn, apart, heardIn, jointly, Meets}
 
 -- "each score is the circuit's value on the plain inputs": after the rounds of the formula every party is finished and has released the scores
-pub record Scored (O : Ops) (D : Apart) (coefficients : List ℕ) : Type 0 where
+pub record Scored (O : Ops) (D : Apart) (coefficients nonces : List ℕ) : Type 0 where
   pub finishes : (i : ℕ) → i < D .parties → apart O D (roundFormula (D .circuit)) i .position ≡ holding (finished (D .circuit)) 0
   pub outputs : (i : ℕ)
       → i < D .parties
-      → outputsIn (apart O D (roundFormula (D .circuit)) i .answers) ≡ scores O (jointly D coefficients) (gates (D .circuit))
+      → outputsIn (apart O D (roundFormula (D .circuit)) i .answers) ≡ scores O (jointly D coefficients nonces) (gates (D .circuit))
 
 -- the good preprocessing of all parties
 abbrev pub GoodApart : Ops → Apart → Type 0
@@ -30,10 +31,10 @@ GoodApart O D = Good O (D .parties) (D .circuit) (joined (D .parties) (D .prep))
 
 -- demand 2 with good preprocessing
 abbrev pub Scores : Ops → Type 0
-Scores O = (D : Apart) (coefficients : List ℕ) → Meets O D coefficients → GoodApart O D → Scored O D coefficients
+Scores O = (D : Apart) (coefficients nonces : List ℕ) → Meets O D coefficients nonces → GoodApart O D → Scored O D coefficients nonces
 
--- the same parties on other inputs, with the preprocessing that the rule of secrecy matches with theirs; scratch, coefficients and lists for
--- words are alike
+-- the same parties on other inputs, with the preprocessing that the rule of secrecy matches with theirs; scratch, coefficients, nonces and
+-- lists for words are alike
 unfoldable pub matched : Ops → Apart → (ℕ → Bool) → (ℕ → List ℕ) → Apart
 matched O D A inputs′ =
     record {
@@ -45,6 +46,7 @@ matched O D A inputs′ =
       inputs = inputs′;
       scratch = D .scratch;
       coefficients = D .coefficients;
+      nonces = D .nonces;
       out = D .out;
     }
 
@@ -54,9 +56,9 @@ pub record ComparedApart (O : Ops) (D : Apart) (A : ℕ → Bool) (inputs′ : �
   pub counts : (i : ℕ) → i < D .parties → length (inputs′ i) ≡ inputCount (D .circuit) i
 
 -- two runs apart that A cannot tell apart
-pub record AlikeApart (O : Ops) (D D′ : Apart) (A : ℕ → Bool) (coefficients : List ℕ) : Type 0 where
+pub record AlikeApart (O : Ops) (D D′ : Apart) (A : ℕ → Bool) (coefficients nonces : List ℕ) : Type 0 where
   -- the second is not refused either
-  pub meets : Meets O D′ coefficients
+  pub meets : Meets O D′ coefficients nonces
   -- A's parties lend the same lists ..
   pub parties : (i : ℕ) → i < D .parties → A i ≡ true → partyIn D′ i ≡ partyIn D i
   -- .. in every round the words of all are the same ..
@@ -67,8 +69,8 @@ pub record AlikeApart (O : Ops) (D D′ : Apart) (A : ℕ → Bool) (coefficient
 -- demand 3 of parties apart. That the rule matches good preprocessing one for one is said of the joint run (`Secret`)
 abbrev pub SecrecyApart : Ops → Type 0
 SecrecyApart O =
-    (D : Apart) (coefficients : List ℕ) (A : ℕ → Bool) (inputs′ : ℕ → List ℕ)
-    → Meets O D coefficients
+    (D : Apart) (coefficients nonces : List ℕ) (A : ℕ → Bool) (inputs′ : ℕ → List ℕ)
+    → Meets O D coefficients nonces
     → GoodApart O D
     → ComparedApart O D A inputs′
-    → AlikeApart O D (matched O D A inputs′) A coefficients
+    → AlikeApart O D (matched O D A inputs′) A coefficients nonces

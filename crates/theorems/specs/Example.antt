@@ -1,4 +1,4 @@
--- Demand 3 is not empty: an example with the docket's circuit, preprocessing and coefficients. A has a party, and two sets of inputs that
+-- Demand 3 is not empty: an example with the docket's circuit, preprocessing, coefficients and nonces. A has a party, and two sets of inputs that
 -- differ have the same score.
 -- Assumes nothing.
 use Prim.Native.Nat.{ℕ}
@@ -11,11 +11,12 @@ use lib.ListN.{getD, replicate}
 use Rattle.algebra.specs.Ops.{Ops}
 use Rattle.circuit.specs.Verdict.{Accepted}
 use Rattle.circuit.specs.Count.{prepSize}
-use Rattle.protocol.specs.Joint.{Joint, band}
+use Rattle.protocol.specs.Scratch.{band}
+use Rattle.protocol.specs.Joint.{Joint}
 use Rattle.protocol.specs.Run.{whole}
 use Rattle.protocol.specs.JointEntry.{Done, verdict, jointAnswer, jointScratch}
 use Rattle.protocol.specs.Good.{Good}
-use Rattle.protocol.specs.Docket.{circuit, prep₀, prep₁, docket, rooms}
+use Rattle.protocol.specs.Docket.{circuit, prep₀, prep₁, docket, rooms, shows, marks₁}
 use Rattle.theorems.specs.Matching.{rule}
 use Rattle.theorems.specs.Secrecy.{runOf, bandOf, Compared, Secret}
 
@@ -43,22 +44,23 @@ transcript =
     (3 ∷ 0 ∷ [])
     ++ (0 ∷ 2147483637 ∷ [])
     ++ (3 ∷ 2147483638 ∷ 2147483646 ∷ 5 ∷ [])
-    ++ (1 ∷ 1 ∷ [])
-    ++ (10 ∷ 2147483637 ∷ [])
+    ++ marks₁
+    ++ (shows 10 ++ shows 2147483637)
     ++ (2147483646 ∷ 1 ∷ [])
-    ++ (1 ∷ 1 ∷ [])
-    ++ (2147483607 ∷ 40 ∷ [])
+    ++ (4229448015 ∷ 3639390048 ∷ 2313771460 ∷ 796279511 ∷ 2527768055 ∷ 854330321 ∷ 131585656 ∷ 700332419 ∷ [])
+    ++ (1619785894 ∷ 2164081785 ∷ 3536949554 ∷ 3876716347 ∷ 2208187221 ∷ 3440844418 ∷ 2608108055 ∷ 2021712727 ∷ [])
+    ++ (shows 2147483607 ++ shows 40)
 
 -- the lists that a run writes to: no number of them matters
 abbrev pub blank : List ℕ
-blank = replicate 18 9
+blank = replicate 78 9
 
 abbrev pub unwritten : List ℕ
 unwritten = 9 ∷ []
 
 module _ (O : Ops) where
   abbrev pub exampleRun : List ℕ → List ℕ → Joint
-  exampleRun m x = runOf O 2 circuit A m x (docket .coefficients)
+  exampleRun m x = runOf O 2 circuit A m x (docket .coefficients) (docket .nonces)
 
   -- the words of a run on preprocessing m and inputs x
   abbrev pub wordsOn : List ℕ → List ℕ → List ℕ

@@ -1,4 +1,4 @@
--- What is claimed of the joint run: accuracy, rounds, aborts, and secrecy; and of parties apart, that they are the joint run.
+-- What is claimed of the joint run: accuracy, rounds, aborts, and secrecy; of parties apart, that they are the joint run; and of marks, what they bind to.
 pub mod Premises
 pub mod Accuracy
 pub mod Abort
@@ -8,3 +8,5 @@ pub mod Example
 pub mod Squares
 pub mod Apart
 pub mod ApartDemands
+pub mod Binding
+pub mod Cancelled

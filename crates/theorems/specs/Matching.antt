@@ -29,7 +29,7 @@ only s d i = cond (eqb i s) d 0
 
 -- a run of n parties on inputs, for its values on plain inputs alone
 unfoldable pub plainly : ℕ → List ℕ → List ℕ → Joint
-plainly n c inputs = record { parties = n; circuit = c; preps = []; inputs = inputs; coefficients = [] }
+plainly n c inputs = record { parties = n; circuit = c; preps = []; inputs = inputs; coefficients = []; nonces = [] }
 
 -- n parties, circuit c, the party h that carries the differences, and two sets of inputs
 module _ (O : Ops) (n : ℕ) (c : List ℕ) (h : ℕ) (x x′ : List ℕ) where
@@ -75,6 +75,6 @@ module _ (O : Ops) (n : ℕ) (c : List ℕ) (h : ℕ) (x x′ : List ℕ) where
     unfoldable pub match : List ℕ
     match = addLists O preps (joined n (λ i. prepMove i (gates c)))
 
--- the rule: it depends on the number of parties, the circuit, A and both sets of inputs, and on no coefficient or scratch
+-- the rule: it depends on the number of parties, the circuit, A and both sets of inputs, and on no coefficient, nonce or scratch
 unfoldable pub rule : (O : Ops) (n : ℕ) (c : List ℕ) (A : ℕ → Bool) (x x′ preps : List ℕ) → List ℕ
 rule O n c A x x′ preps = match O n c (leftOut A n) x x′ preps

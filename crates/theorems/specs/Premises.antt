@@ -8,9 +8,10 @@ use lib.Dec.{eqb}
 use Rattle.algebra.specs.Ops.{Ops}
 use Rattle.circuit.specs.Verdict.{Accepted, ask, _then_, elements}
 use Rattle.circuit.specs.Count.{inCount}
+use Rattle.circuit.specs.Round.{nonceSize, checkCount}
 use Rattle.circuit.specs.Accept.{askCircuit}
 use Rattle.protocol.specs.Position.{whenSending}
-use Rattle.protocol.specs.Scratch.{layout, scratchSize}
+use Rattle.protocol.specs.Scratch.{scratchSize}
 use Rattle.protocol.specs.Ask.{askParties}
 use Rattle.protocol.specs.Joint.{Joint}
 use Rattle.protocol.specs.Run.{State, begun, step}
@@ -25,13 +26,19 @@ pub record Accepts (O : Ops) (n : ℕ) (c : List ℕ) : Type 0 where
 abbrev pub InputsPass : Ops → List ℕ → List ℕ → Type 0
 InputsPass O c inputs = (ask 10 0 (eqb (length inputs) (inCount c)) then elements 11 (O .size) inputs) ≡ Accepted
 
+-- the nonces and the scratch last for a whole run, as 25 and 12 make sure. Where they were shorter, a nonce or a mark would be cut off at
+-- their end, and what a party reveals would not fit its mark
+pub record Enough (J : Joint) (scratch : List ℕ) : Type 0 where
+  pub nonces : nonceSize * (J .parties * checkCount (J .circuit)) ≤ length (J .nonces)
+  pub room : J .parties * scratchSize (J .parties) (J .circuit) ≤ length scratch
+
 -- "With good material": a joint run of an accepted circuit on good preprocessing and accepted inputs. Of the coefficients nothing is asked,
--- of the starting scratch only that it is long enough
+-- of the nonces and of the starting scratch only that they are long enough
 pub record Honest (O : Ops) (J : Joint) (scratch : List ℕ) : Type 0 where
   pub accepts : Accepts O (J .parties) (J .circuit)
   pub good : Good O (J .parties) (J .circuit) (J .preps)
   pub inputs : InputsPass O (J .circuit) (J .inputs)
-  pub room : J .parties * scratchSize (layout (J .circuit)) ≤ length scratch
+  pub enough : Enough J scratch
 
 -- the state after k rounds, or where the run ended before
 unfoldable pub after : Ops → Joint → List ℕ → ℕ → State

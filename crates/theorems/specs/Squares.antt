@@ -12,7 +12,7 @@ use Rattle.protocol.specs.Run.{whole}
 use Rattle.protocol.specs.JointEntry.{Done, jointAnswer, jointScratch, jointOutputs}
 use Rattle.protocol.specs.Good.{Good}
 use Rattle.protocol.specs.Formula.{roundFormula}
-use Rattle.protocol.specs.Docket.{part}
+use Rattle.protocol.specs.Docket.{part, shows}
 use Rattle.theorems.specs.Premises.{after}
 use Rattle.theorems.specs.Matching.{rule}
 use Rattle.theorems.specs.Secrecy.{runOf, bandOf, Compared}
@@ -38,23 +38,25 @@ abbrev pub inputs₂ : List ℕ
 inputs₂ = 2147483642 ∷ []
 
 abbrev pub rooms : List ℕ
-rooms = replicate 20 9
+rooms = replicate 68 9
 
 -- the words of a run, round by round: in, sq, the check of E, the opening and its check
 abbrev pub transcript : List ℕ
 transcript =
     (3 ∷ 0 ∷ [])
     ++ (3 ∷ 2147483646 ∷ [])
-    ++ (1 ∷ 1 ∷ [])
-    ++ (4 ∷ 2147483643 ∷ [])
+    ++ (1244417175 ∷ 3912128754 ∷ 936072702 ∷ 961251672 ∷ 2215093797 ∷ 1217134647 ∷ 3141193240 ∷ 50545820 ∷ [])
+    ++ (831648754 ∷ 3312203175 ∷ 2291131991 ∷ 1992365589 ∷ 2348552288 ∷ 2624841683 ∷ 2809434074 ∷ 1669061681 ∷ [])
+    ++ (shows 4 ++ shows 2147483643)
     ++ (12 ∷ 13 ∷ [])
-    ++ (1 ∷ 1 ∷ [])
-    ++ (105 ∷ 2147483542 ∷ [])
+    ++ (483445722 ∷ 916581825 ∷ 3880944572 ∷ 1585683072 ∷ 3011651711 ∷ 759239728 ∷ 1387696807 ∷ 3209849548 ∷ [])
+    ++ (2415773932 ∷ 879656673 ∷ 1271163634 ∷ 255918963 ∷ 1918028585 ∷ 4192598957 ∷ 588569058 ∷ 3658165748 ∷ [])
+    ++ (shows 105 ++ shows 2147483542)
 
 module _ (O : Ops) where
   -- a run on preprocessing m and inputs x
   abbrev pub squaring : List ℕ → List ℕ → Joint
-  squaring m x = runOf O 2 circuit A m x (2 ∷ 5 ∷ [])
+  squaring m x = runOf O 2 circuit A m x (2 ∷ 5 ∷ []) (replicate 128 0)
 
   -- party 1's band of the scratch after it
   abbrev pub bandOn : List ℕ → List ℕ → List ℕ
