@@ -26,15 +26,18 @@ struct spdz_refusal {
  *   of a party's entry                       [0]               [1]     [2]    [3]    [4]    [5]
  *   the next position                        SPDZ_NEXT         0       gate   half   round  held
  *   an output, and the next position         SPDZ_OUTPUT       output  gate   half   round  held
- *   the run is aborted                       SPDZ_ABORT        0       gate   half   round  held
+ *   the run is aborted                       SPDZ_ABORT        party   gate   half   round  held
  *
  *   of the joint run
  *   the run is finished                      SPDZ_DONE         rounds  0      0      0      0
- *   the run is aborted at a gate             SPDZ_ABORTED_RUN  rounds  gate   0      0      0
+ *   the run is aborted at a gate             SPDZ_ABORTED_RUN  rounds  gate   party  0      0
  *
  *   of the reader and the writer of sheets
  *   a sheet is read as a circuit             SPDZ_READ         gates   0      0      0      0
  *   a circuit is written as a sheet          SPDZ_WRITTEN      bytes   0      0      0      0
+ *
+ * Where a run is aborted, `party` is one more than the number of the lowest party whose revealed words do not hash to its mark, and 0 where all do and the
+ * check shares do not sum to zero. In a joint run every mark is made of the very words that are revealed, so that it is always 0 there.
  */
 #define SPDZ_PLACES 6
 
@@ -68,14 +71,19 @@ struct spdz_refusal spdz_open_run(size_t parties, size_t me,
                                   const uint32_t *scratch, size_t scratch_len,
                                   uint64_t *answer, size_t answer_len);
 
-/* Sending at a position: the party's words go to the start of `out`. The coefficients are those of a commitment, else none. */
+/* Bytes of a nonce, and the most words that a party sends in one round: its check share and its nonce, where it reveals them. */
+enum { SPDZ_NONCE = 32, SPDZ_MOST_WORDS = 9 };
+
+/* Sending at a position: the party's words go to the start of `out`. The coefficients are those of a commitment, else none; the nonce is its SPDZ_NONCE
+ * bytes, else none, and is written into the scratch, where the reveal reads it. Any other sending writes nothing there. */
 struct spdz_refusal spdz_send(size_t parties, size_t me,
                               const uint32_t *circuit, size_t circuit_len,
                               const uint32_t *prep, size_t prep_len,
                               const uint32_t *inputs, size_t inputs_len,
-                              const uint32_t *scratch, size_t scratch_len,
+                              uint32_t *scratch, size_t scratch_len,
                               size_t gate, uint32_t half, uint32_t round, uint32_t held,
                               const uint32_t *coefficients, size_t coefficients_len,
+                              const uint8_t *nonce, size_t nonce_len,
                               uint32_t *out, size_t out_len,
                               uint64_t *answer, size_t answer_len);
 
@@ -89,13 +97,15 @@ struct spdz_refusal spdz_receive(size_t parties, size_t me,
                                  const uint32_t *heard, size_t heard_len,
                                  uint64_t *answer, size_t answer_len);
 
-/* All parties in one run: preprocessing, inputs and scratch are joined in party order, coefficients in order of use. */
+/* All parties in one run: preprocessing, inputs and scratch are joined in party order, coefficients in order of use; nonces in the order of the checks,
+ * the parties in order within each. */
 struct spdz_refusal spdz_joint_run(size_t parties,
                                    const uint32_t *circuit, size_t circuit_len,
                                    const uint32_t *preps, size_t preps_len,
                                    const uint32_t *inputs, size_t inputs_len,
                                    uint32_t *scratch, size_t scratch_len,
                                    const uint32_t *coefficients, size_t coefficients_len,
+                                   const uint8_t *nonces, size_t nonces_len,
                                    uint32_t *transcript, size_t transcript_len,
                                    uint32_t *outputs, size_t outputs_len,
                                    uint64_t *answer, size_t answer_len);

@@ -14,18 +14,18 @@ use Rattle.circuit.specs.Verdict.{Verdict, Accepted, Refused, ask, _then_, elem
 use Rattle.circuit.specs.Gate.{gate, gates}
 use Rattle.circuit.specs.Kind.{isOut}
 use Rattle.circuit.specs.Count.{total, count, outCount, prepSize, inCount}
-use Rattle.circuit.specs.Round.{Round, wordCount, coefficientCount}
+use Rattle.circuit.specs.Round.{Round, nonceSize, wordCount, coefficientCount, checkCount}
 use Rattle.circuit.specs.Accept.{askCircuit}
 use Rattle.circuit.proofs.Valid.{valid}
 use Rattle.circuit.proofs.Verdicts.{ask-yes, ask-no}
 use Rattle.protocol.specs.Scratch.{layout, scratchSize, Value, read}
 use Rattle.protocol.specs.Position.{Position, Stage, Send, Receive, Finished, Aborted, whenReceiving}
 use Rattle.protocol.specs.Send.{overwrite}
-use Rattle.protocol.specs.Receive.{passes}
+use Rattle.protocol.specs.Receive.{Blame, Ruling, Passed, Stopped, finds}
 use Rattle.protocol.specs.Party.{Party}
 use Rattle.protocol.specs.Ask.{askParties, askLent, askSend, askReceive}
 use Rattle.protocol.specs.Entry as E
-use Rattle.protocol.specs.Entry.{leave, openAnswer, sendAnswer, sendOut, receiveAnswer, receiveScratch}
+use Rattle.protocol.specs.Entry.{leave, openAnswer, sendAnswer, sendOut, sendScratch, receiveAnswer, receiveScratch}
 use Rattle.protocol.specs.Joint.{Joint}
 use Rattle.protocol.specs.JointAsk.{askJoint}
 use Rattle.protocol.specs.JointEntry as Whole
@@ -81,13 +81,13 @@ unfolding leave answerVerdict answerNumbers overwrite
 answer-left (E.Refusal number index) xs = refl
 answer-left (E.Next at) xs = refl
 answer-left (E.Output output at) xs = refl
-answer-left (E.Abort at) xs = refl
+answer-left (E.Abort b at) xs = refl
 
 joint-left : (a : Whole.JointAnswer) (xs : List ℕ) → leave (jointVerdict a) (overwrite (jointNumbers a) xs) xs ≡ overwrite (jointNumbers a) xs
 unfolding leave jointVerdict jointNumbers overwrite
 joint-left (Whole.Refusal number index) xs = refl
 joint-left (Whole.Done rounds) xs = refl
-joint-left (Whole.Aborted gate rounds) xs = refl
+joint-left (Whole.Aborted gate b rounds) xs = refl
 
 -- the verdict of an answer is that of its entry's questions
 answered : (v : Verdict) (a : E.Answer) → answerVerdict a ≡ Accepted → answerVerdict (E.answer v a) ≡ v
@@ -103,29 +103,36 @@ module _ (O : Ops) (P : Party) (l : List ℕ) where
   pub open-left : (xs : List ℕ) → leave (askLent (O .size) P l) (overwrite (answerNumbers (openAnswer O P l)) xs) xs ≡ overwrite (answerNumbers (openAnswer O P l)) xs
   open-left xs = rw (← open-verdict) (answer-left (openAnswer O P l) xs)
 
-  module _ (at : Position) (coefficients : List ℕ) where
-    pub send-verdict : (k : ℕ) → answerVerdict (sendAnswer O P l at coefficients k) ≡ askSend (O .size) P l at coefficients k
+  module _ (at : Position) (coefficients nonce : List ℕ) where
+    pub send-verdict : (k : ℕ) → answerVerdict (sendAnswer O P l at coefficients nonce k) ≡ askSend (O .size) P l at coefficients nonce k
     unfolding sendAnswer answerVerdict
-    send-verdict k = answered (askSend (O .size) P l at coefficients k) _ refl
+    send-verdict k = answered (askSend (O .size) P l at coefficients nonce k) _ refl
 
     pub send-left : (k : ℕ) (xs : List ℕ)
-        → leave (askSend (O .size) P l at coefficients k) (overwrite (answerNumbers (sendAnswer O P l at coefficients k)) xs) xs
-        ≡ overwrite (answerNumbers (sendAnswer O P l at coefficients k)) xs
-    send-left k xs = rw (← send-verdict k) (answer-left (sendAnswer O P l at coefficients k) xs)
+        → leave (askSend (O .size) P l at coefficients nonce k) (overwrite (answerNumbers (sendAnswer O P l at coefficients nonce k)) xs) xs
+        ≡ overwrite (answerNumbers (sendAnswer O P l at coefficients nonce k)) xs
+    send-left k xs = rw (← send-verdict k) (answer-left (sendAnswer O P l at coefficients nonce k) xs)
 
-    pub out-left : (out : List ℕ) → leave (askSend (O .size) P l at coefficients (length out)) (sendOut O P l at coefficients out) out ≡ sendOut O P l at coefficients out
+    pub out-left : (out : List ℕ) → leave (askSend (O .size) P l at coefficients nonce (length out)) (sendOut O P l at coefficients nonce out) out ≡ sendOut O P l at coefficients nonce out
     unfolding sendOut
-    out-left out = leave-again (askSend (O .size) P l at coefficients (length out)) _ out
+    out-left out = leave-again (askSend (O .size) P l at coefficients nonce (length out)) _ out
+
+    pub noted-left : (k : ℕ) → leave (askSend (O .size) P l at coefficients nonce k) (sendScratch O P l at coefficients nonce k) l ≡ sendScratch O P l at coefficients nonce k
+    unfolding sendScratch
+    noted-left k = leave-again (askSend (O .size) P l at coefficients nonce k) _ l
 
   module _ (at : Position) (heard : List ℕ) where
     outcome-accepted : (r : Round) → answerVerdict (E.outcome O P l (at .gate) (at .held) heard r) ≡ Accepted
-    unfolding E.outcome answerVerdict
-    outcome-accepted r = by (read (layout (P .circuit)) l (Value 0)) (E.nextPosition O P (at .gate) (at .held) heard r) (passes O (P .parties) r heard) (E.releases r)
+    unfolding E.outcome E.concludes answerVerdict
+    outcome-accepted r = by (finds O P l r heard)
       where
-        by : (output : ℕ) (next : Position) (x y : Bool) → answerVerdict (cond x (cond y (E.Output output next) (E.Next next)) (E.Abort next)) ≡ Accepted
-        by output next true true = refl
-        by output next true false = refl
-        by output next false y = refl
+        released : (output : ℕ) (next : Position) (y : Bool) → answerVerdict (cond y (E.Output output next) (E.Next next)) ≡ Accepted
+        released output next true = refl
+        released output next false = refl
+
+        by : (v : Ruling) → answerVerdict (E.concludes O P (read (layout (P .circuit)) l (Value 0)) (at .gate) (at .held) r v) ≡ Accepted
+        by Passed = released _ _ (E.releases r)
+        by (Stopped b) = refl
 
     accepted-at : (s : Stage) → answerVerdict (whenReceiving s (E.Next at) (E.outcome O P l (at .gate) (at .held) heard)) ≡ Accepted
     unfolding whenReceiving answerVerdict
@@ -152,17 +159,17 @@ unfolding Whole.jointly jointVerdict
 joined Accepted a e = e
 joined (Refused number index) a e = refl
 
-ended-accepted : (s : Stage) (gate rounds : ℕ) → jointVerdict (Whole.ended s gate rounds) ≡ Accepted
+ended-accepted : (s : Stage) (gate : ℕ) (b : Blame) (rounds : ℕ) → jointVerdict (Whole.ended s gate b rounds) ≡ Accepted
 unfolding Whole.ended jointVerdict
-ended-accepted (Send r) gate rounds = refl
-ended-accepted (Receive r) gate rounds = refl
-ended-accepted Finished gate rounds = refl
-ended-accepted Aborted gate rounds = refl
+ended-accepted (Send r) gate b rounds = refl
+ended-accepted (Receive r) gate b rounds = refl
+ended-accepted Finished gate b rounds = refl
+ended-accepted Aborted gate b rounds = refl
 
 module _ (O : Ops) (J : Joint) (l transcript outputs : List ℕ) where
   pub joint-verdict-is : jointVerdict (jointAnswer O J l transcript outputs) ≡ askJoint (O .size) J l (length transcript) (length outputs)
   unfolding jointAnswer Whole.verdict
-  joint-verdict-is = joined (askJoint (O .size) J l (length transcript) (length outputs)) _ (ended-accepted _ _ _)
+  joint-verdict-is = joined (askJoint (O .size) J l (length transcript) (length outputs)) _ (ended-accepted _ _ _ _)
 
   pub joint-answer-left : (xs : List ℕ)
       → leave (askJoint (O .size) J l (length transcript) (length outputs)) (overwrite (jointNumbers (jointAnswer O J l transcript outputs)) xs) xs
@@ -221,9 +228,10 @@ endingIn W l last =
     then elements 9 size (W .preps)
     then ask 10 0 (eqb (length (W .inputs)) (inCount (W .circuit)))
     then elements 11 size (W .inputs)
-    then ask 12 0 (leb (W .parties * scratchSize (layout (W .circuit))) (length l))
+    then ask 12 0 (leb (W .parties * scratchSize (W .parties) (W .circuit)) (length l))
     then ask 16 0 (eqb (length (W .coefficients)) (coefficientCount (W .circuit)))
     then elements 17 size (W .coefficients)
+    then ask 25 0 (eqb (length (W .nonces)) (nonceSize * (W .parties * checkCount (W .circuit))))
     then last
 
 module _ (W : Joint) (l : List ℕ) (transcript : ℕ) where

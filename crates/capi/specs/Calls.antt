@@ -26,8 +26,8 @@ called v answer = v then ask roomQuestion 0 (leb places (length answer))
 abbrev pub openCall : Party → List ℕ → List ℕ → Verdict
 openCall P l answer = called (askLent size P l) answer
 
-abbrev pub sendCall : Party → List ℕ → Position → List ℕ → List ℕ → List ℕ → Verdict
-sendCall P l at coefficients out answer = called (askSend size P l at coefficients (length out)) answer
+abbrev pub sendCall : Party → List ℕ → Position → List ℕ → List ℕ → List ℕ → List ℕ → Verdict
+sendCall P l at coefficients nonce out answer = called (askSend size P l at coefficients nonce (length out)) answer
 
 abbrev pub receiveCall : Party → List ℕ → Position → List ℕ → List ℕ → Verdict
 receiveCall P l at heard answer = called (askReceive size P l at heard) answer
@@ -45,9 +45,9 @@ unfoldable pub answerVerdict : E.Answer → Verdict
 answerVerdict (E.Refusal number index) = Refused number index
 answerVerdict (E.Next at) = Accepted
 answerVerdict (E.Output output at) = Accepted
-answerVerdict (E.Abort at) = Accepted
+answerVerdict (E.Abort b at) = Accepted
 
 unfoldable pub jointVerdict : J.JointAnswer → Verdict
 jointVerdict (J.Refusal number index) = Refused number index
 jointVerdict (J.Done rounds) = Accepted
-jointVerdict (J.Aborted gate rounds) = Accepted
+jointVerdict (J.Aborted gate b rounds) = Accepted

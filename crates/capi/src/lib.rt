@@ -9,24 +9,25 @@ use joint::JointAnswer;
 use party::Answer;
 use party::Asked;
 use party::Position;
+use protocol::Blame;
 use protocol::Stage;
 ghost use mathlib.Core.Path.{_≡_};
 ghost use mathlib.Core.List.{[], _∷_};
-ghost use Prim.Native.Nat.{_≤_};
+ghost use Prim.Native.Nat.{_<_, _≤_};
 ghost use lib.ListN.{length};
 ghost use Rattle.field.specs.Words.{ops};
 ghost use Rattle.circuit.specs.Verdict.{Refused, _then_};
 ghost use Rattle.circuit.specs.Round.{roundNumber};
 ghost use Rattle.circuit.specs.Code.{roundOf, verdictOf};
 ghost use Rattle.protocol.specs.Party.{partyOf};
-ghost use Rattle.protocol.specs.Code.{stageOf};
+ghost use Rattle.protocol.specs.Code.{stageOf, blameOf};
 ghost use Rattle.protocol.specs.Send.{overwrite};
-ghost use Rattle.protocol.specs.Entry.{leave, openAnswer, sendAnswer, sendOut, receiveAnswer, receiveScratch};
+ghost use Rattle.protocol.specs.Entry.{leave, openAnswer, sendAnswer, sendOut, sendScratch, receiveAnswer, receiveScratch};
 ghost use Rattle.party.specs.Code.{positionOf, answerOf, askedOf};
 ghost use Rattle.protocol.specs.JointEntry.{jointAnswer, jointScratch, jointTranscript, jointOutputs};
 ghost use Rattle.joint.specs.Code.{jointAnswerOf, jointOf};
 ghost use Rattle.capi.specs.Stages.{halfNumber, stageRound, roundAt, halfAt, nowhere, positionAt};
-ghost use Rattle.capi.specs.Numbers.{places, answerNumbers, jointNumbers, positionNumbers};
+ghost use Rattle.capi.specs.Numbers.{places, numberSize, blameNumber, answerNumbers, jointNumbers, positionNumbers, Tellable, JointTellable};
 ghost use Rattle.capi.specs.Calls.{roomQuestion, answerVerdict, jointVerdict, returned, openCall, sendCall, receiveCall, jointCall};
 
 // What a call returns: a refusal's number and index, or 0 and 0 where it is accepted.
@@ -228,9 +229,20 @@ fn put_position(answer: &mut [u64], kind: u64, value: u64, at: Position)
     );
 }
 
+// Nobody is 0, and a party one more than its number.
+fn blame_number(b: Blame) -> u64
+    requires { ⌜ blameNumber (blameOf b) < numberSize ⌝ }
+    ensures { λ k. ⌜ k ≡ blameNumber (blameOf b) ⌝ }
+{
+    match b {
+        Blame::Nobody => 0,
+        Blame::Blames(i) => i as u64 + 1,
+    }
+}
+
 // Nothing is written of a refusal.
 fn put_answer(answer: &mut [u64], a: Answer)
-    requires { ⌜ places ≤ length (now answer) ⌝ }
+    requires { ⌜ (places ≤ length (now answer)) × Tellable (answerOf a) ⌝ }
     ensures { λ r. ⌜ now (answer .exit) ≡ overwrite (answerNumbers (answerOf a)) (now (answer .entry)) ⌝ }
 {
     match a {
@@ -244,14 +256,14 @@ fn put_answer(answer: &mut [u64], a: Answer)
         Answer::Output(value, at) => {
             put_position(answer, OUTPUT, value as u64, at);
         }
-        Answer::Abort(at) => {
-            put_position(answer, ABORTED, 0, at);
+        Answer::Abort(blame, at) => {
+            put_position(answer, ABORTED, blame_number(blame), at);
         }
     }
 }
 
 fn put_joint(answer: &mut [u64], a: JointAnswer)
-    requires { ⌜ places ≤ length (now answer) ⌝ }
+    requires { ⌜ (places ≤ length (now answer)) × JointTellable (jointAnswerOf a) ⌝ }
     ensures { λ r. ⌜ now (answer .exit) ≡ overwrite (jointNumbers (jointAnswerOf a)) (now (answer .entry)) ⌝ }
 {
     match a {
@@ -262,8 +274,20 @@ fn put_joint(answer: &mut [u64], a: JointAnswer)
         JointAnswer::Done(rounds) => {
             put(answer, DONE, rounds as u64, 0, 0, 0, 0);
         }
-        JointAnswer::Aborted { gate, rounds } => {
-            put(answer, ABORTED_RUN, rounds as u64, gate as u64, 0, 0, 0);
+        JointAnswer::Aborted {
+            gate,
+            blame,
+            rounds,
+        } => {
+            put(
+                answer,
+                ABORTED_RUN,
+                rounds as u64,
+                gate as u64,
+                blame_number(blame),
+                0,
+                0,
+            );
         }
     }
 }
@@ -275,7 +299,7 @@ fn answer_verdict(a: Answer) -> Verdict
         Answer::Refusal { number, index } => Verdict::Refused { number, index },
         Answer::Next(_) => Verdict::Accepted,
         Answer::Output(_, _) => Verdict::Accepted,
-        Answer::Abort(_) => Verdict::Accepted,
+        Answer::Abort(_, _) => Verdict::Accepted,
     }
 }
 
@@ -285,7 +309,11 @@ fn joint_verdict(a: JointAnswer) -> Verdict
     match a {
         JointAnswer::Refusal { number, index } => Verdict::Refused { number, index },
         JointAnswer::Done(_) => Verdict::Accepted,
-        JointAnswer::Aborted { gate: _, rounds: _ } => Verdict::Accepted,
+        JointAnswer::Aborted {
+            gate: _,
+            blame: _,
+            rounds: _,
+        } => Verdict::Accepted,
     }
 }
 
@@ -352,7 +380,7 @@ pub extern "C" fn spdz_open_run(
     returned_of(answer_verdict(a))
 }
 
-// Sending: the words of the position's round.
+// Sending: the words of the position's round, and the nonce that a commitment notes.
 #[no_mangle]
 pub extern "C" fn spdz_send(
     parties: usize,
@@ -360,30 +388,37 @@ pub extern "C" fn spdz_send(
     c: &[Word],
     prep: &[Word],
     inputs: &[Word],
-    l: &[Word],
+    l: &mut [Word],
     gate: usize,
     half: u32,
     round: u32,
     held: Word,
     coefficients: &[Word],
+    nonce: &[u8],
     out: &mut [Word],
     answer: &mut [u64],
 ) -> Refusal
     ensures returned { λ r. ⌜ r
         ≡ returned (sendCall (partyOf parties me (now (c .entry)) (now (prep .entry)) (now (inputs .entry)))
-        (now (l .entry)) (positionAt gate half round held) (now (coefficients .entry)) (now (out .entry)) (now (answer .entry))) ⌝ }
+        (now (l .entry)) (positionAt gate half round held) (now (coefficients .entry)) (now (nonce .entry)) (now (out .entry)) (now (answer .entry))) ⌝ }
     ensures answer { λ r. ⌜ now (answer .exit)
         ≡ leave (sendCall (partyOf parties me (now (c .entry)) (now (prep .entry)) (now (inputs .entry)))
-        (now (l .entry)) (positionAt gate half round held) (now (coefficients .entry)) (now (out .entry)) (now (answer .entry)))
+        (now (l .entry)) (positionAt gate half round held) (now (coefficients .entry)) (now (nonce .entry)) (now (out .entry)) (now (answer .entry)))
         (overwrite (answerNumbers (sendAnswer ops (partyOf parties me (now (c .entry)) (now (prep .entry)) (now (inputs .entry)))
-        (now (l .entry)) (positionAt gate half round held) (now (coefficients .entry)) (length (now (out .entry))))) (now (answer .entry)))
+        (now (l .entry)) (positionAt gate half round held) (now (coefficients .entry)) (now (nonce .entry)) (length (now (out .entry))))) (now (answer .entry)))
         (now (answer .entry)) ⌝ }
     ensures out { λ r. ⌜ now (out .exit)
         ≡ leave (sendCall (partyOf parties me (now (c .entry)) (now (prep .entry)) (now (inputs .entry)))
-        (now (l .entry)) (positionAt gate half round held) (now (coefficients .entry)) (now (out .entry)) (now (answer .entry)))
+        (now (l .entry)) (positionAt gate half round held) (now (coefficients .entry)) (now (nonce .entry)) (now (out .entry)) (now (answer .entry)))
         (sendOut ops (partyOf parties me (now (c .entry)) (now (prep .entry)) (now (inputs .entry)))
-        (now (l .entry)) (positionAt gate half round held) (now (coefficients .entry)) (now (out .entry)))
+        (now (l .entry)) (positionAt gate half round held) (now (coefficients .entry)) (now (nonce .entry)) (now (out .entry)))
         (now (out .entry)) ⌝ }
+    ensures scratch { λ r. ⌜ now (l .exit)
+        ≡ leave (sendCall (partyOf parties me (now (c .entry)) (now (prep .entry)) (now (inputs .entry)))
+        (now (l .entry)) (positionAt gate half round held) (now (coefficients .entry)) (now (nonce .entry)) (now (out .entry)) (now (answer .entry)))
+        (sendScratch ops (partyOf parties me (now (c .entry)) (now (prep .entry)) (now (inputs .entry)))
+        (now (l .entry)) (positionAt gate half round held) (now (coefficients .entry)) (now (nonce .entry)) (length (now (out .entry))))
+        (now (l .entry)) ⌝ }
 {
     let at = position_at(gate, half, round, held);
     if answer.len() < PLACES {
@@ -397,10 +432,22 @@ pub extern "C" fn spdz_send(
             l,
             at,
             coefficients,
+            nonce,
             room,
         )));
     }
-    let a = party::send(parties, me, c, prep, inputs, l, at, coefficients, out);
+    let a = party::send(
+        parties,
+        me,
+        c,
+        prep,
+        inputs,
+        l,
+        at,
+        coefficients,
+        nonce,
+        out,
+    );
     put_answer(answer, a);
     returned_of(answer_verdict(a))
 }
@@ -464,35 +511,36 @@ pub extern "C" fn spdz_joint_run(
     inputs: &[Word],
     l: &mut [Word],
     coefficients: &[Word],
+    nonces: &[u8],
     transcript: &mut [Word],
     outputs: &mut [Word],
     answer: &mut [u64],
 ) -> Refusal
     ensures returned { λ r. ⌜ r
-        ≡ returned (jointCall (jointOf parties (now (c .entry)) (now (preps .entry)) (now (inputs .entry)) (now (coefficients .entry)))
+        ≡ returned (jointCall (jointOf parties (now (c .entry)) (now (preps .entry)) (now (inputs .entry)) (now (coefficients .entry)) (now (nonces .entry)))
         (now (l .entry)) (now (transcript .entry)) (now (outputs .entry)) (now (answer .entry))) ⌝ }
     ensures answer { λ r. ⌜ now (answer .exit)
-        ≡ leave (jointCall (jointOf parties (now (c .entry)) (now (preps .entry)) (now (inputs .entry)) (now (coefficients .entry)))
+        ≡ leave (jointCall (jointOf parties (now (c .entry)) (now (preps .entry)) (now (inputs .entry)) (now (coefficients .entry)) (now (nonces .entry)))
         (now (l .entry)) (now (transcript .entry)) (now (outputs .entry)) (now (answer .entry)))
-        (overwrite (jointNumbers (jointAnswer ops (jointOf parties (now (c .entry)) (now (preps .entry)) (now (inputs .entry)) (now (coefficients .entry)))
+        (overwrite (jointNumbers (jointAnswer ops (jointOf parties (now (c .entry)) (now (preps .entry)) (now (inputs .entry)) (now (coefficients .entry)) (now (nonces .entry)))
         (now (l .entry)) (now (transcript .entry)) (now (outputs .entry)))) (now (answer .entry)))
         (now (answer .entry)) ⌝ }
     ensures scratch { λ r. ⌜ now (l .exit)
-        ≡ leave (jointCall (jointOf parties (now (c .entry)) (now (preps .entry)) (now (inputs .entry)) (now (coefficients .entry)))
+        ≡ leave (jointCall (jointOf parties (now (c .entry)) (now (preps .entry)) (now (inputs .entry)) (now (coefficients .entry)) (now (nonces .entry)))
         (now (l .entry)) (now (transcript .entry)) (now (outputs .entry)) (now (answer .entry)))
-        (jointScratch ops (jointOf parties (now (c .entry)) (now (preps .entry)) (now (inputs .entry)) (now (coefficients .entry)))
+        (jointScratch ops (jointOf parties (now (c .entry)) (now (preps .entry)) (now (inputs .entry)) (now (coefficients .entry)) (now (nonces .entry)))
         (now (l .entry)) (now (transcript .entry)) (now (outputs .entry)))
         (now (l .entry)) ⌝ }
     ensures transcript { λ r. ⌜ now (transcript .exit)
-        ≡ leave (jointCall (jointOf parties (now (c .entry)) (now (preps .entry)) (now (inputs .entry)) (now (coefficients .entry)))
+        ≡ leave (jointCall (jointOf parties (now (c .entry)) (now (preps .entry)) (now (inputs .entry)) (now (coefficients .entry)) (now (nonces .entry)))
         (now (l .entry)) (now (transcript .entry)) (now (outputs .entry)) (now (answer .entry)))
-        (jointTranscript ops (jointOf parties (now (c .entry)) (now (preps .entry)) (now (inputs .entry)) (now (coefficients .entry)))
+        (jointTranscript ops (jointOf parties (now (c .entry)) (now (preps .entry)) (now (inputs .entry)) (now (coefficients .entry)) (now (nonces .entry)))
         (now (l .entry)) (now (transcript .entry)) (now (outputs .entry)))
         (now (transcript .entry)) ⌝ }
     ensures outputs { λ r. ⌜ now (outputs .exit)
-        ≡ leave (jointCall (jointOf parties (now (c .entry)) (now (preps .entry)) (now (inputs .entry)) (now (coefficients .entry)))
+        ≡ leave (jointCall (jointOf parties (now (c .entry)) (now (preps .entry)) (now (inputs .entry)) (now (coefficients .entry)) (now (nonces .entry)))
         (now (l .entry)) (now (transcript .entry)) (now (outputs .entry)) (now (answer .entry)))
-        (jointOutputs ops (jointOf parties (now (c .entry)) (now (preps .entry)) (now (inputs .entry)) (now (coefficients .entry)))
+        (jointOutputs ops (jointOf parties (now (c .entry)) (now (preps .entry)) (now (inputs .entry)) (now (coefficients .entry)) (now (nonces .entry)))
         (now (l .entry)) (now (transcript .entry)) (now (outputs .entry)))
         (now (outputs .entry)) ⌝ }
 {
@@ -504,6 +552,7 @@ pub extern "C" fn spdz_joint_run(
             inputs,
             l,
             coefficients,
+            nonces,
             transcript,
             &mut outputs[..0],
         )));
@@ -515,6 +564,7 @@ pub extern "C" fn spdz_joint_run(
         inputs,
         l,
         coefficients,
+        nonces,
         transcript,
         outputs,
     );

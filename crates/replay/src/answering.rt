@@ -2,16 +2,20 @@
 use crate::sheets::answer_read;
 use crate::sheets::answer_score;
 use crate::sheets::answer_write;
+use crate::sheets::byte_room;
 use field::Word;
 use joint::JointAnswer;
+use requests::bytes::to_bytes;
 use requests::entries::answer_open;
 use requests::entries::answer_receive;
 use requests::entries::answer_send;
+use requests::entries::print_blame;
 use requests::entries::print_named;
 use requests::entries::print_refusal;
 use requests::naming::CIRCUIT;
 use requests::naming::INPUTS;
 use requests::naming::JOINT;
+use requests::naming::NONCES;
 use requests::naming::OPEN;
 use requests::naming::OUT;
 use requests::naming::OUTPUTS;
@@ -27,12 +31,15 @@ use requests::naming::WORDS;
 use requests::naming::WRITE;
 use requests::request::CIRCUIT_ROOM;
 use requests::request::INPUTS_ROOM;
+use requests::request::NONCES_ROOM;
 use requests::request::PREP_ROOM;
+use requests::request::ROOM;
 use requests::request::Request;
 use requests::request::WORDS_ROOM;
 use requests::request::part;
 use requests::request::within;
 ghost use Prim.Native.Nat.{_≤_};
+ghost use mathlib.Core.Path.{_≡_};
 ghost use lib.ListN.{length};
 
 fn print_joint(answer: JointAnswer) {
@@ -42,10 +49,14 @@ fn print_joint(answer: JointAnswer) {
             print_named(b"done", rounds);
             printing::print(b"\n");
         }
-        JointAnswer::Aborted { gate, rounds } => {
+        JointAnswer::Aborted {
+            gate,
+            blame,
+            rounds,
+        } => {
             print_named(b"stopped", gate);
             printing::print_number(rounds as u64);
-            printing::print(b"\n");
+            print_blame(blame);
         }
     }
 }
@@ -57,6 +68,7 @@ pub fn answer_joint(
     inputs: &[Word],
     scratch: &mut [Word],
     coefficients: &[Word],
+    nonces: &[u8],
     transcript: &mut [Word],
     outputs: &mut [Word],
 ) {
@@ -69,6 +81,7 @@ pub fn answer_joint(
         inputs,
         scratch,
         coefficients,
+        nonces,
         transcript,
         outputs,
     );
@@ -107,7 +120,11 @@ fn print_shown(
             );
             printing::print_list(b"out", &outputs[..outs]);
         }
-        JointAnswer::Aborted { gate: _, rounds } => {
+        JointAnswer::Aborted {
+            gate: _,
+            blame: _,
+            rounds,
+        } => {
             printing::print_rounds(parties, c, rounds, transcript);
         }
     }
@@ -121,20 +138,124 @@ fn call(
     inputs: &[Word],
     scratch: &mut [Word],
     words: &[Word],
+    nonces: &[u8],
     out: &mut [Word],
     outputs: &mut [Word],
 ) {
     let entry = request.entry;
     match entry {
         OPEN => answer_open(request, c, prep, inputs, scratch),
-        SEND => answer_send(request, c, prep, inputs, scratch, words, out),
+        SEND => answer_send(request, c, prep, inputs, scratch, words, nonces, out),
         RECEIVE => answer_receive(request, c, prep, inputs, scratch, words),
-        JOINT | SHOW => { answer_joint(request, c, prep, inputs, scratch, words, out, outputs) }
+        JOINT | SHOW => {
+            answer_joint(
+                request,
+                c,
+                prep,
+                inputs,
+                scratch,
+                words,
+                nonces,
+                out,
+                outputs,
+            )
+        }
         READ => answer_read(request, c, out),
         WRITE => answer_write(request, c, out),
-        SCORE => { answer_score(request, c, prep, inputs, scratch, words, out, outputs) }
+        SCORE => {
+            answer_score(
+                request,
+                c,
+                prep,
+                inputs,
+                scratch,
+                words,
+                nonces,
+                out,
+                outputs,
+            )
+        }
         _ => {}
     }
+}
+
+// Calls the entry on nonces, whose bytes are put into a room.
+fn call_bytes(
+    request: Request,
+    c: &[Word],
+    prep: &[Word],
+    inputs: &[Word],
+    scratch: &mut [Word],
+    words: &[Word],
+    nonces: &[Word],
+    room: &mut [u8],
+    out: &mut [Word],
+    outputs: &mut [Word],
+)
+    requires { ⌜ length (now nonces) ≡ length (now room) ⌝ }
+{
+    to_bytes(nonces, room);
+    call(request, c, prep, inputs, scratch, words, room, out, outputs);
+}
+
+// Calls the entry on nonces. No list of a request is longer than the room.
+fn call_roomed(
+    request: Request,
+    c: &[Word],
+    prep: &[Word],
+    inputs: &[Word],
+    scratch: &mut [Word],
+    words: &[Word],
+    nonces: &[Word],
+    out: &mut [Word],
+    outputs: &mut [Word],
+) {
+    if ROOM < nonces.len() {
+        return;
+    }
+    let n = nonces.len();
+    let mut room = byte_room();
+    call_bytes(
+        request,
+        c,
+        prep,
+        inputs,
+        scratch,
+        words,
+        nonces,
+        &mut room[..n],
+        out,
+        outputs,
+    );
+}
+
+// Calls the entry on the nonces that were read, which begin their room.
+fn call_noncing(
+    request: Request,
+    c: &[Word],
+    prep: &[Word],
+    inputs: &[Word],
+    scratch: &mut [Word],
+    words: &[Word],
+    nonces: &[Word],
+    out: &mut [Word],
+    outputs: &mut [Word],
+)
+    requires { ⌜ 65536 ≤ length (now nonces) ⌝ }
+{
+    let read = request.read;
+    let count = within(read[NONCES] as usize);
+    call_roomed(
+        request,
+        c,
+        prep,
+        inputs,
+        scratch,
+        words,
+        &nonces[..count],
+        out,
+        outputs,
+    );
 }
 
 // Calls the entry on the part that was read of each list that it only reads.
@@ -145,20 +266,21 @@ fn call_given(
     out: &mut [Word],
     outputs: &mut [Word],
 )
-    requires { ⌜ 65536 ≤ length (now given) ⌝ }
+    requires { ⌜ 327680 ≤ length (now given) ⌝ }
 {
     let read = request.read;
     let c = CIRCUIT_ROOM + within(read[CIRCUIT] as usize);
     let p = PREP_ROOM + within(read[PREP] as usize);
     let i = INPUTS_ROOM + within(read[INPUTS] as usize);
     let w = WORDS_ROOM + within(read[WORDS] as usize);
-    call(
+    call_noncing(
         request,
         &given[CIRCUIT_ROOM..c],
         &given[PREP_ROOM..p],
         &given[INPUTS_ROOM..i],
         scratch,
         &given[WORDS_ROOM..w],
+        &given[NONCES_ROOM..],
         out,
         outputs,
     );
@@ -172,7 +294,7 @@ pub fn answer(
     out: &mut [Word],
     outputs: &mut [Word],
 )
-    requires { ⌜ 65536 ≤ length (now given) ⌝ }
+    requires { ⌜ 327680 ≤ length (now given) ⌝ }
 {
     let read = request.read;
     let s = part(read[SCRATCH] as usize, scratch);

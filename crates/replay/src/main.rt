@@ -32,24 +32,24 @@ pub struct Course {
 }
 
 // Room for a list that is written to, with its length.
-fn list_room() -> [Word; 16384]
-    ensures { λ r. ⌜ 16384 ≡ length r ⌝ }
-{
-    [0; 16384]
-}
-
-// Room for the four lists that are only read.
-fn given_room() -> [Word; 65536]
+fn list_room() -> [Word; 65536]
     ensures { λ r. ⌜ 65536 ≡ length r ⌝ }
 {
     [0; 65536]
 }
 
-// Room for a line, with its length.
-fn line_room() -> [u8; 262144]
-    ensures { λ r. ⌜ 262144 ≡ length r ⌝ }
+// Room for the five lists that are only read.
+fn given_room() -> [Word; 327680]
+    ensures { λ r. ⌜ 327680 ≡ length r ⌝ }
 {
-    [0; 262144]
+    [0; 327680]
+}
+
+// Room for a line, with its length.
+fn line_room() -> [u8; 1048576]
+    ensures { λ r. ⌜ 1048576 ≡ length r ⌝ }
+{
+    [0; 1048576]
 }
 
 // The line after one, of which nothing is read.
@@ -85,7 +85,7 @@ fn take_line(
     out: &mut [Word],
     outputs: &mut [Word],
 ) -> Request
-    requires { ⌜ 65536 ≤ length (now given) ⌝ }
+    requires { ⌜ 327680 ≤ length (now given) ⌝ }
 {
     let read = storing::read_line(number, line, request, given, scratch, out, outputs);
     if read.wanted == COMPLETE {
@@ -104,12 +104,12 @@ fn end_line(
     out: &mut [Word],
     outputs: &mut [Word],
 ) -> Course
-    requires { ⌜ 65536 ≤ length (now given) ⌝ }
+    requires { ⌜ 327680 ≤ length (now given) ⌝ }
 {
     let number = course.number;
     let request = course.request;
     if course.long {
-        reading::complain(number, b"more than 262144 bytes");
+        reading::complain(number, b"more than 1048576 bytes");
         return next_line(number, dropped(request));
     }
     let end = shorter(course.length, line.len());
@@ -127,7 +127,7 @@ fn take_byte(
     out: &mut [Word],
     outputs: &mut [Word],
 ) -> Course
-    requires { ⌜ 65536 ≤ length (now given) ⌝ }
+    requires { ⌜ 327680 ≤ length (now given) ⌝ }
 {
     if b == LINE_FEED {
         return end_line(line, course, given, scratch, out, outputs);
@@ -145,7 +145,7 @@ fn feed(
     out: &mut [Word],
     outputs: &mut [Word],
 ) -> Course
-    requires { ⌜ 65536 ≤ length (now given) ⌝ }
+    requires { ⌜ 327680 ≤ length (now given) ⌝ }
 {
     let mut now = course;
     let mut i = 0;
@@ -165,7 +165,7 @@ fn finish(
     out: &mut [Word],
     outputs: &mut [Word],
 )
-    requires { ⌜ 65536 ≤ length (now given) ⌝ }
+    requires { ⌜ 327680 ≤ length (now given) ⌝ }
 {
     if course.length == 0 {
         let request = course.request;
@@ -201,7 +201,7 @@ fn replay(
     out: &mut [Word],
     outputs: &mut [Word],
 )
-    requires { ⌜ 65536 ≤ length (now given) ⌝ }
+    requires { ⌜ 327680 ≤ length (now given) ⌝ }
 {
     let mut course = next_line(0, started(NO_ENTRY, OUTSIDE));
     let mut left = MOST;

@@ -23,11 +23,11 @@ ghost use Rattle.requests.specs.Texts.{lows};
 // The most gates of a circuit that is read.
 const MOST_GATES: usize = gates::asking::MOST_GATES;
 
-// Room for a text.
-fn text_room() -> [u8; 16384]
-    ensures { λ r. ⌜ 16384 ≡ length r ⌝ }
+// Room for a list of bytes.
+pub fn byte_room() -> [u8; 65536]
+    ensures { λ r. ⌜ 65536 ≡ length r ⌝ }
 {
-    [0; 16384]
+    [0; 65536]
 }
 
 // Room for the longest circuit.
@@ -73,7 +73,7 @@ fn read_list(parties: usize, text: &[Word], circuit: &mut [Word]) -> Answer {
         return too_long();
     }
     let n = text.len();
-    let mut room = text_room();
+    let mut room = byte_room();
     read_in(parties, text, &mut room[..n], circuit)
 }
 
@@ -83,7 +83,7 @@ fn write_list(parties: usize, c: &[Word], text: &mut [Word]) -> Answer {
         return too_long();
     }
     let n = text.len();
-    let mut room = text_room();
+    let mut room = byte_room();
     write_in(parties, c, &mut room[..n], text)
 }
 
@@ -120,6 +120,7 @@ fn answer_gates(
     inputs: &[Word],
     scratch: &mut [Word],
     coefficients: &[Word],
+    nonces: &[u8],
     transcript: &mut [Word],
     outputs: &mut [Word],
 ) {
@@ -131,6 +132,7 @@ fn answer_gates(
         inputs,
         scratch,
         coefficients,
+        nonces,
         transcript,
         outputs,
     );
@@ -144,6 +146,7 @@ pub fn answer_score(
     inputs: &[Word],
     scratch: &mut [Word],
     coefficients: &[Word],
+    nonces: &[u8],
     transcript: &mut [Word],
     outputs: &mut [Word],
 ) {
@@ -159,6 +162,7 @@ pub fn answer_score(
             inputs,
             scratch,
             coefficients,
+            nonces,
             transcript,
             outputs,
         ),

@@ -23,13 +23,13 @@ lent name = course complete (entryNamed (bytes name)) parties
 
 pub record Table : Type 0 where
   pub opened : lent "open" ≡ bytes "parties party circuit prep inputs scratch "
-  pub sent : lent "send" ≡ bytes "parties party circuit prep inputs scratch position coefficients out "
+  pub sent : lent "send" ≡ bytes "parties party circuit prep inputs scratch position coefficients nonce out "
   pub received : lent "receive" ≡ bytes "parties party circuit prep inputs scratch position heard "
-  pub joined : lent "joint" ≡ bytes "parties circuit preps inputs scratch coefficients transcript outputs "
+  pub joined : lent "joint" ≡ bytes "parties circuit preps inputs scratch coefficients nonces transcript outputs "
   pub shown : lent "show" ≡ lent "joint"
   pub read : lent "read" ≡ bytes "parties text circuit "
   pub written : lent "write" ≡ bytes "parties circuit text "
-  pub scored : lent "score" ≡ bytes "parties text preps inputs scratch coefficients transcript outputs "
+  pub scored : lent "score" ≡ bytes "parties text preps inputs scratch coefficients nonces transcript outputs "
 
 pub in-order : Table
 unfolding isSpace belongs run alike startFrom endFrom wordFrom ends nth firstFrom bytes entryName entryNamed row fieldName has following course lent

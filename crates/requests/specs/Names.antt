@@ -49,13 +49,13 @@ noEntry = 8
 -- docs/REPLAY.md's table, a row for each entry: the names of what it is lent, in their order, and `-` for what it is not lent; the last row is that of `joint` and `show`
 unfoldable pub row : ℕ → List ℕ
 row entry =
-    cond (eqb entry opening) (bytes "parties party circuit prep inputs scratch - - - -")
-    (cond (eqb entry sending) (bytes "parties party circuit prep inputs scratch position coefficients out -")
-    (cond (eqb entry receiving) (bytes "parties party circuit prep inputs scratch position heard - -")
-    (cond (eqb entry reading) (bytes "parties - text - - - - - circuit -")
-    (cond (eqb entry writing) (bytes "parties - circuit - - - - - text -")
-    (cond (eqb entry scoring) (bytes "parties - text preps inputs scratch - coefficients transcript outputs")
-    (bytes "parties - circuit preps inputs scratch - coefficients transcript outputs"))))))
+    cond (eqb entry opening) (bytes "parties party circuit prep inputs scratch - - - - -")
+    (cond (eqb entry sending) (bytes "parties party circuit prep inputs scratch position coefficients nonce out -")
+    (cond (eqb entry receiving) (bytes "parties party circuit prep inputs scratch position heard - - -")
+    (cond (eqb entry reading) (bytes "parties - text - - - - - - circuit -")
+    (cond (eqb entry writing) (bytes "parties - circuit - - - - - - text -")
+    (cond (eqb entry scoring) (bytes "parties - text preps inputs scratch - coefficients nonces transcript outputs")
+    (bytes "parties - circuit preps inputs scratch - coefficients nonces transcript outputs"))))))
 
 -- a field is the number of its name in the row
 unfoldable pub fieldName : ℕ → ℕ → List ℕ

@@ -31,10 +31,10 @@ position = 6
 
 -- no field: a request is complete, or is dropped
 abbrev pub complete : ℕ
-complete = 10
+complete = 11
 
 abbrev pub lost : ℕ
-lost = 12
+lost = 13
 
 -- whether an entry is lent a field, and the first after one that it is lent; a request is complete where there is none
 unfoldable pub has : ℕ → ℕ → Bool
@@ -50,7 +50,7 @@ started entry wanted =
       entry = entry;
       wanted = wanted;
       at = record { gate = 0; stage = Send Own; held = 0 };
-      read = 0 ∷ 0 ∷ 0 ∷ 0 ∷ 0 ∷ 0 ∷ 0 ∷ 0 ∷ 0 ∷ 0 ∷ [];
+      read = 0 ∷ 0 ∷ 0 ∷ 0 ∷ 0 ∷ 0 ∷ 0 ∷ 0 ∷ 0 ∷ 0 ∷ 0 ∷ [];
     }
 
 abbrev pub wanting : Request → ℕ → Request

@@ -6,9 +6,11 @@ use crate::request::Request;
 use field::Word;
 use party::Answer;
 use party::Position;
+use protocol::Blame;
 ghost use mathlib.Core.Path.{_≡_};
+ghost use lib.ListN.{length};
 ghost use Rattle.field.specs.Words.{ops};
-ghost use Rattle.protocol.specs.Entry.{sendOut, receiveScratch};
+ghost use Rattle.protocol.specs.Entry.{sendOut, sendScratch, receiveScratch};
 ghost use Rattle.party.specs.Code.{positionOf};
 ghost use Rattle.requests.specs.Calls.{partyIn};
 
@@ -19,12 +21,27 @@ pub fn print_named(name: &[u8], n: usize) {
 }
 
 // A gate, a stage and a check share.
-fn print_position(at: Position) {
+fn print_place(at: Position) {
     let stage = at.stage;
     printing::print_number(at.gate as u64);
     print_stage(stage);
     printing::print_number(at.held as u64);
+}
+
+fn print_position(at: Position) {
+    print_place(at);
     printing::print(b"\n");
+}
+
+// Whom a stop names, if anybody, and the end of the line.
+pub fn print_blame(blame: Blame) {
+    match blame {
+        Blame::Nobody => printing::print(b"\n"),
+        Blame::Blames(i) => {
+            print_named(b" party", i);
+            printing::print(b"\n");
+        }
+    }
 }
 
 pub fn print_refusal(number: u32, index: usize) {
@@ -44,9 +61,10 @@ fn print_answer(answer: Answer) {
             print_named(b"output", value as usize);
             print_position(at);
         }
-        Answer::Abort(at) => {
+        Answer::Abort(blame, at) => {
             printing::print(b"abort");
-            print_position(at);
+            print_place(at);
+            print_blame(blame);
         }
     }
 }
@@ -68,11 +86,13 @@ pub fn answer_send(
     c: &[Word],
     prep: &[Word],
     inputs: &[Word],
-    scratch: &[Word],
+    scratch: &mut [Word],
     coefficients: &[Word],
+    nonce: &[u8],
     out: &mut [Word],
 )
-    ensures out { λ r. ⌜ now (out .exit) ≡ sendOut ops (partyIn request (now (c .entry)) (now (prep .entry)) (now (inputs .entry))) (now (scratch .entry)) (positionOf (request .at)) (now (coefficients .entry)) (now (out .entry)) ⌝ }
+    ensures out { λ r. ⌜ now (out .exit) ≡ sendOut ops (partyIn request (now (c .entry)) (now (prep .entry)) (now (inputs .entry))) (now (scratch .entry)) (positionOf (request .at)) (now (coefficients .entry)) (now (nonce .entry)) (now (out .entry)) ⌝ }
+    ensures scratch { λ r. ⌜ now (scratch .exit) ≡ sendScratch ops (partyIn request (now (c .entry)) (now (prep .entry)) (now (inputs .entry))) (now (scratch .entry)) (positionOf (request .at)) (now (coefficients .entry)) (now (nonce .entry)) (length (now (out .entry))) ⌝ }
 {
     let read = request.read;
     let at = request.at;
@@ -85,8 +105,10 @@ pub fn answer_send(
         scratch,
         at,
         coefficients,
+        nonce,
         out,
     ));
+    printing::print_list(b"scratch", scratch);
     printing::print_list(b"out", out);
 }
 

@@ -29,8 +29,8 @@ pub const SCORE: usize = 7;
 pub const NO_ENTRY: usize = 8;
 
 // What an entry is lent is a field, the number of its name in the entry's row. Preprocessing is one party's or that of all; words are the
-// coefficients or the words received; out is a party's list or the transcript. A sheet's text stands for the circuit where it is read, and what is
-// written of a sheet or of its circuit is out.
+// coefficients or the words received; nonces are a party's one or those of all; out is a party's list or the transcript. A sheet's text stands for the
+// circuit where it is read, and what is written of a sheet or of its circuit is out.
 pub const PARTIES: usize = 0;
 
 pub const PARTY: usize = 1;
@@ -47,16 +47,18 @@ pub const POSITION: usize = 6;
 
 pub const WORDS: usize = 7;
 
-pub const OUT: usize = 8;
+pub const NONCES: usize = 8;
 
-pub const OUTPUTS: usize = 9;
+pub const OUT: usize = 9;
+
+pub const OUTPUTS: usize = 10;
 
 // No field: the request is complete; it has not begun; it is dropped.
-pub const COMPLETE: usize = 10;
+pub const COMPLETE: usize = 11;
 
-pub const OUTSIDE: usize = 11;
+pub const OUTSIDE: usize = 12;
 
-pub const LOST: usize = 12;
+pub const LOST: usize = 13;
 
 pub enum Named {
     Stage(Stage),
@@ -123,7 +125,7 @@ pub fn spell_field(entry: usize, field: usize, printed: bool, word: &[u8]) -> bo
 {
     if entry == OPEN {
         return spell_nth(
-            b"parties party circuit prep inputs scratch - - - -",
+            b"parties party circuit prep inputs scratch - - - - -",
             field,
             printed,
             word,
@@ -131,7 +133,7 @@ pub fn spell_field(entry: usize, field: usize, printed: bool, word: &[u8]) -> bo
     }
     if entry == SEND {
         return spell_nth(
-            b"parties party circuit prep inputs scratch position coefficients out -",
+            b"parties party circuit prep inputs scratch position coefficients nonce out -",
             field,
             printed,
             word,
@@ -139,28 +141,38 @@ pub fn spell_field(entry: usize, field: usize, printed: bool, word: &[u8]) -> bo
     }
     if entry == RECEIVE {
         return spell_nth(
-            b"parties party circuit prep inputs scratch position heard - -",
+            b"parties party circuit prep inputs scratch position heard - - -",
             field,
             printed,
             word,
         );
     }
     if entry == READ {
-        return spell_nth(b"parties - text - - - - - circuit -", field, printed, word);
+        return spell_nth(
+            b"parties - text - - - - - - circuit -",
+            field,
+            printed,
+            word,
+        );
     }
     if entry == WRITE {
-        return spell_nth(b"parties - circuit - - - - - text -", field, printed, word);
+        return spell_nth(
+            b"parties - circuit - - - - - - text -",
+            field,
+            printed,
+            word,
+        );
     }
     if entry == SCORE {
         return spell_nth(
-            b"parties - text preps inputs scratch - coefficients transcript outputs",
+            b"parties - text preps inputs scratch - coefficients nonces transcript outputs",
             field,
             printed,
             word,
         );
     }
     spell_nth(
-        b"parties - circuit preps inputs scratch - coefficients transcript outputs",
+        b"parties - circuit preps inputs scratch - coefficients nonces transcript outputs",
         field,
         printed,
         word,

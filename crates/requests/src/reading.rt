@@ -75,7 +75,7 @@ pub fn complain_numbers(number: u64, read: Numbers) {
         Numbers::Count(_) => {}
         Numbers::Unlike => complain(number, b"not a number"),
         Numbers::TooLarge => complain(number, b"a number above 4294967295"),
-        Numbers::TooMany => complain(number, b"more than 16384 numbers"),
+        Numbers::TooMany => complain(number, b"more than 65536 numbers"),
     }
 }
 

@@ -13,30 +13,32 @@ ghost use Rattle.io.specs.Counts.{Counts};
 ghost use Rattle.requests.specs.Order as O;
 
 // The most numbers of a list.
-pub const ROOM: usize = 16384;
+pub const ROOM: usize = 65536;
 
 // The lists that are only read share one room, in which each has its place.
 pub const CIRCUIT_ROOM: usize = 0;
 
-pub const PREP_ROOM: usize = 16384;
+pub const PREP_ROOM: usize = 65536;
 
-pub const INPUTS_ROOM: usize = 32768;
+pub const INPUTS_ROOM: usize = 131072;
 
-pub const WORDS_ROOM: usize = 49152;
+pub const WORDS_ROOM: usize = 196608;
+
+pub const NONCES_ROOM: usize = 262144;
 
 // The entry, the field that comes next, the position, and the number that is read of each field: of a list it is the length.
 pub struct Request {
     pub entry: usize,
     pub wanted: usize,
     pub at: Position,
-    pub read: [u32; 10],
+    pub read: [u32; 11],
 }
 
 // A request of which only the entry is known.
 pub fn started(entry: usize, wanted: usize) -> Request
     ensures { λ r. ⌜ r ≡ O.started entry wanted ⌝ }
 {
-    let read = [0; 10];
+    let read = [0; 11];
     Request {
         entry,
         wanted,
@@ -107,7 +109,7 @@ pub fn with_position(request: Request, at: Position) -> Request
 
 // A count of a list that is only read, or the most that there is room for.
 pub fn within(n: usize) -> usize
-    ensures { λ r. ⌜ r ≤ 16384 ⌝ }
+    ensures { λ r. ⌜ r ≤ 65536 ⌝ }
 {
     if n < ROOM { n } else { ROOM }
 }

@@ -2,6 +2,7 @@
 use crate::bytes::all_bytes;
 use crate::naming::CIRCUIT;
 use crate::naming::INPUTS;
+use crate::naming::NONCES;
 use crate::naming::OUT;
 use crate::naming::OUTPUTS;
 use crate::naming::PREP;
@@ -14,6 +15,7 @@ use crate::reading::shorter;
 use crate::reading::take_line;
 use crate::request::CIRCUIT_ROOM;
 use crate::request::INPUTS_ROOM;
+use crate::request::NONCES_ROOM;
 use crate::request::PREP_ROOM;
 use crate::request::ROOM;
 use crate::request::Request;
@@ -28,9 +30,12 @@ use text::Numbers;
 ghost use Prim.Native.Nat.{_≤_};
 ghost use lib.ListN.{length};
 
-// May these numbers be what is wanted? A text has only bytes.
+// May these numbers be what is wanted? A text has only bytes, and so have nonces.
 fn fitting(request: Request, list: &[Word]) -> bool {
     if spell_field(request.entry, request.wanted, false, b"text") {
+        return all_bytes(list);
+    }
+    if request.wanted == NONCES {
         return all_bytes(list);
     }
     true
@@ -62,12 +67,13 @@ fn take_list(
 
 // Where the room of a list that is only read begins.
 fn place_of(wanted: usize) -> usize
-    ensures { λ r. ⌜ r ≤ 49152 ⌝ }
+    ensures { λ r. ⌜ r ≤ 262144 ⌝ }
 {
     match wanted {
         CIRCUIT => CIRCUIT_ROOM,
         PREP => PREP_ROOM,
         INPUTS => INPUTS_ROOM,
+        NONCES => NONCES_ROOM,
         _ => WORDS_ROOM,
     }
 }
@@ -80,7 +86,7 @@ fn take_given(
     request: Request,
     given: &mut [Word],
 ) -> Request
-    requires { ⌜ 65536 ≤ length (now given) ⌝ }
+    requires { ⌜ 327680 ≤ length (now given) ⌝ }
 {
     let wanted = request.wanted;
     let place = place_of(wanted);
@@ -98,7 +104,7 @@ pub fn read_line(
     out: &mut [Word],
     outputs: &mut [Word],
 ) -> Request
-    requires { ⌜ 65536 ≤ length (now given) ⌝ }
+    requires { ⌜ 327680 ≤ length (now given) ⌝ }
 {
     let step = take_line(number, line, request);
     let next = step.request;
@@ -108,7 +114,7 @@ pub fn read_line(
     let from = step.from;
     let wanted = next.wanted;
     match wanted {
-        CIRCUIT | PREP | INPUTS | WORDS => take_given(number, line, from, next, given),
+        CIRCUIT | PREP | INPUTS | WORDS | NONCES => take_given(number, line, from, next, given),
         SCRATCH => take_list(number, line, from, next, scratch),
         OUT => take_list(number, line, from, next, out),
         OUTPUTS => take_list(number, line, from, next, outputs),

@@ -7,14 +7,9 @@ use borrow.Author.Needs.{needs}
 use Rattle.capi.proofs.put_answer.Statement.{statement}
 use Rattle.capi.proofs.put_answer.Tie as tie
 
-put-position-requires : tie.Need-put-position-requires
-put-position-requires c κs = search needs
-
-put-position-requires-2 : tie.Need-put-position-requires-2
-put-position-requires-2 c κs = search needs
-
-put-position-requires-3 : tie.Need-put-position-requires-3
-put-position-requires-3 c κs = search needs
+blame-number-requires : tie.Need-blame-number-requires
+unfolding answerOf
+blame-number-requires c κs = (rw (c .before .before .a3 .given .1) at (c .before .before .before .before .before .pre .1))
 
 returns : tie.Need-returns
 unfolding answerOf answerNumbers overwrite
@@ -30,10 +25,11 @@ returns-3 c = rw (c .before .before .before .before .before .a2 .given .1) (c .b
 
 returns-4 : tie.Need-returns-4
 unfolding answerOf answerNumbers
-returns-4 c = rw (c .before .before .before .before .before .a3 .given .1) (c .before .before .put-position3 .ensures)
+returns-4 c = rw (c .before .before .before .before .before .before .a3 .given .1, ← c .before .before .before .blame-number .ensures) (c .before .before .put-position3 .ensures)
 
 pub put-answer-spec : {M : Type 1} → statement M
 put-answer-spec =
     tie.close
-    (tie.spec (λ c. search needs) (λ c. search needs) put-position-requires (λ c. search needs) (λ c. search needs) put-position-requires-2
-    (λ c. search needs) put-position-requires-3 returns (λ c. search needs) returns-2 (λ c. search needs) returns-3 (λ c. search needs) returns-4)
+    (tie.spec (λ c. search needs) (λ c. search needs) (λ c κs. search needs) (λ c. search needs) (λ c. search needs) (λ c κs. search needs)
+    (λ c. search needs) blame-number-requires (λ c κs. search needs) returns (λ c. search needs) returns-2 (λ c. search needs) returns-3
+    (λ c. search needs) returns-4)

@@ -7,11 +7,9 @@ use borrow.Author.Needs.{needs}
 use Rattle.capi.proofs.put_joint.Statement.{statement}
 use Rattle.capi.proofs.put_joint.Tie as tie
 
-put-requires : tie.Need-put-requires
-put-requires c κs = search needs
-
-put-requires-2 : tie.Need-put-requires-2
-put-requires-2 c κs = search needs
+blame-number-requires : tie.Need-blame-number-requires
+unfolding jointAnswerOf
+blame-number-requires c κs = (rw (c .before .before .a2 .given .1) at (c .before .before .before .before .before .pre .1))
 
 returns : tie.Need-returns
 unfolding jointAnswerOf jointNumbers overwrite
@@ -23,10 +21,10 @@ returns-2 c = rw (c .before .before .before .before .before .a .given .1) (c .be
 
 returns-3 : tie.Need-returns-3
 unfolding jointAnswerOf jointNumbers
-returns-3 c = rw (c .before .before .before .before .before .a2 .given .1) (c .before .before .put2 .ensures)
+returns-3 c = rw (c .before .before .before .before .before .before .a2 .given .1, ← c .before .before .before .blame-number .ensures) (c .before .before .put2 .ensures)
 
 pub put-joint-spec : {M : Type 1} → statement M
 put-joint-spec =
     tie.close
-    (tie.spec (λ c. search needs) (λ c. search needs) put-requires (λ c. search needs) put-requires-2 returns (λ c. search needs) returns-2
-    (λ c. search needs) returns-3)
+    (tie.spec (λ c. search needs) (λ c. search needs) (λ c κs. search needs) (λ c. search needs) blame-number-requires (λ c κs. search needs) returns
+    (λ c. search needs) returns-2 (λ c. search needs) returns-3)

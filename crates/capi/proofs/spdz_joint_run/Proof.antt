@@ -10,6 +10,7 @@ use Rattle.capi.specs.Numbers.{places, jointNumbers}
 use Rattle.field.specs.Words.{ops}
 use Rattle.capi.specs.Calls.{jointVerdict}
 use Rattle.capi.proofs.Calling.{joint-short-returned, short-kept, long-returned, long-left, joint-verdict-is, joint-answer-left, joint-scratch-left, joint-transcript-left, joint-outputs-left, scratch-kept, transcript-kept, outputs-kept}
+use Rattle.capi.proofs.Naming.{joint-tells}
 use borrow.Author.Needs.{needs}
 use Rattle.capi.proofs.spdz_joint_run.Statement.{statement}
 use Rattle.capi.proofs.spdz_joint_run.Tie as tie
@@ -30,7 +31,7 @@ joint-run-requires-2 : tie.Need-joint-run-requires-2
 joint-run-requires-2 c κs = search needs
 
 put-joint-requires : tie.Need-put-joint-requires
-put-joint-requires c κs = search needs
+put-joint-requires c κs = (omega arith, rw (c .before .before .before .before .before .before .before .joint-run2 .ensures .0) (joint-tells ops _ (omega arith) _ _ _))
 
 joint-verdict-requires-2 : tie.Need-joint-verdict-requires-2
 joint-verdict-requires-2 c κs = search needs
@@ -40,8 +41,8 @@ returned-of-requires-2 c κs = search needs
 
 returns-2 : tie.Need-returns-2
 returns-2 c =
-    let long : places ≤ length (c .before .before .before .before .before .before .before .before .before .before .before .before .before .before .before .before .before .before .before .before .before .before .before .before .before .args .answer .now) = omega arith in
-    (long-returned _ _ long (c .before .joint-verdict2 .ensures ∙ ap jointVerdict (c .before .before .before .before .before .before .before .before .before .before .before .before .joint-run2 .ensures .0) ∙ joint-verdict-is ops _ _ _ _) (c .returned-of2 .ensures), (long-left _ _ long _ _ (joint-answer-left ops _ _ _ _ _) (c .before .before .before .before .put-joint .ensures ∙ ap (λ (a : JointAnswer). overwrite (jointNumbers a) (c .before .before .before .before .before .before .before .before .before .before .before .before .before .before .before .before .before .before .before .before .before .before .before .before .before .args .answer .now)) (c .before .before .before .before .before .before .before .before .before .before .before .before .joint-run2 .ensures .0)), (long-left _ _ long _ _ (joint-scratch-left ops _ _ _ _) (c .before .before .before .before .before .before .before .before .before .before .before .before .joint-run2 .ensures .1 .0), (long-left _ _ long _ _ (joint-transcript-left ops _ _ _ _) (c .before .before .before .before .before .before .before .before .before .before .before .before .joint-run2 .ensures .1 .1 .0), long-left _ _ long _ _ (joint-outputs-left ops _ _ _ _) (c .before .before .before .before .before .before .before .before .before .before .before .before .joint-run2 .ensures .1 .1 .1)))))
+    let long : places ≤ length (c .before .before .before .before .before .before .before .before .before .before .before .before .before .before .before .before .before .before .before .before .before .before .before .before .before .before .args .answer .now) = omega arith in
+    (long-returned _ _ long (c .before .joint-verdict2 .ensures ∙ ap jointVerdict (c .before .before .before .before .before .before .before .before .before .before .before .before .joint-run2 .ensures .0) ∙ joint-verdict-is ops _ _ _ _) (c .returned-of2 .ensures), (long-left _ _ long _ _ (joint-answer-left ops _ _ _ _ _) (c .before .before .before .before .put-joint .ensures ∙ ap (λ (a : JointAnswer). overwrite (jointNumbers a) (c .before .before .before .before .before .before .before .before .before .before .before .before .before .before .before .before .before .before .before .before .before .before .before .before .before .before .args .answer .now)) (c .before .before .before .before .before .before .before .before .before .before .before .before .joint-run2 .ensures .0)), (long-left _ _ long _ _ (joint-scratch-left ops _ _ _ _) (c .before .before .before .before .before .before .before .before .before .before .before .before .joint-run2 .ensures .1 .0), (long-left _ _ long _ _ (joint-transcript-left ops _ _ _ _) (c .before .before .before .before .before .before .before .before .before .before .before .before .joint-run2 .ensures .1 .1 .0), long-left _ _ long _ _ (joint-outputs-left ops _ _ _ _) (c .before .before .before .before .before .before .before .before .before .before .before .before .joint-run2 .ensures .1 .1 .1)))))
 
 pub spdz-joint-run-spec : {M : Type 1} → statement M
 spdz-joint-run-spec =

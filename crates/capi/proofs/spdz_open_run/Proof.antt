@@ -5,6 +5,7 @@ use native.Mathlib.Omega.{arith}
 use Rattle.field.specs.Words.{ops}
 use Rattle.capi.specs.Calls.{answerVerdict}
 use Rattle.capi.proofs.Calling.{short-returned, short-kept, long-returned, long-left, open-verdict, open-left}
+use Rattle.capi.proofs.Naming.{open-tells}
 use borrow.Author.Needs.{needs}
 use Rattle.capi.proofs.spdz_open_run.Statement.{statement}
 use Rattle.capi.proofs.spdz_open_run.Tie as tie
@@ -22,7 +23,7 @@ returns : tie.Need-returns
 returns c = (short-returned _ _ (omega arith) (c .before .answer-verdict .ensures ∙ ap answerVerdict (c .before .before .before .open-run .ensures) ∙ open-verdict ops _ _) (c .without-room .ensures), short-kept _ _ (omega arith) _ _)
 
 put-answer-requires : tie.Need-put-answer-requires
-put-answer-requires c κs = search needs
+put-answer-requires c κs = (omega arith, rw (c .before .before .open-run .ensures) (open-tells ops _ _ (omega arith)))
 
 answer-verdict-requires-2 : tie.Need-answer-verdict-requires-2
 answer-verdict-requires-2 c κs = search needs

@@ -5,6 +5,7 @@ use native.Mathlib.Omega.{arith}
 use Rattle.field.specs.Words.{ops}
 use Rattle.capi.specs.Calls.{answerVerdict}
 use Rattle.capi.proofs.Calling.{short-returned, short-kept, long-returned, long-left, receive-verdict, receive-left, scratch-left}
+use Rattle.capi.proofs.Naming.{receive-tells}
 use borrow.Author.Needs.{needs}
 use Rattle.capi.proofs.spdz_receive.Statement.{statement}
 use Rattle.capi.proofs.spdz_receive.Tie as tie
@@ -28,7 +29,7 @@ receive-requires : tie.Need-receive-requires
 receive-requires c κs = search needs
 
 put-answer-requires : tie.Need-put-answer-requires
-put-answer-requires c κs = search needs
+put-answer-requires c κs = (omega arith, rw (c .before .before .before .receive .ensures .0) (receive-tells ops _ _ (omega arith) _ _))
 
 answer-verdict-requires : tie.Need-answer-verdict-requires
 answer-verdict-requires c κs = search needs

@@ -15,7 +15,7 @@ abbrev Inv-loop : tie.InvT-loop
 Inv-loop entry field next₀ t4 next = O.following entry next ≡ O.following entry field
 
 abbrev μ-loop : tie.MeasureT-loop
-μ-loop entry field next₀ t4 next = 9 - next
+μ-loop entry field next₀ t4 next = 10 - next
 
 loop-holds : tie.Need-loop-holds Inv-loop μ-loop
 loop-holds c = refl
