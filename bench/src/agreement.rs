@@ -16,12 +16,23 @@ pub fn tuned_answer(request: &Request) -> Option<Answer> {
             lent,
             position,
             coefficients,
+            nonce,
             out,
         } => {
-            let mut out = out.clone();
-            let (party, scratch) = (lent.party(), &lent.scratch);
-            let result = tuned::send(&party, scratch, *position, coefficients, &mut out);
-            Answer::Send { result, out }
+            let (mut scratch, mut out) = (lent.scratch.clone(), out.clone());
+            let result = tuned::send(
+                &lent.party(),
+                &mut scratch,
+                *position,
+                coefficients,
+                nonce,
+                &mut out,
+            );
+            Answer::Send {
+                result,
+                scratch,
+                out,
+            }
         }
         Request::Receive {
             lent,
@@ -39,6 +50,7 @@ pub fn tuned_answer(request: &Request) -> Option<Answer> {
             inputs,
             scratch,
             coefficients,
+            nonces,
             transcript,
             outputs,
         } => {
@@ -51,6 +63,7 @@ pub fn tuned_answer(request: &Request) -> Option<Answer> {
                 inputs,
                 &mut scratch,
                 coefficients,
+                nonces,
                 &mut transcript,
                 &mut outputs,
             );
@@ -84,7 +97,8 @@ fn longest(seed: u64) -> impl Iterator<Item = Answered> {
             let preps = prep::make(random, parties, &circuit, key);
             let inputs = random.elements(shape.inputs);
             let coefficients = random.elements(shape.coefficients());
-            let run = blank_joint(parties, &circuit, &preps, &inputs, &coefficients);
+            let nonces = random.bytes(shape.nonces());
+            let run = blank_joint(parties, &circuit, &preps, &inputs, &coefficients, &nonces);
             runs.push(run.expect("an accepted circuit").answered());
         }
     }
@@ -95,7 +109,13 @@ fn longest(seed: u64) -> impl Iterator<Item = Answered> {
 pub fn compare() -> usize {
     let mut compared = 0;
     for seed in SEEDS {
-        let sets = [Set::Small, Set::Square, Set::SquaresLarge];
+        let sets = [
+            Set::Small,
+            Set::Square,
+            Set::Mark,
+            Set::SquaresLarge,
+            Set::MarksLarge,
+        ];
         let sets = sets.into_iter().flat_map(|set| set.make(seed));
         let short = generate(seed, SMALL, Size::SMALL);
         let any = generate(seed, FULL, Size::FULL);

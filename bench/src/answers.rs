@@ -51,12 +51,17 @@ pub fn sent(result: Result<Position, Refusal>) -> Answer {
     result.map_or_else(refusal, |position| at(1, 0, position))
 }
 
+/// One more than the number of the party that is named, or 0.
+fn named(party: Option<u32>) -> u32 {
+    party.map_or(0, |party| party + 1)
+}
+
 pub fn received(result: Result<Received, Refusal>) -> Answer {
     match result {
         Err(refused) => refusal(refused),
         Ok(Received::Moved(position)) => at(1, 0, position),
         Ok(Received::Released { output, position }) => at(2, output, position),
-        Ok(Received::Aborted(position)) => at(3, 0, position),
+        Ok(Received::Aborted { position, party }) => at(3, named(party), position),
     }
 }
 
@@ -65,7 +70,9 @@ pub fn joint(result: Result<JointResult, Refusal>) -> Answer {
         Err(refused) => refusal(refused),
         Ok(run) => match run.ending {
             Ending::Finished => [1, run.rounds as u64, 0, 0, 0, 0],
-            Ending::Aborted { gate } => [2, run.rounds as u64, gate.into(), 0, 0, 0],
+            Ending::Aborted { gate, party } => {
+                [2, run.rounds as u64, gate.into(), named(party).into(), 0, 0]
+            }
         },
     }
 }

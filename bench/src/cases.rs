@@ -1,6 +1,7 @@
 //! What is timed: circuits with their lists, and single rounds of them.
 
 use reference::circuit::{self, Shape, ADD, IN, MUL, OUT, PLUS, SQ, SUB, TIMES};
+use reference::commitment::NONCE_BYTES;
 use reference::random::{from_kinds, Random};
 use reference::{prep, Party, Position, Received, Round, Stage};
 
@@ -12,6 +13,7 @@ pub struct Run {
     pub preps: Vec<u32>,
     pub inputs: Vec<u32>,
     pub coefficients: Vec<u32>,
+    pub nonces: Vec<u8>,
 }
 
 /// The kinds of a circuit: five of eight gates are of the given kind, three are linear; now and then an in
@@ -34,6 +36,13 @@ impl Run {
     pub fn new(parties: u32, gates: usize) -> Run {
         let random = &mut generator(parties, gates);
         let circuit = from_kinds(random, parties, &kinds(gates, MUL));
+        Run::of(random, parties, circuit)
+    }
+
+    /// An input that is given out: its check has one entry, and costs little but the hashes.
+    pub fn output(parties: u32) -> Run {
+        let random = &mut generator(parties, 2);
+        let circuit = from_kinds(random, parties, &[IN, OUT]);
         Run::of(random, parties, circuit)
     }
 
@@ -60,6 +69,9 @@ impl Run {
         let preps = prep::make(random, parties, &circuit, key);
         let inputs = random.elements(shape.inputs);
         let coefficients = random.elements(shape.coefficients());
+        let nonces = (0..shape.nonces())
+            .map(|_| random.below(256) as u8)
+            .collect();
         Run {
             parties,
             circuit,
@@ -67,6 +79,7 @@ impl Run {
             preps,
             inputs,
             coefficients,
+            nonces,
         }
     }
 
@@ -121,6 +134,7 @@ pub struct Halves {
     pub scratch: Vec<u32>,
     pub send_at: Position,
     pub coefficients: Vec<u32>,
+    pub nonce: Vec<u8>,
     pub receive_at: Position,
     pub heard: Vec<u32>,
 }
@@ -133,31 +147,37 @@ pub fn last_rounds(run: &Run, party: u32) -> Vec<Halves> {
         .map(|i| reference::open(&run.party(i), &scratches[i as usize]).expect("opened"))
         .collect();
     let mut coefficients = &run.coefficients[..];
+    let mut nonces = &run.nonces[..];
     let mut last: Vec<Halves> = Vec::new();
     while let Stage::Send(_) = positions[0].stage {
         let round = positions[0].round(&run.circuit).expect("a round");
         let gate = positions[0].gate as usize;
         let pending = circuit::before(&run.circuit, 0, gate).pending;
-        let wanted = if round.is_commit() {
-            round.unchecked(pending)
+        let (wanted, bytes) = if round.is_commit() {
+            (round.unchecked(pending), NONCE_BYTES)
         } else {
-            0
+            (0, 0)
         };
         let (now, later) = coefficients.split_at(wanted);
         coefficients = later;
+        let (nonces_now, later) = nonces.split_at(count * bytes);
+        nonces = later;
+        let nonce = |party: usize| &nonces_now[party * bytes..][..bytes];
         let mut halves = Halves {
             round,
             scratch: scratches[party as usize].clone(),
             send_at: positions[party as usize],
             coefficients: now.to_vec(),
+            nonce: nonce(party as usize).to_vec(),
             receive_at: positions[party as usize],
             heard: Vec::new(),
         };
         for i in 0..count {
             let mut words = vec![0; round.words()];
             let lent = run.party(i as u32);
-            positions[i] =
-                reference::send(&lent, &scratches[i], positions[i], now, &mut words).expect("sent");
+            let scratch = &mut scratches[i];
+            positions[i] = reference::send(&lent, scratch, positions[i], now, nonce(i), &mut words)
+                .expect("sent");
             halves.heard.extend(words);
         }
         halves.receive_at = positions[party as usize];
@@ -167,7 +187,7 @@ pub fn last_rounds(run: &Run, party: u32) -> Vec<Halves> {
                 reference::receive(&lent, &mut scratches[i], positions[i], &halves.heard);
             positions[i] = match received.expect("received") {
                 Received::Moved(position) | Received::Released { position, .. } => position,
-                Received::Aborted(_) => unreachable!("good preprocessing passes every check"),
+                Received::Aborted { .. } => unreachable!("good preprocessing passes every check"),
             };
         }
         last.retain(|other| other.round != round);

@@ -13,6 +13,7 @@ mod tuned;
 use std::hint::black_box;
 use std::path::PathBuf;
 
+use reference::commitment::REVEALED;
 use reference::random::Random;
 use reference::{field, Round, P};
 
@@ -32,6 +33,8 @@ const SINGLE_ROUNDS: [Round; 5] = [
     Round::RevealOpened,
     Round::OpenOutput,
 ];
+/// The check of one opened entry, in a circuit of two gates.
+const CHECK_ROUNDS: [Round; 2] = [Round::CommitOutput, Round::RevealOutput];
 const SQUARE_GATES: usize = 256;
 const PRODUCTS: usize = 4096;
 const SHEET_PARTIES: u32 = 5;
@@ -45,6 +48,7 @@ fn proved_joint(run: &Run, lists: &mut Lists) -> answers::Answer {
         &run.inputs,
         &mut lists.scratch,
         &run.coefficients,
+        &run.nonces,
         &mut lists.transcript,
         &mut lists.outputs,
     )
@@ -58,6 +62,7 @@ fn rust_joint(run: &Run, lists: &mut Lists) -> answers::Answer {
         &run.inputs,
         &mut lists.scratch,
         &run.coefficients,
+        &run.nonces,
         &mut lists.transcript,
         &mut lists.outputs,
     ))
@@ -71,6 +76,7 @@ fn tuned_joint(run: &Run, lists: &mut Lists) -> answers::Answer {
         &run.inputs,
         &mut lists.scratch,
         &run.coefficients,
+        &run.nonces,
         &mut lists.transcript,
         &mut lists.outputs,
     ))
@@ -107,23 +113,43 @@ fn joint(run: &Run) -> Sides<'_> {
     }
 }
 
-fn rust_send(run: &Run, halves: &Halves, out: &mut [u32]) -> answers::Answer {
-    answers::sent(reference::send(
+/// The lists that a send writes to.
+#[derive(Clone, PartialEq, Debug)]
+struct Sent {
+    scratch: Vec<u32>,
+    out: [u32; REVEALED],
+}
+
+fn proved_send(run: &Run, halves: &Halves, sent: &mut Sent) -> answers::Answer {
+    proved::send(
         &run.party(SINGLE_PARTY),
-        &halves.scratch,
+        &mut sent.scratch,
         halves.send_at,
         &halves.coefficients,
-        out,
+        &halves.nonce,
+        &mut sent.out,
+    )
+}
+
+fn rust_send(run: &Run, halves: &Halves, sent: &mut Sent) -> answers::Answer {
+    answers::sent(reference::send(
+        &run.party(SINGLE_PARTY),
+        &mut sent.scratch,
+        halves.send_at,
+        &halves.coefficients,
+        &halves.nonce,
+        &mut sent.out,
     ))
 }
 
-fn tuned_send(run: &Run, halves: &Halves, out: &mut [u32]) -> answers::Answer {
+fn tuned_send(run: &Run, halves: &Halves, sent: &mut Sent) -> answers::Answer {
     answers::sent(tuned::send(
         &run.party(SINGLE_PARTY),
-        &halves.scratch,
+        &mut sent.scratch,
         halves.send_at,
         &halves.coefficients,
-        out,
+        &halves.nonce,
+        &mut sent.out,
     ))
 }
 
@@ -148,15 +174,12 @@ fn tuned_receive(run: &Run, halves: &Halves, scratch: &mut [u32]) -> answers::An
 }
 
 fn send<'a>(run: &'a Run, halves: &'a Halves) -> Sides<'a> {
-    let lent = run.party(SINGLE_PARTY);
-    let (mut left, mut right, mut other) = ([0; 2], [0; 2], [0; 2]);
-    let answer = proved::send(
-        &lent,
-        &halves.scratch,
-        halves.send_at,
-        &halves.coefficients,
-        &mut left,
-    );
+    let mut left = Sent {
+        scratch: halves.scratch.clone(),
+        out: [0; REVEALED],
+    };
+    let (mut right, mut other) = (left.clone(), left.clone());
+    let answer = proved_send(run, halves, &mut left);
     assert_eq!(answer, rust_send(run, halves, &mut right), "sending");
     assert_eq!(
         answer,
@@ -164,17 +187,11 @@ fn send<'a>(run: &'a Run, halves: &'a Halves) -> Sides<'a> {
         "sending, tuned"
     );
     assert_eq!(answer[0], 1, "sending is not refused");
-    assert_eq!(left, right, "words sent");
-    assert_eq!(left, other, "words sent, tuned");
+    assert_eq!(left, right, "words sent, and scratch");
+    assert_eq!(left, other, "words sent, and scratch, tuned");
     Sides {
         proved: Box::new(move || {
-            black_box(proved::send(
-                black_box(&lent),
-                &halves.scratch,
-                halves.send_at,
-                &halves.coefficients,
-                &mut left,
-            ));
+            black_box(proved_send(black_box(run), halves, &mut left));
         }),
         rust: Box::new(move || {
             black_box(rust_send(black_box(run), halves, &mut right));
@@ -348,15 +365,16 @@ fn measured(repetitions: usize) -> Report {
         .into_iter()
         .flat_map(|parties| GATES.map(|gates| Run::new(parties, gates)))
         .collect();
-    let lent: Vec<(Run, Vec<Halves>)> = SINGLE_GATES
+    let of_rounds = |run: Run, rounds: &[Round]| {
+        let mut halves = cases::last_rounds(&run, SINGLE_PARTY);
+        halves.retain(|halves| rounds.contains(&halves.round));
+        (run, halves)
+    };
+    let mut lent: Vec<(Run, Vec<Halves>)> = SINGLE_GATES
         .into_iter()
-        .map(|gates| Run::new(SINGLE_PARTIES, gates))
-        .map(|run| {
-            let mut halves = cases::last_rounds(&run, SINGLE_PARTY);
-            halves.retain(|halves| SINGLE_ROUNDS.contains(&halves.round));
-            (run, halves)
-        })
+        .map(|gates| of_rounds(Run::new(SINGLE_PARTIES, gates), &SINGLE_ROUNDS))
         .collect();
+    lent.push(of_rounds(Run::output(SINGLE_PARTIES), &CHECK_ROUNDS));
     let singles = || {
         lent.iter()
             .flat_map(|(run, rounds)| rounds.iter().map(move |halves| (run, halves)))

@@ -1,4 +1,4 @@
-//! The proved entries, called as C calls them, with answers as five numbers.
+//! The proved entries, called as C calls them, with answers as six numbers.
 
 use reference::{Party, Position};
 
@@ -11,7 +11,7 @@ struct Refusal {
     index: usize,
 }
 
-/// The five numbers of an answer, or of the refusal in its place.
+/// The six numbers of an answer, or of the refusal in its place.
 fn told(refusal: Refusal, answer: Answer) -> Answer {
     match refusal.number {
         0 => answer,
@@ -29,7 +29,7 @@ extern "C" {
         prep_len: usize,
         inputs: *const u32,
         inputs_len: usize,
-        scratch: *const u32,
+        scratch: *mut u32,
         scratch_len: usize,
         gate: usize,
         half: u32,
@@ -37,6 +37,8 @@ extern "C" {
         held: u32,
         coefficients: *const u32,
         coefficients_len: usize,
+        nonce: *const u8,
+        nonce_len: usize,
         out: *mut u32,
         out_len: usize,
         answer: *mut u64,
@@ -76,6 +78,8 @@ extern "C" {
         scratch_len: usize,
         coefficients: *const u32,
         coefficients_len: usize,
+        nonces: *const u8,
+        nonces_len: usize,
         transcript: *mut u32,
         transcript_len: usize,
         outputs: *mut u32,
@@ -109,9 +113,10 @@ extern "C" {
 
 pub fn send(
     lent: &Party<'_>,
-    scratch: &[u32],
+    scratch: &mut [u32],
     at: Position,
     coefficients: &[u32],
+    nonce: &[u8],
     out: &mut [u32],
 ) -> Answer {
     let [half, round] = stage_numbers(at.stage);
@@ -126,7 +131,7 @@ pub fn send(
             lent.prep.len(),
             lent.inputs.as_ptr(),
             lent.inputs.len(),
-            scratch.as_ptr(),
+            scratch.as_mut_ptr(),
             scratch.len(),
             at.gate as usize,
             half,
@@ -134,6 +139,8 @@ pub fn send(
             at.held,
             coefficients.as_ptr(),
             coefficients.len(),
+            nonce.as_ptr(),
+            nonce.len(),
             out.as_mut_ptr(),
             out.len(),
             answer.as_mut_ptr(),
@@ -179,6 +186,7 @@ pub fn joint_run(
     inputs: &[u32],
     scratch: &mut [u32],
     coefficients: &[u32],
+    nonces: &[u8],
     transcript: &mut [u32],
     outputs: &mut [u32],
 ) -> Answer {
@@ -196,6 +204,8 @@ pub fn joint_run(
             scratch.len(),
             coefficients.as_ptr(),
             coefficients.len(),
+            nonces.as_ptr(),
+            nonces.len(),
             transcript.as_mut_ptr(),
             transcript.len(),
             outputs.as_mut_ptr(),

@@ -273,6 +273,7 @@ impl Report {
              All sides get the same requests and their own lists of equal length, cleared alike; before a case is timed, all must give equal answers and leave equal\n\
              lists. Batches of at least half a millisecond are timed in turns, all cases one after another and {} times over, and the medians are told. Five of eight gates of each circuit multiply; the\n\
              others are linear, in and out gates, with an out gate every 32 gates. A circuit of squares is of the same shape, with squares for its products. Single halves are those of the last round of each sort, at party 1 of 5.\n\
+             A check takes a hash for each party in a joint run; a seal that is sent takes one, and a reveal that is received one for each of the 5 parties. The circuit of 2 gates is an input that is given out: its check has one entry, so that a seal sent there is little more than one hash.\n\
              Sheets are for 5 parties; each is read, and the circuit that it is read as is written, a gate a line.\n\
              A field product is one of {} that multiply a list in place, once all its numbers are asked.\n\n\
              ## Results\n\n{}\n![Joint run: time over gates times parties](benchmarks.svg)\n",

@@ -1,6 +1,7 @@
 //! The circuit: decoding its gates, questions 3 to 7, its counts, and the places of its numbers in
 //! preprocessing and scratch.
 
+use crate::commitment::{NONCE_BYTES, WORDS};
 use crate::field::P;
 use crate::party::Round;
 use crate::refusal::{ask, ask_parties, Refusal};
@@ -127,6 +128,7 @@ pub(crate) fn has_value(line: &[u32]) -> bool {
 /// The counts that decide the lengths of all lists.
 #[derive(Clone, Copy, Debug, PartialEq, Eq)]
 pub struct Shape {
+    pub parties: usize,
     pub gates: usize,
     pub inputs: usize,
     /// In gates of each party.
@@ -151,6 +153,7 @@ impl Shape {
 
     pub fn layout(&self) -> Layout {
         Layout {
+            parties: self.parties,
             gates: self.gates,
             opened: self.entries + 1,
         }
@@ -165,9 +168,20 @@ impl Shape {
         self.entries + self.outputs
     }
 
+    /// Checks of a full run.
+    pub fn checks(&self) -> usize {
+        self.outputs + self.checked_outputs
+    }
+
+    /// Bytes of the nonces of a full joint run: "in order of checks, seats in order within".
+    pub fn nonces(&self) -> usize {
+        NONCE_BYTES * self.parties * self.checks()
+    }
+
     /// Words that one party sends in a full run.
     pub fn words(&self) -> usize {
-        self.own_words + 3 * self.outputs + 2 * self.checked_outputs
+        let check = Round::CommitOutput.words() + Round::RevealOutput.words();
+        self.own_words + self.outputs + check * self.checks()
     }
 
     fn count(&mut self, gate: Gate, pending: usize) {
@@ -192,9 +206,11 @@ impl Shape {
 }
 
 /// Where the numbers of one party's scratch are: "L shares, L MAC shares, 2M + 1 opened values,
-/// 2M + 1 MAC shares of those", and one more of each of the last two for every sq gate.
+/// 2M + 1 MAC shares of those", and one more of each of the last two for every sq gate. "The scratch's end
+/// gains eight numbers for the seat's nonce, then eight for each seat's mark."
 #[derive(Clone, Copy, Debug, PartialEq, Eq)]
 pub struct Layout {
+    parties: usize,
     gates: usize,
     opened: usize,
 }
@@ -221,8 +237,18 @@ impl Layout {
         self.opened
     }
 
-    pub fn len(self) -> usize {
+    /// Where the words of the party's nonce start.
+    pub fn nonce(self) -> usize {
         2 * self.gates + 2 * self.opened
+    }
+
+    /// Where the words of a party's mark start.
+    pub fn mark(self, party: usize) -> usize {
+        self.nonce() + WORDS + WORDS * party
+    }
+
+    pub fn len(self) -> usize {
+        self.mark(self.parties)
     }
 
     pub fn is_empty(self) -> bool {
@@ -270,6 +296,7 @@ pub(crate) fn ask_circuit(parties: u32, circuit: &[u32]) -> Result<Shape, Refusa
         circuit.len().is_multiple_of(4) && (2..=MAX_GATES).contains(&gates),
     )?;
     let mut shape = Shape {
+        parties: parties as usize,
         gates,
         inputs: 0,
         owned: [0; MAX_PARTIES],

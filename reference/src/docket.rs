@@ -20,10 +20,12 @@ pub const PREPS: [u32; 26] = [
 ];
 pub const INPUTS: [u32; 2] = [5, 6];
 pub const COEFFICIENTS: [u32; 3] = [1, 2, 5];
+/// "The docket's nonce bytes are all 0": two checks of two parties.
+pub const NONCES: [u8; 128] = [0; 128];
 
 /// The run as a request.
 pub fn request() -> Result<Request, Refusal> {
-    requests::blank_joint(PARTIES, &CIRCUIT, &PREPS, &INPUTS, &COEFFICIENTS)
+    requests::blank_joint(PARTIES, &CIRCUIT, &PREPS, &INPUTS, &COEFFICIENTS, &NONCES)
 }
 
 /// "Per round, the kind and each seat's words in seat order, then the word out and each score."

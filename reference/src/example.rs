@@ -6,6 +6,7 @@
 use std::fmt::Write;
 
 use crate::circuit::MAX_GATES;
+use crate::commitment::NONCE_BYTES;
 use crate::prep;
 use crate::random::Random;
 use crate::requests::{blank_joint, score_request, Answered};
@@ -14,6 +15,9 @@ use crate::text;
 
 const FIRMS: usize = 5;
 const HARBOUR_GATES: usize = 4;
+
+/// One of the opened values of all multiplications, one of the output.
+const CHECKS: usize = 2;
 
 /// The file that has the sheet, beside the request.
 const SHEET_FILE: &str = "harbour.sheet";
@@ -43,7 +47,17 @@ impl Example {
             }
         }
         let coefficients = random.elements(2 * HARBOUR_GATES + 1);
-        let request = blank_joint(FIRMS as u32, &circuit, &preps, &inputs, &coefficients);
+        let nonces: Vec<u8> = (0..CHECKS * FIRMS * NONCE_BYTES)
+            .map(|_| random.below(256) as u8)
+            .collect();
+        let request = blank_joint(
+            FIRMS as u32,
+            &circuit,
+            &preps,
+            &inputs,
+            &coefficients,
+            &nonces,
+        );
         Example {
             late,
             risks,
@@ -145,9 +159,14 @@ fn comment(line: &str) -> &'static str {
 # The coefficients of the MAC checks: two for each multiplication, one for the output.
 "
         }
+        Some("nonces") => {
+            "\
+# The nonces of the commitments, 32 bytes each: of parties 0 to 4 at the first check, and at the second.
+"
+        }
         Some("scratch") => {
             "\
-# Room for each party's shares and opened values.
+# Room for each party's shares and opened values, its nonce and the marks of all.
 "
         }
         Some("transcript") => {

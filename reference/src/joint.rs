@@ -1,6 +1,7 @@
 //! The joint run: all parties of one circuit, driven by one caller.
 
 use crate::circuit::{self, Gate, Layout, Shape};
+use crate::commitment::{self, NONCE_BYTES, REVEALED, WORDS};
 use crate::field;
 use crate::local::Local;
 use crate::refusal::{ask, ask_elements, Refusal};
@@ -8,7 +9,12 @@ use crate::refusal::{ask, ask_elements, Refusal};
 #[derive(Clone, Copy, Debug, PartialEq, Eq)]
 pub enum Ending {
     Finished,
-    Aborted { gate: u32 },
+    Aborted {
+        gate: u32,
+        /// A party whose words do not hash to its mark. A joint run, in which every mark is made of the words that
+        /// are revealed, names none.
+        party: Option<u32>,
+    },
 }
 
 #[derive(Clone, Copy, Debug, PartialEq, Eq)]
@@ -31,6 +37,8 @@ struct Run<'a> {
     scratch: &'a mut [u32],
     /// The coefficients not yet used.
     coefficients: &'a [u32],
+    /// The nonces not yet used.
+    nonces: &'a [u8],
     /// The part of the transcript not yet written.
     transcript: &'a mut [u32],
     rounds: usize,
@@ -113,12 +121,24 @@ impl<'a> Run<'a> {
     fn check(&mut self, entries: usize) -> bool {
         let (now, later) = self.coefficients.split_at(entries);
         self.coefficients = later;
-        self.round(1).fill(1);
-        let revealed = self.round(1);
-        for (word, (local, _, band)) in revealed.iter_mut().zip(self.each()) {
-            *word = local.check_share(band, now);
+        let (nonces, later) = self.nonces.split_at(NONCE_BYTES * self.parties);
+        self.nonces = later;
+        let marks = self.round(WORDS);
+        let revealed = self.round(REVEALED);
+        let words = marks
+            .chunks_exact_mut(WORDS)
+            .zip(revealed.as_chunks_mut::<REVEALED>().0);
+        let nonces = nonces.chunks_exact(NONCE_BYTES);
+        for (((mark, words), nonce), (local, _, band)) in words.zip(nonces).zip(self.each()) {
+            local.keep_nonce(band, nonce);
+            *words = local.revealed(band, local.check_share(band, now));
+            mark.copy_from_slice(&commitment::mark(words));
         }
-        field::sum(&*revealed) == 0
+        for (local, _, band) in self.each() {
+            local.receive_marks(band, marks);
+        }
+        // Each mark was made of the words that are revealed, so that all fit.
+        field::sum(revealed.iter().step_by(REVEALED)) == 0
     }
 
     /// The rounds of an out gate: the released output, or None if a check fails.
@@ -140,7 +160,8 @@ impl<'a> Run<'a> {
     }
 }
 
-/// Runs all parties. The lists are joined in party order; the coefficients are in order of use.
+/// Runs all parties. The lists are joined in party order; the coefficients are in order of use, the nonces in order
+/// of checks, parties in order within.
 #[allow(clippy::too_many_arguments)]
 pub fn joint_run(
     parties: u32,
@@ -149,6 +170,7 @@ pub fn joint_run(
     inputs: &[u32],
     scratch: &mut [u32],
     coefficients: &[u32],
+    nonces: &[u8],
     transcript: &mut [u32],
     outputs: &mut [u32],
 ) -> Result<JointResult, Refusal> {
@@ -161,6 +183,7 @@ pub fn joint_run(
     ask(12, scratch.len() >= count * shape.scratch_len())?;
     ask(16, coefficients.len() == shape.coefficients())?;
     ask_elements(17, coefficients)?;
+    ask(25, nonces.len() == shape.nonces())?;
     ask(
         18,
         transcript.len() >= count * shape.words() && outputs.len() >= shape.outputs,
@@ -173,6 +196,7 @@ pub fn joint_run(
         preps,
         scratch,
         coefficients,
+        nonces,
         transcript,
         rounds: 0,
         words: 0,
@@ -190,7 +214,11 @@ pub fn joint_run(
             Gate::Square { wire } => run.square((index, wire), record, pending),
             Gate::Output { wire } => {
                 let Some(output) = run.output(wire, pending) else {
-                    return Ok(run.result(Ending::Aborted { gate: index as u32 }, released));
+                    let ending = Ending::Aborted {
+                        gate: index as u32,
+                        party: None,
+                    };
+                    return Ok(run.result(ending, released));
                 };
                 outputs[released] = output;
                 released += 1;

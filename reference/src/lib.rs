@@ -1,5 +1,5 @@
-//! The online phase of SPDZ as document 01 has it, with squares, written a second time and independently: a
-//! source of test vectors, and a baseline for speed. Circuits are read and written as text too, as sheets.
+//! The online phase of SPDZ as document 01 has it, with squares and with commitments, written a second time
+//! and independently: a source of test vectors, and a baseline for speed. Circuits are read and written as text too, as sheets.
 //!
 //! Names are the field's standard terms: a party is document 01's seat, a gate its line (the gate's
 //! value is a wire), preprocessing its material, coefficients its draws, sending and receiving its
@@ -7,6 +7,7 @@
 //! and show, an aborted run a stopped one, an output its score. A row is a line of a sheet.
 
 pub mod circuit;
+pub mod commitment;
 pub mod docket;
 pub mod example;
 pub mod field;
@@ -20,6 +21,7 @@ pub mod random;
 pub mod refusal;
 pub mod replay;
 pub mod requests;
+pub mod sha256;
 pub mod sheet;
 pub mod square;
 pub mod text;

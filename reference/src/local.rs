@@ -3,6 +3,7 @@
 //! The single entries and the joint run both use these steps, after their own questions.
 
 use crate::circuit::{Gate, Layout};
+use crate::commitment::{self, REVEALED, WORDS};
 use crate::field::{add, inner_product, mul, product, reduce, sub};
 
 #[derive(Clone, Copy)]
@@ -126,6 +127,28 @@ impl Local {
         let opened_macs = &scratch[self.layout.opened_mac(0)..][..entries];
         let v = inner_product(coefficients, opened);
         sub(inner_product(coefficients, opened_macs), mul(self.key, v))
+    }
+
+    /// Writes the words of the nonce that is handed over at a commitment.
+    pub fn keep_nonce(self, scratch: &mut [u32], nonce: &[u8]) {
+        let words = commitment::nonce_words(nonce);
+        scratch[self.layout.nonce()..][..WORDS].copy_from_slice(&words);
+    }
+
+    /// The words that reveal a check share: it, and the nonce as it stands in the scratch.
+    pub fn revealed(self, scratch: &[u32], check_share: u32) -> [u32; REVEALED] {
+        commitment::revealed(check_share, &scratch[self.layout.nonce()..])
+    }
+
+    /// Writes the marks of all parties as they are heard.
+    pub fn receive_marks(self, scratch: &mut [u32], marks: &[u32]) {
+        scratch[self.layout.mark(0)..][..marks.len()].copy_from_slice(marks);
+    }
+
+    /// The lowest party whose revealed words do not hash to the mark written for it.
+    pub fn lowest_unfit(self, scratch: &[u32], revealed: &[u32]) -> Option<u32> {
+        let marks = &scratch[self.layout.mark(0)..self.layout.len()];
+        commitment::lowest_unfit(marks, revealed)
     }
 
     /// The score that a passing second check releases.

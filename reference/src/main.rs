@@ -9,7 +9,7 @@ const USAGE: &str = "usage:
     reference docket
     reference coverage SEED COUNT
     reference theorems SEED COUNT
-    reference vectors small|large|square|squares-large|products SEED requests|answers
+    reference vectors small|large|square|mark|squares-large|products|marks-large SEED requests|answers
     reference vectors sheet|square-sheet|sheets-large SEED requests|answers
     reference vectors SEED coverage
     reference example SEED request|sheet|answer

@@ -1,10 +1,11 @@
 //! One party: opening a run, sending and receiving.
 
 use crate::circuit::{self, Before, Gate, Shape};
+use crate::commitment::{self, NONCE_BYTES, REVEALED};
 use crate::field::{self, P};
 use crate::local::Local;
 use crate::position::{can_hold, can_occur};
-use crate::refusal::{ask, ask_each, ask_elements, ask_parties, Refusal};
+use crate::refusal::{ask, ask_elements, ask_elements_where, ask_parties, Refusal};
 
 pub use crate::position::{Position, Round, Sort, Stage};
 
@@ -21,8 +22,16 @@ pub struct Party<'a> {
 #[derive(Clone, Copy, Debug, PartialEq, Eq)]
 pub enum Received {
     Moved(Position),
-    Released { output: u32, position: Position },
-    Aborted(Position),
+    Released {
+        output: u32,
+        position: Position,
+    },
+    Aborted {
+        position: Position,
+        /// The lowest party whose words do not hash to its mark. None if all do and the check shares do not sum
+        /// to zero.
+        party: Option<u32>,
+    },
 }
 
 /// An accepted step: where it is, and what it works with.
@@ -144,12 +153,14 @@ pub fn open(lent: &Party<'_>, scratch: &[u32]) -> Result<Position, Refusal> {
     })
 }
 
-/// The sending half of a round: writes the party's words at the start of `out`.
+/// The sending half of a round: writes the party's words at the start of `out`, and at a commitment the nonce
+/// into the scratch.
 pub fn send(
     lent: &Party<'_>,
-    scratch: &[u32],
+    scratch: &mut [u32],
     position: Position,
     coefficients: &[u32],
+    nonce: &[u8],
     out: &mut [u32],
 ) -> Result<Position, Refusal> {
     let Step {
@@ -160,13 +171,14 @@ pub fn send(
         local,
         ..
     } = ask_step(lent, scratch, position, Half::Send)?;
-    let wanted = if round.is_commit() {
-        round.unchecked(before.pending)
+    let (wanted, nonce_len) = if round.is_commit() {
+        (round.unchecked(before.pending), NONCE_BYTES)
     } else {
-        0
+        (0, 0)
     };
     ask(16, coefficients.len() == wanted)?;
     ask_elements(17, coefficients)?;
+    ask(25, nonce.len() == nonce_len)?;
     ask(18, out.len() >= round.words())?;
 
     let mut held = 0;
@@ -187,9 +199,14 @@ pub fn send(
         }
         _ if round.is_commit() => {
             held = local.check_share(scratch, coefficients);
-            out[0] = 1;
+            local.keep_nonce(scratch, nonce);
+            let mark = commitment::mark(&local.revealed(scratch, held));
+            out[..mark.len()].copy_from_slice(&mark);
         }
-        _ => out[0] = position.held,
+        _ => {
+            let words = local.revealed(scratch, position.held);
+            out[..words.len()].copy_from_slice(&words);
+        }
     }
     Ok(Position {
         stage: Stage::Receive(round.sort()),
@@ -216,16 +233,32 @@ pub fn receive(
         ..
     } = step;
     ask(19, heard.len() == lent.parties as usize * round.words())?;
-    ask_elements(20, heard)?;
-    if round.is_commit() {
-        ask_each(21, heard, |mark| mark == 1)?;
-    }
+    ask_elements_where(20, heard, |index| round.has_element(index))?;
 
     let same_gate = |sort, held| Position {
         stage: Stage::Send(sort),
         held,
         ..position
     };
+    let aborted = |party| Received::Aborted {
+        position: Position {
+            gate: position.gate,
+            stage: Stage::Aborted,
+            held: 0,
+        },
+        party,
+    };
+    if round.is_commit() {
+        local.receive_marks(scratch, heard);
+    }
+    if round.is_reveal() {
+        if let Some(party) = local.lowest_unfit(scratch, heard) {
+            return Ok(aborted(Some(party)));
+        }
+        if field::sum(heard.iter().step_by(REVEALED)) != 0 {
+            return Ok(aborted(None));
+        }
+    }
     Ok(match (round, gate) {
         (Round::Input, Gate::Input { owner }) => {
             local.receive_input(scratch, index, record, heard[owner as usize]);
@@ -254,11 +287,6 @@ pub fn receive(
         }
         (Round::CommitOpened, _) => Received::Moved(same_gate(Sort::RevealOpened, position.held)),
         (Round::CommitOutput, _) => Received::Moved(same_gate(Sort::RevealOutput, position.held)),
-        _ if field::sum(heard) != 0 => Received::Aborted(Position {
-            gate: position.gate,
-            stage: Stage::Aborted,
-            held: 0,
-        }),
         (Round::RevealOpened, _) => Received::Moved(same_gate(Sort::OpenOutput, 0)),
         // Question 13 leaves only the second reveal of an out gate.
         _ => {

@@ -1,6 +1,7 @@
 //! Positions in a run, and question 13: which of them can occur.
 
 use crate::circuit::{self, Gate};
+use crate::commitment;
 use crate::field::P;
 
 /// A round. An out gate has two checks: the first of all opened and unchecked entries, the second of
@@ -45,8 +46,16 @@ impl Round {
     pub fn words(self) -> usize {
         match self {
             Round::Multiply => 2,
+            Round::CommitOpened | Round::CommitOutput => commitment::WORDS,
+            Round::RevealOpened | Round::RevealOutput => commitment::REVEALED,
             _ => 1,
         }
+    }
+
+    /// Whether the word of this index, among those of all parties, must be an element: "mark and nonce words are
+    /// any 32-bit numbers".
+    pub fn has_element(self, index: usize) -> bool {
+        !self.is_commit() && (!self.is_reveal() || index.is_multiple_of(commitment::REVEALED))
     }
 
     /// Opened and unchecked entries during the round, with `pending` of them when its gate is reached.

@@ -73,12 +73,22 @@ impl Random {
 
     /// Any numbers: mostly digits, the rest around `P` or of any size.
     pub fn numbers(&mut self, len: usize) -> Vec<u32> {
-        let mut number = || match self.below(10) {
+        let mut number = || match self.below(24) {
             0 => self.number(),
-            1 => self.pick(&[P - 1, P, u32::MAX]),
-            digit => digit as u32,
+            1 | 2 => self.pick(&[P - 1, P, u32::MAX]),
+            digit => digit as u32 % 10,
         };
         (0..len).map(|_| number()).collect()
+    }
+
+    /// Any bytes: mostly digits, the rest of any size.
+    pub fn bytes(&mut self, len: usize) -> Vec<u8> {
+        let mut byte = || match self.below(12) {
+            0 => self.below(256) as u8,
+            1 => self.pick(&[127, 128, 255]),
+            digit => digit as u8 % 10,
+        };
+        (0..len).map(|_| byte()).collect()
     }
 
     pub fn shuffle<T>(&mut self, list: &mut [T]) {
@@ -177,6 +187,28 @@ pub fn circuit(random: &mut Random, of: Kinds, parties: u32, lines: usize) -> Ve
 /// gate with something unchecked before it, later one with nothing unchecked, and after that a mul and
 /// an add gate, and an sq gate if it is among the kinds.
 pub fn rich_circuit(random: &mut Random, of: Kinds, parties: u32, lines: usize) -> Vec<u32> {
+    rich(random, of, parties, lines, |kind| kind)
+}
+
+/// The same with three out gates, so that a long circuit's run takes few checks.
+pub fn rich_circuit_of_few_checks(
+    random: &mut Random,
+    of: Kinds,
+    parties: u32,
+    lines: usize,
+) -> Vec<u32> {
+    let other = |kind| if kind == OUT { PLUS } else { kind };
+    rich(random, of, parties, lines, other)
+}
+
+/// A rich circuit, of which the kinds that are not needed are put through `other`.
+fn rich(
+    random: &mut Random,
+    of: Kinds,
+    parties: u32,
+    lines: usize,
+    other: fn(u32) -> u32,
+) -> Vec<u32> {
     let mut parts = [vec![PLUS, MUL, SUB], vec![TIMES], vec![MUL, ADD]];
     if of == Kinds::Squares {
         parts[0].push(SQ);
@@ -185,7 +217,7 @@ pub fn rich_circuit(random: &mut Random, of: Kinds, parties: u32, lines: usize) 
     for _ in of.rich_lines()..lines {
         let part = random.below(parts.len());
         // A mul or sq gate in the middle part would leave something unchecked before its out gate.
-        let kind = match of.any(random) {
+        let kind = match other(of.any(random)) {
             MUL | SQ if part == 1 => random.pick(&LINEAR),
             kind => kind,
         };

@@ -3,7 +3,7 @@
 use crate::field::P;
 
 /// "A refusal gives its number and an index": the gate for 4 to 6, the first offending number's
-/// index in its list for 9, 11, 15, 17, 20 and 21, otherwise 0.
+/// index in its list for 9, 11, 15, 17 and 20, otherwise 0.
 #[derive(Clone, Copy, Debug, PartialEq, Eq)]
 pub struct Refusal {
     pub number: u32,
@@ -19,21 +19,22 @@ pub(crate) fn ask(number: u32, yes: bool) -> Result<(), Refusal> {
     }
 }
 
-/// Asks a question of each number in turn; the refusal has the index of the first no.
-pub(crate) fn ask_each(
+/// Asks whether all numbers are below `P`; the refusal has the index of the first that is not.
+pub(crate) fn ask_elements(number: u32, list: &[u32]) -> Result<(), Refusal> {
+    ask_elements_where(number, list, |_| true)
+}
+
+/// The same of the numbers at some indices.
+pub(crate) fn ask_elements_where(
     number: u32,
     list: &[u32],
-    yes: impl Fn(u32) -> bool,
+    asked: impl Fn(usize) -> bool,
 ) -> Result<(), Refusal> {
-    match list.iter().position(|&x| !yes(x)) {
+    let mut numbers = list.iter().enumerate();
+    match numbers.position(|(index, &x)| x >= P && asked(index)) {
         None => Ok(()),
         Some(index) => Err(Refusal { number, index }),
     }
-}
-
-/// Asks whether all numbers are below `P`.
-pub(crate) fn ask_elements(number: u32, list: &[u32]) -> Result<(), Refusal> {
-    ask_each(number, list, |x| x < P)
 }
 
 /// Question 1.

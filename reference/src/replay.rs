@@ -4,15 +4,16 @@ use crate::party::{Position, Sort, Stage};
 use crate::requests::{Lent, Request, SheetRequest};
 use crate::text;
 
-const MAX_LINE: usize = 262_144;
-const MAX_NUMBERS: usize = 16_384;
+const MAX_LINE: usize = 1_048_576;
+const MAX_NUMBERS: usize = 65_536;
 
 const ONE_PARTY: [&str; 6] = ["parties", "party", "circuit", "prep", "inputs", "scratch"];
-const RUN: [&str; 6] = [
+const RUN: [&str; 7] = [
     "preps",
     "inputs",
     "scratch",
     "coefficients",
+    "nonces",
     "transcript",
     "outputs",
 ];
@@ -21,7 +22,11 @@ const RUN: [&str; 6] = [
 fn fields(entry: &str) -> Option<Vec<&'static str>> {
     Some(match entry {
         "open" => ONE_PARTY.to_vec(),
-        "send" => [&ONE_PARTY[..], &["position", "coefficients", "out"]].concat(),
+        "send" => [
+            &ONE_PARTY[..],
+            &["position", "coefficients", "nonce", "out"],
+        ]
+        .concat(),
         "receive" => [&ONE_PARTY[..], &["position", "heard"]].concat(),
         "joint" | "show" => [&["parties", "circuit"], &RUN[..]].concat(),
         "score" => [&["parties", "text"], &RUN[..]].concat(),
@@ -30,6 +35,9 @@ fn fields(entry: &str) -> Option<Vec<&'static str>> {
         _ => return None,
     })
 }
+
+/// The lists whose numbers are bytes.
+const BYTES: [&str; 3] = ["text", "nonce", "nonces"];
 
 /// What stands after a field's name.
 enum Value {
@@ -114,8 +122,8 @@ fn value(field: &str, words: &mut Words<'_>) -> Result<Value, &'static str> {
             Value::Position(position)
         }
         _ => {
-            let list = numbers(words, MAX_NUMBERS, "more than 16384 numbers")?;
-            if field == "text" && list.iter().any(|&number| number > u8::MAX.into()) {
+            let list = numbers(words, MAX_NUMBERS, "more than 65536 numbers")?;
+            if BYTES.contains(&field) && list.iter().any(|&number| number > u8::MAX.into()) {
                 return Err("a byte above 255");
             }
             Value::Numbers(list)
@@ -169,6 +177,7 @@ impl Taken {
             inputs: self.list(),
             scratch: self.list(),
             coefficients: self.list(),
+            nonces: self.bytes(),
             transcript: self.list(),
             outputs: self.list(),
         }
@@ -206,6 +215,7 @@ fn answer(entry: &str, values: Vec<Value>) -> String {
             lent: taken.lent(),
             position: taken.position(),
             coefficients: taken.list(),
+            nonce: taken.bytes(),
             out: taken.list(),
         },
         "receive" => Request::Receive {
@@ -238,7 +248,7 @@ pub fn replay(input: &[u8]) -> String {
         let mut fault =
             |message: &str| answers.push_str(&format!("line {}: {message}\n", index + 1));
         if line.len() > MAX_LINE {
-            fault("more than 262144 bytes");
+            fault("more than 1048576 bytes");
             state = State::Dropped;
             continue;
         }
@@ -369,9 +379,9 @@ mod tests {
                 "line 2: parties is wanted\nline 2: nothing may follow the name of an entry\n",
             ),
             (&format!("{long}\n"), ""),
-            (&format!("{long}#\n"), "line 1: more than 262144 bytes\n"),
+            (&format!("{long}#\n"), "line 1: more than 1048576 bytes\n"),
             (&many(MAX_NUMBERS), "refusal 22 0\ncircuit\n"),
-            (&many(MAX_NUMBERS + 1), "line 3: more than 16384 numbers\n"),
+            (&many(MAX_NUMBERS + 1), "line 3: more than 65536 numbers\n"),
         ] {
             assert_eq!(
                 replay(input.as_bytes()),

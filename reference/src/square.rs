@@ -18,8 +18,10 @@ pub const PREPS: [u32; 16] = [
 ];
 pub const INPUTS: [u32; 1] = [5];
 pub const COEFFICIENTS: [u32; 2] = [2, 5];
+/// Of two checks of two parties.
+pub const NONCES: [u8; 128] = [0; 128];
 
 /// The run as a request.
 pub fn request() -> Result<Request, Refusal> {
-    requests::blank_joint(PARTIES, &CIRCUIT, &PREPS, &INPUTS, &COEFFICIENTS)
+    requests::blank_joint(PARTIES, &CIRCUIT, &PREPS, &INPUTS, &COEFFICIENTS, &NONCES)
 }

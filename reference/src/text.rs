@@ -55,6 +55,7 @@ pub fn request_to(entry: &str, request: &Request) -> String {
     for (name, field) in request.fields() {
         match field {
             Field::Numbers(numbers) => text.push_str(&line(name, numbers)),
+            Field::Bytes(bytes) => text.push_str(&bytes_line(name, bytes)),
             Field::Position(at) => text.push_str(&format!("{name} {}\n", position(at))),
         }
     }
@@ -115,6 +116,17 @@ pub fn line(name: &str, numbers: &[u32]) -> String {
     text
 }
 
+/// A list of bytes with its name.
+pub fn bytes_line(name: &str, bytes: &[u8]) -> String {
+    let numbers: Vec<u32> = bytes.iter().map(|&byte| byte.into()).collect();
+    line(name, &numbers)
+}
+
+/// The party that is named beside a gate.
+fn named(party: Option<u32>) -> String {
+    party.map_or(String::new(), |party| format!(" party {party}"))
+}
+
 fn first_line(answer: &Answer) -> String {
     let text = match answer {
         Answer::Open { result } | Answer::Send { result, .. } => {
@@ -126,12 +138,17 @@ fn first_line(answer: &Answer) -> String {
                 output,
                 position: next,
             } => format!("output {output} {}", position(next)),
-            Received::Aborted(next) => format!("abort {}", position(next)),
+            Received::Aborted {
+                position: next,
+                party,
+            } => format!("abort {}{}", position(next), named(party)),
         }),
         Answer::Joint { result, .. } => {
             result.map(|JointResult { ending, rounds, .. }| match ending {
                 Ending::Finished => format!("done {rounds}"),
-                Ending::Aborted { gate } => format!("stopped {gate} {rounds}"),
+                Ending::Aborted { gate, party } => {
+                    format!("stopped {gate} {rounds}{}", named(party))
+                }
             })
         }
     };
@@ -206,7 +223,7 @@ mod tests {
                 circuit: docket::CIRCUIT.to_vec(),
                 prep: docket::PREPS[..13].to_vec(),
                 inputs: vec![5],
-                scratch: vec![0; 14],
+                scratch: vec![0; 38],
             },
             position: Position {
                 gate: 0,
@@ -214,6 +231,7 @@ mod tests {
                 held: 0,
             },
             coefficients: Vec::new(),
+            nonce: Vec::new(),
             out: vec![9, 9],
         }
         .answered();

@@ -1,6 +1,6 @@
 //! Answered requests as theorems about the Rattle definitions, each proved by computation alone.
 
-use std::fmt::Write;
+use std::fmt::{Display, Write};
 
 use crate::joint::{Ending, JointResult};
 use crate::party::{Position, Received, Sort, Stage};
@@ -16,21 +16,24 @@ use Rattle.field.specs.Prime.{modular}
 use Rattle.circuit.specs.Round.{First, Second, Own, Open, Commit, Reveal}
 use Rattle.protocol.specs.Position.{Send, Receive, Finished, Aborted}
 use Rattle.protocol.specs.Party.{Party}
-use Rattle.protocol.specs.Entry.{Refusal, Next, Output, Abort, openAnswer, sendAnswer, sendOut, receiveAnswer, receiveScratch}
+use Rattle.protocol.specs.Entry.{Refusal, Next, Output, Abort, openAnswer, sendAnswer, sendScratch, sendOut, receiveAnswer, receiveScratch}
+use Rattle.protocol.specs.Receive.{Nobody, Blames}
 use Rattle.protocol.specs.Joint.{Joint}
 use Rattle.protocol.specs.JointEntry.{Done, jointAnswer, jointScratch, jointTranscript, jointOutputs}
 use Rattle.protocol.specs.JointEntry.{Refusal as JointRefusal, Aborted as JointAborted}
-use Rattle.protocol.proofs.Computing.{computing}
+use Rattle.theorems.proofs.Hashed.{hashing}
 ";
 
-/// The longest circuit, in numbers, of which a whole joint run is left to the prover to compute.
-const LONGEST_RUN: usize = 160;
-
-/// Whether the prover can compute the answer within its limit of steps.
-fn is_small(one: &Answered) -> bool {
-    match &one.request {
-        Request::Joint { circuit, .. } => {
-            circuit.len() <= LONGEST_RUN || one.answer.refusal().is_some()
+/// Whether the prover can compute the answer: not where it has a hash, which is shut to a computation.
+fn is_open(one: &Answered) -> bool {
+    match (&one.request, &one.answer) {
+        (Request::Joint { .. }, answer) => answer.refusal().is_some(),
+        (Request::Receive { position: at, .. }, answer) => {
+            let reveals = matches!(
+                at.stage,
+                Stage::Receive(Sort::RevealOpened | Sort::RevealOutput)
+            );
+            !reveals || answer.refusal().is_some()
         }
         _ => true,
     }
@@ -39,7 +42,7 @@ fn is_small(one: &Answered) -> bool {
 /// A file of theorems, one for each request.
 pub fn theorems(answered: &[Answered]) -> String {
     let mut text = String::from(HEAD);
-    for (number, one) in answered.iter().enumerate().filter(|(_, one)| is_small(one)) {
+    for (number, one) in answered.iter().enumerate().filter(|(_, one)| is_open(one)) {
         let equations = equations(one);
         let proofs = vec!["refl"; equations.len()].join(", ");
         let proofs = if equations.len() == 1 {
@@ -49,7 +52,7 @@ pub fn theorems(answered: &[Answered]) -> String {
         };
         let _ = write!(
             text,
-            "\n-- {}\ncase-{number} :\n    {}\nunfolding computing modular\ncase-{number} = {proofs}\n",
+            "\n-- {}\ncase-{number} :\n    {}\nunfolding hashing modular\ncase-{number} = {proofs}\n",
             one.label(),
             equations.join("\n    × "),
         );
@@ -57,6 +60,7 @@ pub fn theorems(answered: &[Answered]) -> String {
     text
 }
 
+/// What the prover computes. What a commitment posts is a hash, and is left to the other tests.
 fn equations(one: &Answered) -> Vec<String> {
     match (&one.request, &one.answer) {
         (Request::Open { lent }, Answer::Open { result }) => {
@@ -72,25 +76,47 @@ fn equations(one: &Answered) -> Vec<String> {
                 lent,
                 position: at,
                 coefficients,
+                nonce,
                 out,
             },
-            Answer::Send { result, out: later },
+            Answer::Send {
+                result,
+                scratch,
+                out: later,
+            },
         ) => {
             let call = format!(
-                "{} {} {} {}",
+                "{} {} {} {} {}",
                 party(lent),
                 list(&lent.scratch),
                 position(at),
-                list(coefficients)
+                list(coefficients),
+                list(nonce)
             );
-            vec![
+            let mut equations = vec![
                 format!(
                     "(sendAnswer modular {call} {} ≡ {})",
                     out.len(),
                     moved(result)
                 ),
-                format!("(sendOut modular {call} {} ≡ {})", list(out), list(later)),
-            ]
+                format!(
+                    "(sendScratch modular {call} {} ≡ {})",
+                    out.len(),
+                    list(scratch)
+                ),
+            ];
+            let commits = matches!(
+                at.stage,
+                Stage::Send(Sort::CommitOpened | Sort::CommitOutput)
+            );
+            if result.is_err() || !commits {
+                equations.push(format!(
+                    "(sendOut modular {call} {} ≡ {})",
+                    list(out),
+                    list(later)
+                ));
+            }
+            equations
         }
         (
             Request::Receive {
@@ -113,7 +139,10 @@ fn equations(one: &Answered) -> Vec<String> {
                     output,
                     position: next,
                 }) => format!("Output {output} {}", position(next)),
-                Ok(Received::Aborted(next)) => format!("Abort {}", position(next)),
+                Ok(Received::Aborted {
+                    position: next,
+                    party,
+                }) => format!("Abort {} {}", named(party), position(next)),
                 Err(refusal) => refused("Refusal", refusal),
             };
             vec![
@@ -129,6 +158,7 @@ fn equations(one: &Answered) -> Vec<String> {
                 inputs,
                 scratch,
                 coefficients,
+                nonces,
                 transcript,
                 outputs,
             },
@@ -140,11 +170,12 @@ fn equations(one: &Answered) -> Vec<String> {
             },
         ) => {
             let call = format!(
-                "modular (record {{ parties = {parties}; circuit = {}; preps = {}; inputs = {}; coefficients = {} }}) {} {} {}",
+                "modular (record {{ parties = {parties}; circuit = {}; preps = {}; inputs = {}; coefficients = {}; nonces = {} }}) {} {} {}",
                 list(circuit),
                 list(preps),
                 list(inputs),
                 list(coefficients),
+                list(nonces),
                 list(scratch),
                 list(transcript),
                 list(outputs)
@@ -156,10 +187,10 @@ fn equations(one: &Answered) -> Vec<String> {
                     ..
                 }) => format!("Done {rounds}"),
                 Ok(JointResult {
-                    ending: Ending::Aborted { gate },
+                    ending: Ending::Aborted { gate, party },
                     rounds,
                     ..
-                }) => format!("JointAborted {gate} {rounds}"),
+                }) => format!("JointAborted {gate} {} {rounds}", named(party)),
                 Err(refusal) => refused("JointRefusal", refusal),
             };
             vec![
@@ -173,7 +204,12 @@ fn equations(one: &Answered) -> Vec<String> {
     }
 }
 
-fn list(numbers: &[u32]) -> String {
+/// The party beside a gate, or none.
+fn named(party: &Option<u32>) -> String {
+    party.map_or(String::from("Nobody"), |party| format!("(Blames {party})"))
+}
+
+fn list<T: Display>(numbers: &[T]) -> String {
     let mut text = String::from("(");
     for number in numbers {
         let _ = write!(text, "{number} ∷ ");

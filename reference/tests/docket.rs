@@ -3,20 +3,21 @@
 mod common;
 
 use common::Case;
-use reference::docket::{self, CIRCUIT, COEFFICIENTS, INPUTS, PARTIES, PREPS};
+use reference::docket::{self, CIRCUIT, COEFFICIENTS, INPUTS, NONCES, PARTIES, PREPS};
 use reference::random::{self, Kinds, Random};
-use reference::{circuit, open, plain, prep, receive, send};
+use reference::requests::Answer;
+use reference::{circuit, commitment, open, plain, prep, receive, send};
 use reference::{Ending, Party, Position, Received, Refusal, Sort, Stage, P};
 
 const PRINTED: &str = "\
 in 3 0
 in 0 2147483643
 mul 3 2147483644 2147483646 5
-seal 1 1
-reveal 10 2147483637
+seal 272533300 855279086 235693618 2709198289 3425779131 1209606253 564894338 1025805703 392664496 2933272743 3210988540 1159849883 2804449762 356348130 2261437598 147768482
+reveal 10 0 0 0 0 0 0 0 0 2147483637 0 0 0 0 0 0 0 0
 show 17 13
-seal 1 1
-reveal 20 2147483627
+seal 850332863 617076412 3921632008 2051254059 2028485708 102383270 110660321 3237469616 721445309 59359921 2920372308 1087459295 151985532 3708268289 1836622388 705217064
+reveal 20 0 0 0 0 0 0 0 0 2147483627 0 0 0 0 0 0 0 0
 out 30
 ";
 
@@ -28,6 +29,7 @@ fn case() -> Case {
         preps: PREPS.to_vec(),
         inputs: INPUTS.to_vec(),
         coefficients: COEFFICIENTS.to_vec(),
+        nonces: NONCES.to_vec(),
     }
 }
 
@@ -38,6 +40,23 @@ fn refusal<T>(number: u32, index: usize) -> Result<T, Refusal> {
 #[test]
 fn prints_the_transcript() {
     assert_eq!(docket::print().unwrap(), PRINTED);
+    assert_eq!(include_str!("../../crates/docket/stdout"), PRINTED);
+}
+
+/// Party 0's band at the end, begun at 0: shares, MAC shares, opened entries and their MAC shares; the nonce; the words of the
+/// second commitment.
+#[test]
+fn the_scratch_at_the_end() {
+    let Answer::Joint { scratch, .. } = docket::request().unwrap().answer() else {
+        panic!("the docket is a joint run");
+    };
+    let shares = [4, 0, 17, 0, 19, 18, 94, 0, 30, 2, 0, 94, 10, 0];
+    assert_eq!(scratch.len(), 2 * 38);
+    assert_eq!(scratch[..14], shares);
+    assert_eq!(scratch[14..22], [0; 8]);
+    let line = PRINTED.lines().nth(6).unwrap();
+    let words = line.split(' ').skip(1).map(|word| word.parse().unwrap());
+    assert_eq!(scratch[22..38], words.collect::<Vec<u32>>());
 }
 
 #[test]
@@ -67,18 +86,19 @@ fn shares_and_mac_shares() {
         [1, 6, 13, 9, 16, 24, 116, 9, 2, 2, 9, 6, 4, 9],
     ];
     for (view, expected) in views.iter().zip(expected) {
-        let mut scratch = [9; 14];
+        let mut scratch = [9; 38];
         let mut position = open(view, &scratch).unwrap();
         for heard in words {
             let mut out = [0; 2];
-            position = send(view, &scratch, position, &[], &mut out).unwrap();
+            position = send(view, &mut scratch, position, &[], &[], &mut out).unwrap();
             let Received::Moved(next) = receive(view, &mut scratch, position, heard).unwrap()
             else {
                 panic!("nothing to release");
             };
             position = next;
         }
-        assert_eq!(scratch, expected);
+        assert_eq!(scratch[..14], expected);
+        assert_eq!(scratch[14..], [9; 24]);
         assert_eq!(
             position,
             Position {
@@ -89,20 +109,48 @@ fn shares_and_mac_shares() {
         );
 
         // "Two draws at the first seal accepted; one or three, 16."
-        let mut out = [0; 1];
-        assert_eq!(
-            send(view, &scratch, position, &[1], &mut out),
-            refusal(16, 0)
-        );
-        assert_eq!(
-            send(view, &scratch, position, &[1, 2, 5], &mut out),
-            refusal(16, 0)
-        );
-        assert_eq!(out, [0]);
+        let mut out = [0; 8];
+        let before = scratch;
+        for coefficients in [&[1][..], &[1, 2, 5]] {
+            let told = send(
+                view,
+                &mut scratch,
+                position,
+                coefficients,
+                &[0; 32],
+                &mut out,
+            );
+            assert_eq!(told, refusal(16, 0));
+        }
+        // A nonce of any other length than 32; 16 and 17 are asked before, 18 after.
+        for (coefficients, len, room, number) in [
+            (&[1, 2][..], 0, 8, 25),
+            (&[1, 2], 31, 8, 25),
+            (&[1, 2], 33, 7, 25),
+            (&[1, P], 33, 8, 17),
+            (&[1], 31, 8, 16),
+            (&[1, 2], 32, 7, 18),
+        ] {
+            let told = send(
+                view,
+                &mut scratch,
+                position,
+                coefficients,
+                &[0; 33][..len],
+                &mut out[..room],
+            );
+            assert_eq!(told, refusal(number, usize::from(number == 17)));
+        }
+        assert_eq!((out, scratch), ([0; 8], before));
         // "Check words 10 and p - 10."
-        let committed = send(view, &scratch, position, &[1, 2], &mut out).unwrap();
+        let committed = send(view, &mut scratch, position, &[1, 2], &[0; 32], &mut out).unwrap();
         assert_eq!(committed.held, if view.party == 0 { 10 } else { P - 10 });
-        assert_eq!(out, [1]);
+        assert_eq!(scratch[..14], before[..14]);
+        assert_eq!(scratch[14..22], [0; 8]);
+        assert_eq!(scratch[22..], [9; 16]);
+        let line = PRINTED.lines().nth(3).unwrap();
+        let words = line.split(' ').skip(1 + 8 * view.party as usize).take(8);
+        assert_eq!(words.collect::<Vec<_>>(), out.map(|word| word.to_string()));
     }
 }
 
@@ -114,14 +162,72 @@ fn an_altered_output_word_aborts() {
             words[1] = 14;
         }
         if round == 7 {
-            assert_eq!(words, [5, P - 40]);
+            assert_eq!([words[0], words[9]], [5, P - 40]);
         }
     });
     let result = left.result.unwrap();
     assert_eq!(
         (result.ending, result.rounds, result.outputs),
-        (Ending::Aborted { gate: 3 }, 8, 0)
+        (
+            Ending::Aborted {
+                gate: 3,
+                party: None
+            },
+            8,
+            0
+        )
     );
+}
+
+/// One bit of party 0's mark heard otherwise, and party 1's first nonce word heard as 1, both at the first check.
+#[test]
+fn an_altered_mark_or_nonce_names_its_party() {
+    for (altered, word, by, party) in [(3, 0, 1 << 31, 0), (4, 10, 1, 1)] {
+        let left = case().single(|round, _, words| {
+            if round == altered {
+                words[word] ^= by;
+            }
+        });
+        let result = left.result.unwrap();
+        let ending = Ending::Aborted {
+            gate: 3,
+            party: Some(party),
+        };
+        assert_eq!(
+            (result.ending, result.rounds, result.outputs),
+            (ending, 5, 0)
+        );
+    }
+}
+
+/// Marks of 10 and 77 are written. The last dock cancels: 10 and p - 10 are revealed; or it reveals what it committed to.
+#[test]
+fn a_cancelling_reveal_is_seen() {
+    let case = case();
+    let mut scratch = [0; 38];
+    for (party, share) in [(0, 10), (1, 77)] {
+        let mark = commitment::mark(&commitment::revealed(share, &[0; 8]));
+        scratch[22 + 8 * party..][..8].copy_from_slice(&mark);
+    }
+    let revealing = Position {
+        gate: 3,
+        stage: Stage::Receive(Sort::RevealOpened),
+        held: 0,
+    };
+    for view in case.views() {
+        for (shares, party) in [([10, P - 10], Some(1)), ([10, 77], None)] {
+            let mut heard = [0; 18];
+            (heard[0], heard[9]) = (shares[0], shares[1]);
+            let position = Position {
+                stage: Stage::Aborted,
+                ..revealing
+            };
+            assert_eq!(
+                receive(&view, &mut scratch, revealing, &heard),
+                Ok(Received::Aborted { position, party })
+            );
+        }
+    }
 }
 
 /// "8 seats accepted, 9 gives 1"; "256 lines accepted, 257 gives 3"; "An element p - 1 accepted, p

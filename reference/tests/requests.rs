@@ -15,11 +15,15 @@ fn assert_covered(count: usize) {
         let mut wanted = BTreeSet::new();
         let numbers: [(&str, Vec<u32>); 4] = [
             ("open", (1..=12).collect()),
-            ("send", (1..=18).collect()),
-            ("receive", (1..=15).chain(19..=21).collect()),
+            ("send", (1..=18).chain([25]).collect()),
+            ("receive", (1..=15).chain(19..=20).collect()),
             (
                 "joint",
-                [1].into_iter().chain(3..=12).chain(16..=18).collect(),
+                [1].into_iter()
+                    .chain(3..=12)
+                    .chain(16..=18)
+                    .chain([25])
+                    .collect(),
             ),
         ];
         for (entry, numbers) in numbers {

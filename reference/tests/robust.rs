@@ -54,6 +54,14 @@ fn change_list(random: &mut Random, list: &mut Vec<u32>) {
     }
 }
 
+fn change_bytes(random: &mut Random, bytes: &mut Vec<u8>) {
+    match random.below(3) {
+        0 => bytes.push(7),
+        1 => drop(bytes.pop()),
+        _ => bytes.fill(random.below(256) as u8),
+    }
+}
+
 fn change(random: &mut Random, request: &mut Request) {
     if let Request::Send { position, .. } | Request::Receive { position, .. } = request {
         match random.below(12) {
@@ -72,9 +80,13 @@ fn change(random: &mut Random, request: &mut Request) {
             inputs,
             scratch,
             coefficients,
+            nonces,
             transcript,
             outputs,
         } => {
+            if random.once_in(9) {
+                return change_bytes(random, nonces);
+            }
             let lists = [
                 circuit,
                 preps,
@@ -105,6 +117,7 @@ fn change(random: &mut Random, request: &mut Request) {
             }
         }
         Request::Open { lent } => change_list(random, &mut lent.scratch),
+        Request::Send { nonce, .. } if random.once_in(3) => change_bytes(random, nonce),
         Request::Send {
             coefficients, out, ..
         } => {
@@ -143,6 +156,7 @@ fn garbage_never_panics() {
                 lent: lent.clone(),
                 position,
                 coefficients: list(&mut random),
+                nonce: vec![7; random.pick(&[0, 31, 32])],
                 out: list(&mut random),
             },
             Request::Receive {
@@ -157,6 +171,7 @@ fn garbage_never_panics() {
                 inputs: lent.inputs,
                 scratch: lent.scratch,
                 coefficients: list(&mut random),
+                nonces: vec![7; 32 * random.below(5)],
                 transcript: list(&mut random),
                 outputs: list(&mut random),
             },

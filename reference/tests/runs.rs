@@ -90,8 +90,8 @@ fn bad_preprocessing_ends_alike_in_both() {
     assert!(aborts > SEEDS / 4, "{aborts}");
 }
 
-/// An altered word of a product, a square or an output is opened wrongly, and the next check aborts; altered reveals
-/// abort at once. An altered owner's word in an in round only changes the input; another's is ignored.
+/// An altered word of a product, a square or an output is opened wrongly, and the next check aborts, naming no party. An
+/// altered mark or reveal aborts at that check, naming the party whose it is. An altered owner's word in an in round only changes the input; another's is ignored.
 #[test]
 fn altered_words() {
     for seed in 0..SEEDS {
@@ -101,14 +101,15 @@ fn altered_words() {
         let honest = case.joint();
         let altered_round = random.below(honest.result.unwrap().rounds);
         let (gate, round) = gate_of_round(&case, altered_round);
-        if round.is_commit() {
-            continue;
-        }
         let delta = random.nonzero();
         let index = random.below(case.count() * round.words());
         let left = case.single(|now, _, words| {
             if now == altered_round {
-                words[index] = add(words[index], delta);
+                words[index] = if round.has_element(index) {
+                    add(words[index], delta)
+                } else {
+                    words[index].wrapping_add(delta)
+                };
             }
         });
         let ending = left.result.unwrap().ending;
@@ -135,7 +136,9 @@ fn altered_words() {
             assert_eq!(
                 ending,
                 Ending::Aborted {
-                    gate: next_out.0 as u32
+                    gate: next_out.0 as u32,
+                    party: (round.is_commit() || round.is_reveal())
+                        .then_some((index / round.words()) as u32),
                 }
             );
         }
@@ -156,7 +159,8 @@ fn altered_shares_abort() {
             let mut case = Case::of(&mut random, 3, circuit.to_vec(), key);
             case.preps[index] = add(case.preps[index], random.nonzero());
             let left = case.joint();
-            assert_eq!(left.result.unwrap().ending, Ending::Aborted { gate });
+            let ending = Ending::Aborted { gate, party: None };
+            assert_eq!(left.result.unwrap().ending, ending);
             assert_eq!(case.single(|_, _, _| ()), left);
         }
     }

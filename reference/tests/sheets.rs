@@ -55,17 +55,19 @@ fn the_kept_set_has_every_answer_of_every_entry() {
     let kept = SheetSet::Kept.make(SEED);
     assert_answers(&kept, "read", &["lines"], &READ);
     assert_answers(&kept, "write", &["bytes"], &WRITE);
-    let score = [1, 3, 5, 6, 7, 8, 9, 11, 12, 17, 18, 22, 23];
+    let score = [1, 3, 5, 6, 7, 8, 9, 11, 12, 17, 18, 22, 23, 25];
     assert_answers(&kept, "score", &["done", "stopped"], &score);
     let faults = [
         "a byte above 255",
         "not a number",
         "a number above 4294967295",
-        "more than 16384 numbers",
+        "more than 65536 numbers",
         "one number is wanted",
         "nothing may follow the name of an entry",
         "text is wanted",
         "circuit is wanted",
+        "nonce is wanted",
+        "nonces is wanted",
     ];
     assert_answers(&kept, "fault", &faults, &[]);
 }
@@ -188,11 +190,11 @@ fn the_text_keeps_within_the_limits_of_the_format() {
     for set in SheetSet::ALL {
         let (requests, _) = text::sheets(set, SEED);
         for line in requests.lines() {
-            assert!(line.len() <= 262_144);
+            assert!(line.len() <= 1_048_576);
         }
         let long = requests
             .lines()
-            .filter(|line| line.split(' ').count() > 1 + 16_384);
+            .filter(|line| line.split(' ').count() > 1 + 65_536);
         // The one that is a fault.
         assert_eq!(long.count(), usize::from(set == SheetSet::Kept));
     }

@@ -12,11 +12,11 @@ use reference::{Ending, Position, Received, Refusal, Sort, Stage, P};
 const PRINTED: &str = "\
 in 3 0
 sq 3 2147483646
-seal 1 1
-reveal 4 2147483643
+seal 1244417175 3912128754 936072702 961251672 2215093797 1217134647 3141193240 50545820 831648754 3312203175 2291131991 1992365589 2348552288 2624841683 2809434074 1669061681
+reveal 4 0 0 0 0 0 0 0 0 2147483643 0 0 0 0 0 0 0 0
 show 12 13
-seal 1 1
-reveal 105 2147483542
+seal 483445722 916581825 3880944572 1585683072 3011651711 759239728 1387696807 3209849548 2415773932 879656673 1271163634 255918963 1918028585 4192598957 588569058 3658165748
+reveal 105 0 0 0 0 0 0 0 0 2147483542 0 0 0 0 0 0 0 0
 out 25
 ";
 
@@ -28,6 +28,7 @@ fn worked() -> Case {
         preps: square::PREPS.to_vec(),
         inputs: square::INPUTS.to_vec(),
         coefficients: square::COEFFICIENTS.to_vec(),
+        nonces: square::NONCES.to_vec(),
     }
 }
 
@@ -57,11 +58,11 @@ fn shares_and_mac_shares_of_the_worked_run() {
         [1, 13, 9, 16, 79, 9, 2, 9, 6, 9],
     ];
     for (view, expected) in case.views().iter().zip(expected) {
-        let mut scratch = [9; 10];
+        let mut scratch = [9; 34];
         let mut position = open(view, &scratch).unwrap();
         for heard in [[3, 0], [3, P - 1]] {
             let mut out = [0; 1];
-            position = send(view, &scratch, position, &[], &mut out).unwrap();
+            position = send(view, &mut scratch, position, &[], &[], &mut out).unwrap();
             assert_eq!(out, [heard[view.party as usize]]);
             let Received::Moved(next) = receive(view, &mut scratch, position, &heard).unwrap()
             else {
@@ -69,7 +70,8 @@ fn shares_and_mac_shares_of_the_worked_run() {
             };
             position = next;
         }
-        assert_eq!(scratch, expected);
+        assert_eq!(scratch[..10], expected);
+        assert_eq!(scratch[10..], [9; 24]);
         assert_eq!(
             position,
             Position {
@@ -78,17 +80,18 @@ fn shares_and_mac_shares_of_the_worked_run() {
                 held: 0
             }
         );
-        let mut out = [0; 1];
+        let mut out = [0; 8];
+        let nonce = [0; 32];
         for coefficients in [&[][..], &[2, 5]] {
             assert_eq!(
-                send(view, &scratch, position, coefficients, &mut out),
+                send(view, &mut scratch, position, coefficients, &nonce, &mut out),
                 Err(Refusal {
                     number: 16,
                     index: 0
                 })
             );
         }
-        let committed = send(view, &scratch, position, &[2], &mut out).unwrap();
+        let committed = send(view, &mut scratch, position, &[2], &nonce, &mut out).unwrap();
         assert_eq!(committed.held, [4, P - 4][view.party as usize]);
     }
 }
@@ -105,7 +108,14 @@ fn an_altered_word_of_a_square_aborts() {
         let result = left.result.unwrap();
         assert_eq!(
             (result.ending, result.rounds, result.outputs),
-            (Ending::Aborted { gate: 2 }, 4, 0)
+            (
+                Ending::Aborted {
+                    gate: 2,
+                    party: None
+                },
+                4,
+                0
+            )
         );
     }
 }
@@ -150,9 +160,13 @@ fn lengths_and_counts() {
             .count();
         assert_eq!(shape.prep_len(), 1 + 3 * i + 6 * m + 4 * s);
         assert_eq!(shape.layout().entries(), 2 * m + s + 1);
-        assert_eq!(shape.scratch_len(), 2 * lines + 2 * (2 * m + s + 1));
+        assert_eq!(
+            shape.scratch_len(),
+            2 * lines + 2 * (2 * m + s + 1) + 8 + 8 * 3
+        );
         assert_eq!(shape.coefficients(), 2 * m + s + o);
-        assert_eq!(shape.words(), i + 2 * m + s + o + 2 * (o + f));
+        assert_eq!(shape.nonces(), 32 * 3 * (o + f));
+        assert_eq!(shape.words(), i + 2 * m + s + o + 17 * (o + f));
         assert_eq!(plain::rounds(&circuit), i + m + s + 5 * o - 2 * (o - f));
         assert_eq!(circuit::rounds(&circuit).len(), plain::rounds(&circuit));
     }

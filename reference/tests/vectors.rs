@@ -29,6 +29,11 @@ fn square() -> &'static [Answered] {
     SQUARE.get_or_init(|| Set::Square.make(SEED))
 }
 
+fn mark() -> &'static [Answered] {
+    static MARK: OnceLock<Vec<Answered>> = OnceLock::new();
+    MARK.get_or_init(|| Set::Mark.make(SEED))
+}
+
 fn large() -> &'static [Answered] {
     static LARGE: OnceLock<Vec<Answered>> = OnceLock::new();
     LARGE.get_or_init(|| Set::Large.make(SEED))
@@ -36,13 +41,18 @@ fn large() -> &'static [Answered] {
 
 const SINGLE: [Entry; 3] = [Open, Send, Receive];
 
+/// The numbers of the questions.
+fn questions() -> impl Iterator<Item = u32> {
+    (1..=20).chain([25])
+}
+
 /// The entries that ask each question.
 fn asking(number: u32) -> Vec<Entry> {
     match number {
         2 => SINGLE.to_vec(),
         13..=15 => vec![Send, Receive],
-        16..=18 => vec![Send, Joint],
-        19..=21 => vec![Receive],
+        16..=18 | 25 => vec![Send, Joint],
+        19 | 20 => vec![Receive],
         _ => Entry::ALL.to_vec(),
     }
 }
@@ -100,20 +110,20 @@ fn wanted() -> BTreeSet<(Entry, String)> {
         want(&Entry::ALL, format!("accepted, {gates} gates"));
     }
 
-    for number in 1..=21 {
+    for number in questions() {
         let entries = asking(number);
         want(&entries, format!("refused {number:02}"));
         want(
             &entries,
             format!("refused {number:02}, beside a neighbour that is not"),
         );
-        if [9, 11, 15, 17, 20, 21].contains(&number) {
+        if [9, 11, 15, 17, 20].contains(&number) {
             want(
                 &entries,
                 format!("refused {number:02}, several numbers offend"),
             );
         }
-        if [4, 5, 6, 9, 11, 15, 17, 20, 21].contains(&number) {
+        if [4, 5, 6, 9, 11, 15, 17, 20].contains(&number) {
             want(&entries, format!("refused {number:02}, index not 0"));
         }
     }
@@ -153,9 +163,11 @@ fn wanted() -> BTreeSet<(Entry, String)> {
         want(entries, format!("accepted, p-1 in `{list}`"));
         want(entries, format!("refused, `{list}` empty"));
     }
-    let unasked: [(&[Entry], &str); 5] = [
+    let unasked: [(&[Entry], &str); 7] = [
         (&Entry::ALL, "in its excess"),
         (&Entry::ALL, "among the opened entries"),
+        (&Entry::ALL, "in the nonce"),
+        (&Entry::ALL, "among the marks"),
         (&Entry::ALL, "in the slots of the gate itself"),
         (&Entry::ALL, "in the slots of a later gate"),
         (&[Send, Receive], "in the slots of an out gate"),
@@ -168,7 +180,11 @@ fn wanted() -> BTreeSet<(Entry, String)> {
     }
     want(&Entry::ALL, String::from("refused, `circuit` empty"));
     want(&SINGLE, String::from("accepted, `inputs` empty"));
-    want(&[Send], String::from("accepted, `coefficients` empty"));
+    for list in ["coefficients", "nonce"] {
+        want(&[Send], format!("accepted, `{list}` empty"));
+    }
+    want(&[Send], String::from("refused, `nonce` empty"));
+    want(&[Joint], String::from("refused, `nonces` empty"));
 
     for entry in [Send, Receive] {
         let mut stages: Vec<Stage> = Sort::ALL.map(|sort| half(entry, sort)).to_vec();
@@ -179,8 +195,8 @@ fn wanted() -> BTreeSet<(Entry, String)> {
                 ""
             };
             let answers: &[&str] = match stage {
-                Stage::Receive(Sort::RevealOutput) => &["output", "abort"],
-                Stage::Receive(Sort::RevealOpened) => &["next", "abort"],
+                Stage::Receive(Sort::RevealOutput) => &["output", "abort", "abort, a party named"],
+                Stage::Receive(Sort::RevealOpened) => &["next", "abort", "abort, a party named"],
                 _ => &["next"],
             };
             for name in names(stage) {
@@ -410,11 +426,11 @@ fn wanted_neighbours() -> BTreeSet<(&'static str, u32, String)> {
     for change in around_p("heard") {
         want(&[Receive], 20, &[&change]);
     }
-    want(
-        &[Receive],
-        21,
-        &["heard 1->0", "heard 1->2", "heard 1->p-1"],
-    );
+    for (entry, list) in [(Send, "nonce"), (Joint, "nonces")] {
+        for change in exact(list) {
+            want(&[entry], 25, &[&change]);
+        }
+    }
     wanted
 }
 
@@ -443,13 +459,43 @@ fn small_covers_what_is_wanted() {
 /// No entry refuses with a number that it does not ask.
 #[test]
 fn refusals_are_those_that_the_entry_asks() {
-    for one in small().iter().chain(large()).chain(square()) {
+    let made = Set::MarksLarge.make(SEED);
+    let kept = small().iter().chain(large()).chain(square()).chain(mark());
+    for one in kept.chain(&made) {
         if let Some(refusal) = one.answer.refusal() {
             assert!(asking(refusal.number).contains(&one.request.entry()));
             assert_refusal_is_right(one, refusal);
         }
         assert_written_as_due(one);
     }
+}
+
+fn run(
+    all_parties: bool,
+    aborted: Option<Round>,
+    named: bool,
+    tampered: Option<Round>,
+) -> SingleRun {
+    SingleRun {
+        all_parties,
+        aborted,
+        named,
+        tampered,
+    }
+}
+
+/// A run of all parties in which a word of a round is heard otherwise: what is opened aborts at the next check and
+/// names no party, a mark or what is revealed under it names the party.
+fn tampered(round: Round) -> SingleRun {
+    let aborted = match round {
+        Round::Input => None,
+        Round::Multiply | Round::Square | Round::CommitOpened | Round::RevealOpened => {
+            Some(Round::RevealOpened)
+        }
+        Round::OpenOutput | Round::CommitOutput | Round::RevealOutput => Some(Round::RevealOutput),
+    };
+    let named = round.is_commit() || round.is_reveal();
+    run(true, aborted, named, Some(round))
 }
 
 #[test]
@@ -459,28 +505,10 @@ fn small_has_whole_runs_of_every_kind() {
     let ends = [None, Some(Round::RevealOpened), Some(Round::RevealOutput)];
     let mut wanted: BTreeSet<SingleRun> = ends
         .into_iter()
-        .map(|aborted| SingleRun {
-            all_parties: false,
-            aborted,
-            tampered: None,
-        })
+        .map(|aborted| run(false, aborted, false, None))
         .collect();
-    let mut all = |aborted, tampered| {
-        wanted.insert(SingleRun {
-            all_parties: true,
-            aborted,
-            tampered,
-        });
-    };
-    all(None, None);
-    for round in Kinds::Base.rounds() {
-        let aborted = match round {
-            Round::Multiply | Round::Square | Round::RevealOpened => Some(Round::RevealOpened),
-            Round::OpenOutput | Round::RevealOutput => Some(Round::RevealOutput),
-            Round::Input | Round::CommitOpened | Round::CommitOutput => None,
-        };
-        all(aborted, Some(round));
-    }
+    wanted.insert(run(true, None, false, None));
+    wanted.extend(Kinds::Base.rounds().map(tampered));
     assert_eq!(missing(wanted, |run| found.contains_key(run)), []);
 
     let mut finished = BTreeSet::new();
@@ -501,10 +529,13 @@ fn longest_lists(answered: &[Answered]) -> BTreeMap<&str, usize> {
     let mut lengths = BTreeMap::new();
     let accepted = answered.iter().filter(|one| one.answer.refusal().is_none());
     for (name, field) in accepted.flat_map(|one| one.request.fields()) {
-        if let Field::Numbers(numbers) = field {
-            let longest = lengths.entry(name).or_insert(0);
-            *longest = numbers.len().max(*longest);
-        }
+        let len = match field {
+            Field::Numbers(numbers) => numbers.len(),
+            Field::Bytes(bytes) => bytes.len(),
+            Field::Position(_) => continue,
+        };
+        let longest = lengths.entry(name).or_insert(0);
+        *longest = len.max(*longest);
     }
     lengths
 }
@@ -533,14 +564,15 @@ fn large_has_the_longest_runs_and_lists_and_high_indices() {
         ("inputs", 255),
         ("coefficients", 2 * 254 + 1),
         ("outputs", 255),
-        ("out", 2),
-        ("heard", 16),
+        ("out", 9),
+        ("nonce", 32),
+        ("heard", 72),
     ] {
         assert_eq!(lengths[name], longest, "{name}");
     }
     // At least: these may have an excess.
-    assert!(lengths["scratch"] >= 8 * (2 * 256 + 2 * (2 * 254 + 1)));
-    assert!(lengths["transcript"] >= 8 * (1 + 2 * 127 + 3 * 128 + 2 * 127));
+    assert!(lengths["scratch"] >= 8 * (2 * 256 + 2 * (2 * 254 + 1) + 8 + 8 * 8));
+    assert!(lengths["transcript"] >= 2 * (1 + 2 * 127 + 128 + 17 * 255));
     for entry in Entry::ALL {
         for number in 4..=6 {
             assert_eq!(indices[&(entry.name(), number)], 255);
@@ -572,14 +604,7 @@ fn large_has_the_longest_runs_and_lists_and_high_indices() {
     }
     assert_eq!(
         single_runs(large).into_iter().collect::<Vec<_>>(),
-        [(
-            SingleRun {
-                all_parties: false,
-                aborted: None,
-                tampered: None
-            },
-            1
-        )]
+        [(run(false, None, false, None), 1)]
     );
     let released = large.iter().filter(|one| {
         matches!(
@@ -595,10 +620,12 @@ fn large_has_the_longest_runs_and_lists_and_high_indices() {
 
 #[test]
 fn the_text_keeps_within_the_limits_of_the_format() {
-    for one in small().iter().chain(large()).chain(square()) {
+    let made = Set::MarksLarge.make(SEED);
+    let kept = small().iter().chain(large()).chain(square()).chain(mark());
+    for one in kept.chain(&made) {
         for line in text::request(&one.request).lines() {
-            assert!(line.len() <= 262_144);
-            assert!(line.split(' ').count() <= 1 + 16_384);
+            assert!(line.len() <= 1_048_576);
+            assert!(line.split(' ').count() <= 1 + 65_536);
         }
     }
 }
@@ -606,7 +633,7 @@ fn the_text_keeps_within_the_limits_of_the_format() {
 #[test]
 fn the_table_is_the_printed_one() {
     let readme = include_str!("../../vectors/README.md");
-    assert!(readme.contains(&table([small(), large(), square()])));
+    assert!(readme.contains(&table([small(), large(), square(), mark()])));
 }
 
 #[test]
@@ -661,7 +688,7 @@ fn square_has_every_boundary_at_a_square() {
     let mut want = |entries: &[Entry], feature: String| {
         wanted.extend(entries.iter().map(|&entry| (entry, feature.clone())));
     };
-    for number in 1..=21 {
+    for number in questions() {
         want(
             &asking(number),
             format!("refused {number:02}, beside a neighbour that is not"),
@@ -772,19 +799,14 @@ fn square_has_refusals_in_every_place_of_a_square() {
 #[test]
 fn square_has_whole_runs_and_odd_checks() {
     let found = single_runs(square());
-    let run = |all_parties, aborted, tampered| SingleRun {
-        all_parties,
-        aborted,
-        tampered,
-    };
     for wanted in [
-        run(true, None, None),
-        run(false, None, None),
-        run(false, Some(Round::RevealOpened), None),
-        run(true, Some(Round::RevealOpened), Some(Round::Square)),
-        run(true, Some(Round::RevealOpened), Some(Round::RevealOpened)),
-        run(true, None, Some(Round::CommitOpened)),
-        run(true, Some(Round::RevealOutput), Some(Round::OpenOutput)),
+        run(true, None, false, None),
+        run(false, None, false, None),
+        run(false, Some(Round::RevealOpened), false, None),
+        tampered(Round::Square),
+        tampered(Round::RevealOpened),
+        tampered(Round::CommitOpened),
+        tampered(Round::OpenOutput),
     ] {
         assert!(found.contains_key(&wanted), "{wanted:?}");
     }
@@ -811,7 +833,7 @@ fn square_has_whole_runs_and_odd_checks() {
 fn the_large_set_of_squares_has_the_longest_run_and_every_refusal() {
     let large = Set::SquaresLarge.make(SEED);
     let counts = measured(&large);
-    for number in 1..=21 {
+    for number in questions() {
         let refused = &counts[&format!("refused {number:02}")];
         for entry in asking(number) {
             assert!(refused[entry as usize] > 1, "{number} {entry:?}");

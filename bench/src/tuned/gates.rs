@@ -257,12 +257,21 @@ impl Gates {
     /// How many out gates have something opened and unchecked before them.
     pub fn checked_outputs(&self) -> usize {
         let (mut checked, mut unchecked) = (0, 0);
-        for &kind in &self.kinds[..self.len] {
-            if kind == OUT8 {
-                checked += unchecked;
-                unchecked = 0;
-            } else if kind == MUL8 || kind == SQ8 {
-                unchecked = 1;
+        let opens = |kind: u8| mask(kind == MUL8) | mask(kind == SQ8);
+        for kinds in &self.kinds.as_chunks::<BLOCK>().0[..self.padded() / BLOCK] {
+            // Most blocks have no out gate.
+            let outputs = kinds.iter().fold(0, |any, &kind| any | mask(kind == OUT8));
+            if outputs == 0 {
+                unchecked |= kinds.iter().fold(0, |any, &kind| any | opens(kind)) & 1;
+                continue;
+            }
+            for &kind in kinds {
+                if kind == OUT8 {
+                    checked += usize::from(unchecked);
+                    unchecked = 0;
+                } else {
+                    unchecked |= opens(kind) & 1;
+                }
             }
         }
         checked

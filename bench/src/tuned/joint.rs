@@ -9,11 +9,16 @@ use super::field::{
     add, ask, ask_elements, fold, inner_product, product, quad, reduce, remainder, sub, times, Quad,
 };
 use super::gates::{Gates, ADD8, IN8, MUL8, PLUS8, SQ8, SUB8, TIMES8};
+use super::sha256::{self, Schedule, MARK, NONCE, REVEALED};
 
 /// Opened entries that are held on the stack, as a power of 2.
 const ENTRIES: usize = 64;
 
-/// Runs all parties. The lists are joined in party order; the coefficients are in order of use.
+/// Words that a party sends in a check: a mark, and what it reveals.
+const CHECK: usize = MARK + REVEALED;
+
+/// Runs all parties. The lists are joined in party order; the coefficients are in order of use, the nonces in order of
+/// checks, parties in order within.
 #[allow(clippy::too_many_arguments)]
 pub fn joint_run(
     parties: u32,
@@ -22,6 +27,7 @@ pub fn joint_run(
     inputs: &[u32],
     scratch: &mut [u32],
     coefficients: &[u32],
+    nonces: &[u8],
     transcript: &mut [u32],
     outputs: &mut [u32],
 ) -> Result<JointResult, Refusal> {
@@ -32,7 +38,7 @@ pub fn joint_run(
     let count = parties as usize;
     let prep_len = counts.prep_len();
     let opened = counts.entries() + 1;
-    let band = 2 * gates.len + 2 * opened;
+    let band = 2 * gates.len + 2 * opened + MARK + MARK * count;
     ask(8, preps.len() == count * prep_len)?;
     ask_elements(9, preps)?;
     ask(10, inputs.len() == counts.inputs)?;
@@ -40,12 +46,12 @@ pub fn joint_run(
     ask(12, scratch.len() >= count * band)?;
     ask(16, coefficients.len() == counts.entries() + counts.outputs)?;
     ask_elements(17, coefficients)?;
-    // At most every output has a first check.
-    let words = counts.inputs + counts.entries() + 3 * counts.outputs;
-    let fits = |checked: usize| transcript.len() >= count * (words + 2 * checked);
+    let checks = counts.outputs + gates.checked_outputs();
+    ask(25, nonces.len() == NONCE * count * checks)?;
+    let words = counts.inputs + counts.entries() + counts.outputs + CHECK * checks;
     ask(
         18,
-        (fits(counts.outputs) || fits(gates.checked_outputs())) && outputs.len() >= counts.outputs,
+        transcript.len() >= count * words && outputs.len() >= counts.outputs,
     )?;
     let run = Run {
         gates: &gates,
@@ -54,6 +60,7 @@ pub fn joint_run(
         prep_len,
         inputs,
         coefficients,
+        nonces: nonces.as_chunks().0,
         transcript,
         outputs,
         width: Width(count),
@@ -75,6 +82,7 @@ struct Run<'a> {
     prep_len: usize,
     inputs: &'a [u32],
     coefficients: &'a [u32],
+    nonces: &'a [[u8; NONCE]],
     transcript: &'a mut [u32],
     outputs: &'a mut [u32],
     width: Width,
@@ -195,6 +203,7 @@ impl Run<'_> {
             prep_len,
             inputs,
             mut coefficients,
+            nonces,
             transcript,
             outputs,
             width,
@@ -236,6 +245,9 @@ impl Run<'_> {
         // first one on, are still to be written.
         let (mut pending, mut start, mut held) = (0, 0, 0);
         let (mut rounds, mut at, mut released) = (0, 0, 0);
+        // Nonces used, and where the last check's words start.
+        let (mut used, mut last_check) = (0, 0);
+        let mut schedule = Schedule::of(N);
         let mut ending = Ending::Finished;
         let mut done = gates.len;
         for (index, (kind, first, second)) in gates.iter().enumerate() {
@@ -357,20 +369,26 @@ impl Run<'_> {
                             held = held.max(pending);
                         }
                         (pending, start) = (0, 0);
-                        let words = &mut transcript[at..at + 2 * N];
+                        let words = &mut transcript[at..at + CHECK * N];
+                        let now = &nonces[used..used + N];
+                        last_check = at;
                         rounds += 2;
-                        at += 2 * N;
+                        at += CHECK * N;
+                        used += N;
                         let Sums { values, macs } = std::mem::replace(&mut sums, Sums::ZERO);
-                        if !reveal(words, macs, remainder(values), &keys) {
-                            ending = Ending::Aborted { gate: index as u32 };
+                        if !reveal(words, macs, remainder(values), &keys, now, &mut schedule) {
+                            ending = aborted(index);
                             done = index;
                             break;
                         }
                     }
-                    let words = &mut transcript[at..at + 3 * N];
+                    let words = &mut transcript[at..at + (1 + CHECK) * N];
                     let (shown, words) = words.split_at_mut(N);
+                    let nonces = &nonces[used..used + N];
+                    last_check = at + N;
                     rounds += 3;
-                    at += 3 * N;
+                    at += (1 + CHECK) * N;
+                    used += N;
                     held = held.max(1);
                     let shown_row: [[u32; 2]; N] = from_fn(|i| pair(&wires[left], i));
                     let mut sum = 0;
@@ -385,8 +403,8 @@ impl Run<'_> {
                     coefficients = &coefficients[1..];
                     let v = reduce(product(now, sum));
                     let sums = shown_row.map(|pair| product(now, pair[1]));
-                    if !reveal(words, sums, v, &keys) {
-                        ending = Ending::Aborted { gate: index as u32 };
+                    if !reveal(words, sums, v, &keys, nonces, &mut schedule) {
+                        ending = aborted(index);
                         done = index;
                         break;
                     }
@@ -403,9 +421,15 @@ impl Run<'_> {
             wires[index % G].copy_from_slice(&quads(&mut row)[..Q]);
         }
         window.write(scratch, &places, 0, held);
+        // The nonces and marks that stay are those of the last check.
+        let marks = &transcript[last_check..][..MARK * N];
         for (i, band) in scratch.chunks_exact_mut(band).enumerate().take(N) {
+            let (band, checked) = band.split_at_mut(2 * gates.len + 2 * room);
             let (shares, macs) = band[..2 * gates.len].split_at_mut(gates.len);
             write_shares(shares, macs, &wires[..done], i);
+            let (nonce, written) = checked.split_at_mut(MARK);
+            nonce.copy_from_slice(&sha256::nonce_words(&nonces[used - N + i]));
+            written.copy_from_slice(marks);
         }
         JointResult {
             ending,
@@ -519,14 +543,33 @@ fn inner_products<const N: usize>(coefficients: &[u32], rows: &[[u32; N]]) -> [u
     sums
 }
 
-/// Writes the words of a commit and its reveal: whether the check passes.
-fn reveal<const N: usize>(words: &mut [u32], sums: [u64; N], v: u32, keys: &[u32; N]) -> bool {
-    let (marks, revealed) = words.split_at_mut(N);
-    marks.fill(1);
-    let mut sum = 0;
-    for ((word, total), &key) in revealed.iter_mut().zip(sums).zip(keys) {
-        *word = reduce(total + product(key, P - v));
-        sum += u64::from(*word);
+/// Every mark is made of what is revealed, so that no party is named.
+fn aborted(gate: usize) -> Ending {
+    Ending::Aborted {
+        gate: gate as u32,
+        party: None,
     }
+}
+
+/// Writes the words of a commit and its reveal: whether the check passes.
+fn reveal<const N: usize>(
+    words: &mut [u32],
+    sums: [u64; N],
+    v: u32,
+    keys: &[u32; N],
+    nonces: &[[u8; NONCE]],
+    schedule: &mut Option<Schedule>,
+) -> bool {
+    let (marks, revealed) = words.split_at_mut(MARK * N);
+    let revealed = revealed.as_chunks_mut().0;
+    let mut sum = 0;
+    for ((revealed, nonce), (total, &key)) in
+        revealed.iter_mut().zip(nonces).zip(sums.iter().zip(keys))
+    {
+        let share = reduce(total + product(key, P - v));
+        sum += u64::from(share);
+        *revealed = sha256::revealed(share, &sha256::nonce_words(nonce));
+    }
+    sha256::marks(schedule, &revealed[..N], &mut marks.as_chunks_mut().0[..N]);
     remainder(sum) == 0
 }

@@ -8,6 +8,7 @@
 mod field;
 mod gates;
 mod joint;
+mod sha256;
 mod single;
 
 pub use field::scale;

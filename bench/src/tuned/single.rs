@@ -1,11 +1,13 @@
 //! One party: sending and receiving.
 
+use reference::circuit::MAX_PARTIES;
 use reference::{Party, Position, Received, Refusal, Sort, Stage, P};
 
 use super::field::{
     add, all_elements, ask, ask_elements, inner_product, product, reduce, remainder, sub, times,
 };
 use super::gates::{Gates, ADD8, IN8, MUL8, OUT8, PLUS8, SQ8, SUB8, TIMES8};
+use super::sha256::{self, Schedule, MARK, NONCE, REVEALED};
 
 /// An accepted step.
 struct Step<'a> {
@@ -24,16 +26,28 @@ struct Step<'a> {
     macs: usize,
     opened: usize,
     opened_macs: usize,
+    /// Where the nonce and the marks start in the scratch.
+    nonce: usize,
+    marks: usize,
 }
 
 impl Step<'_> {
     /// Words that each party sends.
     fn words(&self) -> usize {
-        1 + usize::from(self.kind == MUL8)
+        match self.sort {
+            Sort::Own => 1 + usize::from(self.kind == MUL8),
+            Sort::OpenOutput => 1,
+            Sort::CommitOpened | Sort::CommitOutput => MARK,
+            Sort::RevealOpened | Sort::RevealOutput => REVEALED,
+        }
     }
 
     fn is_commit(&self) -> bool {
         matches!(self.sort, Sort::CommitOpened | Sort::CommitOutput)
+    }
+
+    fn is_reveal(&self) -> bool {
+        matches!(self.sort, Sort::RevealOpened | Sort::RevealOutput)
     }
 
     /// Opened and unchecked entries during the round.
@@ -84,7 +98,9 @@ fn ask_step<'a>(
     ask(10, lent.inputs.len() == gates.owned(lent.party as u8))?;
     ask_elements(11, lent.inputs)?;
     let entries = counts.entries() + 1;
-    ask(12, scratch.len() >= 2 * gates.len + 2 * entries)?;
+    let nonce = 2 * gates.len + 2 * entries;
+    let marks = nonce + MARK;
+    ask(12, scratch.len() >= marks + MARK * lent.parties as usize)?;
 
     let index = position.gate as usize;
     ask(13, index < gates.len)?;
@@ -109,6 +125,8 @@ fn ask_step<'a>(
         macs: gates.len,
         opened: 2 * gates.len,
         opened_macs: 2 * gates.len + entries,
+        nonce,
+        marks,
         gates,
     };
     ask_scratch(&step, scratch)?;
@@ -149,12 +167,13 @@ fn first_no(step: &Step<'_>, scratch: &[u32], lists: [(usize, usize); 4]) -> Res
     Ok(())
 }
 
-/// The sending half of a round: writes the party's words at the start of `out`.
+/// The sending half of a round: writes the party's words at the start of `out`, and at a commitment the nonce into the scratch.
 pub fn send(
     lent: &Party<'_>,
-    scratch: &[u32],
+    scratch: &mut [u32],
     position: Position,
     coefficients: &[u32],
+    nonce: &[u8],
     out: &mut [u32],
 ) -> Result<Position, Refusal> {
     let called = match position.stage {
@@ -163,13 +182,14 @@ pub fn send(
     };
     let mut gates = Gates::new();
     let step = ask_step(&mut gates, lent, scratch, position, called)?;
-    let wanted = if step.is_commit() {
-        step.unchecked()
+    let (wanted, bytes) = if step.is_commit() {
+        (step.unchecked(), NONCE)
     } else {
-        0
+        (0, 0)
     };
     ask(16, coefficients.len() == wanted)?;
     ask_elements(17, coefficients)?;
+    ask(25, nonce.len() == bytes)?;
     ask(18, out.len() >= step.words())?;
 
     let prep = lent.prep;
@@ -195,9 +215,16 @@ pub fn send(
             let opened_macs = &scratch[step.opened_macs..][..wanted];
             let v = remainder(inner_product(coefficients, opened));
             held = reduce(inner_product(coefficients, opened_macs) + product(prep[0], P - v));
-            out[0] = 1;
+            if let Some(nonce) = nonce.first_chunk() {
+                let words = sha256::nonce_words(nonce);
+                scratch[step.nonce..][..MARK].copy_from_slice(&words);
+                out[..MARK].copy_from_slice(&sha256::mark(&sha256::revealed(held, &words)));
+            }
         }
-        (Sort::RevealOpened | Sort::RevealOutput, _) => out[0] = position.held,
+        (Sort::RevealOpened | Sort::RevealOutput, _) => {
+            out[0] = position.held;
+            out[1..REVEALED].copy_from_slice(&scratch[step.nonce..][..MARK]);
+        }
     }
     Ok(Position {
         stage: Stage::Receive(step.sort),
@@ -225,11 +252,16 @@ pub fn receive(
     let mut gates = Gates::new();
     let step = ask_step(&mut gates, lent, scratch, position, called)?;
     ask(19, heard.len() == lent.parties as usize * step.words())?;
-    ask_elements(20, heard)?;
-    if step.is_commit() {
-        if let Some(index) = heard.iter().position(|&mark| mark != 1) {
-            return Err(Refusal { number: 21, index });
+    if step.is_reveal() {
+        let mut shares = heard.iter().step_by(REVEALED);
+        if let Some(party) = shares.position(|&share| share >= P) {
+            return Err(Refusal {
+                number: 20,
+                index: REVEALED * party,
+            });
         }
+    } else if !step.is_commit() {
+        ask_elements(20, heard)?;
     }
 
     let same_gate = |sort, held| {
@@ -244,6 +276,10 @@ pub fn receive(
     let record = &lent.prep[step.record..];
     // A public number counts at party 0 alone, its MAC share at each.
     let public = [u32::from(lent.party == 0), lent.prep[0]];
+    let failing = match step.is_reveal() {
+        true => failing(&scratch[step.marks..], heard),
+        false => None,
+    };
     Ok(match (step.sort, step.kind) {
         (Sort::Own, IN8) => {
             let e = heard[lent.circuit[4 * index + 1] as usize];
@@ -288,13 +324,22 @@ pub fn receive(
             scratch[opened_macs] = scratch[macs + left];
             same_gate(Sort::CommitOutput, 0)
         }
-        (Sort::CommitOpened, _) => same_gate(Sort::RevealOpened, position.held),
-        (Sort::CommitOutput, _) => same_gate(Sort::RevealOutput, position.held),
-        _ if sum(heard.iter()) != 0 => Received::Aborted(Position {
-            gate: position.gate,
-            stage: Stage::Aborted,
-            held: 0,
-        }),
+        (Sort::CommitOpened, _) => {
+            scratch[step.marks..][..heard.len()].copy_from_slice(heard);
+            same_gate(Sort::RevealOpened, position.held)
+        }
+        (Sort::CommitOutput, _) => {
+            scratch[step.marks..][..heard.len()].copy_from_slice(heard);
+            same_gate(Sort::RevealOutput, position.held)
+        }
+        _ if failing.is_some() => Received::Aborted {
+            position: Position {
+                gate: position.gate,
+                stage: Stage::Aborted,
+                held: 0,
+            },
+            party: failing.flatten(),
+        },
         (Sort::RevealOpened, _) => same_gate(Sort::OpenOutput, 0),
         (Sort::RevealOutput, _) => {
             let output = scratch[opened];
@@ -302,6 +347,19 @@ pub fn receive(
             Received::Released { output, position }
         }
     })
+}
+
+/// Whether what is revealed fails, and the lowest party whose mark it does not fit.
+fn failing(marks: &[u32], heard: &[u32]) -> Option<Option<u32>> {
+    let revealed = heard.as_chunks::<REVEALED>().0;
+    let parties = revealed.len();
+    let mut made = [[0; MARK]; MAX_PARTIES];
+    sha256::marks(&mut Schedule::of(parties), revealed, &mut made[..parties]);
+    let mut pairs = made[..parties].iter().zip(marks.as_chunks().0);
+    match pairs.position(|(made, mark)| made != mark) {
+        Some(party) => Some(Some(party as u32)),
+        None => (sum(heard.iter().step_by(REVEALED)) != 0).then_some(None),
+    }
 }
 
 /// Works out the linear gates after the step's gate: where the next round is, or the finished position.

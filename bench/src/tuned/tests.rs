@@ -1,12 +1,14 @@
 //! The parts against the remainder operator and the readable implementation, and all entries on the largest set of requests.
 
 use reference::circuit::{self, MAX_GATES};
+use reference::commitment;
 use reference::random::{self, Kinds, Random};
 use reference::requests::Set;
 use reference::P;
 
 use super::field::{self, all_elements, fold, inner_product, reduce, remainder};
 use super::gates::Gates;
+use super::sha256::{self, Schedule};
 use crate::agreement;
 
 const EDGES: [u32; 11] = [
@@ -86,6 +88,25 @@ fn one_number_that_is_no_element_is_seen_in_every_place() {
                 assert!(!all_elements(&list));
             }
             list[place] = P - 1;
+        }
+    }
+}
+
+/// Marks one after the other and side by side, of every number of parties.
+#[test]
+fn marks_are_those_of_the_readable_implementation() {
+    let random = &mut Random::new(5);
+    for parties in 2..=8 {
+        for _ in 0..20 {
+            let revealed: Vec<[u32; 9]> = (0..parties)
+                .map(|_| std::array::from_fn(|_| random.number()))
+                .collect();
+            let mut marks = vec![[0; 8]; parties];
+            sha256::marks(&mut Schedule::of(parties), &revealed, &mut marks);
+            for (mark, revealed) in marks.iter().zip(&revealed) {
+                assert_eq!(*mark, commitment::mark(revealed));
+                assert_eq!(*mark, sha256::mark(revealed));
+            }
         }
     }
 }

@@ -1,9 +1,11 @@
 //! Accepted requests: whole runs, the edges of what is accepted, altered words, and aborts.
 
+use super::marks::Reveal;
 use super::rotation::Expected;
-use super::scene::Scene;
+use super::scene::{alter, Scene};
 use super::{Entry, Request, Size};
 use crate::circuit::{self, IN, MUL, OUT, PLUS, SQ, TIMES};
+use crate::commitment::WORDS;
 use crate::field::{self, P};
 use crate::party::{Round, Stage};
 use crate::random::{self, Kinds, Random};
@@ -35,6 +37,10 @@ pub(super) enum Subject {
     OutputWord,
     FirstReveal,
     SecondReveal,
+    /// A mark in the scratch that is not the one heard.
+    WrittenMark,
+    /// Check shares that do not sum to zero, under marks that fit.
+    NonzeroSum,
     /// Preprocessing that is not good.
     JointFirstCheck,
     JointSecondCheck,
@@ -45,7 +51,7 @@ pub(super) enum Subject {
 
 use Subject::*;
 
-const SUBJECTS: [Subject; 24] = [
+const SUBJECTS: [Subject; 26] = [
     HighestOpen,
     HighestCommitSent,
     HighestRevealSent,
@@ -66,6 +72,8 @@ const SUBJECTS: [Subject; 24] = [
     OutputWord,
     FirstReveal,
     SecondReveal,
+    WrittenMark,
+    NonzeroSum,
     JointFirstCheck,
     JointSecondCheck,
     JointLateAbort,
@@ -137,6 +145,7 @@ pub(super) fn accepted(
             one(altered_word(random, size, subject))
         }
         FirstReveal | SecondReveal => vec![(altered_word(random, size, subject), Aborted)],
+        WrittenMark | NonzeroSum => vec![(failing_reveal(random, size, subject), Aborted)],
         JointFirstCheck | JointSecondCheck | JointLateAbort => {
             vec![(bad_prep(random, size, subject), Aborted)]
         }
@@ -206,11 +215,13 @@ fn highest(random: &mut Random, size: Size, subject: Subject) -> (Request, Expec
             inputs,
             scratch,
             coefficients,
+            nonces,
             ..
         } => {
             for list in [inputs, scratch, coefficients] {
                 list.fill(P - 1);
             }
+            nonces.fill(255);
         }
     }
     match (subject, &mut request) {
@@ -219,15 +230,25 @@ fn highest(random: &mut Random, size: Size, subject: Subject) -> (Request, Expec
             Request::Send {
                 position,
                 coefficients,
+                nonce,
                 ..
             },
         ) => {
             coefficients.fill(P - 1);
+            nonce.fill(255);
             if matches!(subject, HighestRevealSent) {
                 position.held = P - 1;
             }
         }
-        (HighestCommitReceived, Request::Receive { position, .. }) => position.held = P - 1,
+        (
+            HighestCommitReceived,
+            Request::Receive {
+                position, heard, ..
+            },
+        ) => {
+            position.held = P - 1;
+            heard.fill(u32::MAX);
+        }
         (_, Request::Receive { heard, .. }) => heard.fill(P - 1),
         (_, Request::Joint { preps, .. }) => {
             // The whole mask of gate 0 where it is not read: the preprocessing stays good.
@@ -307,9 +328,27 @@ fn altered_word(random: &mut Random, size: Size, subject: Subject) -> Request {
             IgnoredWord => (owner + 1) % len,
             _ => random.below(len),
         };
-        heard[index] = field::add(heard[index], random.nonzero());
+        alter(wanted, heard, index, random.nonzero());
     }
     request
+}
+
+/// A reveal that fails although its words are heard as they were sent, or although the marks fit them.
+fn failing_reveal(random: &mut Random, size: Size, subject: Subject) -> Request {
+    let scene = Scene::rich(random, size);
+    let chosen = scene.find(random, |_, round| round.is_reveal());
+    let party = scene.any_party(random);
+    let mut reveal = Reveal::new(random, &scene, party, chosen);
+    let altered = random.below(scene.parties as usize);
+    let by = random.nonzero();
+    match subject {
+        WrittenMark => reveal.alter_mark(altered, random.below(WORDS), by),
+        _ => {
+            reveal.alter_word(altered, 0, by);
+            reveal.fit();
+        }
+    }
+    reveal.request
 }
 
 /// A joint run with one MAC share altered, so that a check fails unless its coefficient is 0.

@@ -168,7 +168,10 @@ impl<'a> Boundaries<'a> {
 
     pub fn scene(&mut self) -> Scene {
         // More often few parties: the requests are as telling and shorter.
-        let most = self.random.between(2, 8);
+        let most = match self.entry {
+            Entry::Joint => 3,
+            _ => self.random.between(2, 5),
+        };
         let parties = self.random.between(2, most) as u32;
         (self.scene_of)(self.random, parties)
     }
@@ -398,7 +401,8 @@ impl<'a> Boundaries<'a> {
         let last = len_of(&base, inputs) - 1;
         self.elements(11, &base, &[0, last], inputs);
         if self.entry != Entry::Joint {
-            let scene = self.scene_where(|scene| scene.shape.owned[0] == 0);
+            let mut scene = self.scene();
+            scene.disown();
             let base = self.base(&scene, 0);
             self.exact_length(10, &base, inputs);
         }

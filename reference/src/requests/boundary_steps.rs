@@ -1,4 +1,4 @@
-//! Both sides of the boundaries of questions 13 to 21.
+//! Both sides of the boundaries of questions 13 to 20 and 25.
 
 use super::boundary::{len_of, Boundaries, NO_ELEMENTS};
 use super::refuse::set_position;
@@ -74,6 +74,14 @@ pub(super) fn heard(request: &mut Request) -> &mut Vec<u32> {
     }
 }
 
+/// The nonce of a round, or the nonces of a run.
+pub(super) fn nonces(request: &mut Request) -> &mut Vec<u8> {
+    match request {
+        Request::Send { nonce: nonces, .. } | Request::Joint { nonces, .. } => nonces,
+        _ => unreachable!("the entry takes no nonce"),
+    }
+}
+
 /// The list for the words of a round or of a run.
 pub(super) fn words(request: &mut Request) -> &mut Vec<u32> {
     match request {
@@ -91,7 +99,7 @@ fn outputs(request: &mut Request) -> &mut Vec<u32> {
 }
 
 impl Boundaries<'_> {
-    /// Questions 13 to 21, as far as the entry asks them.
+    /// Questions 13 to 20 and 25, as far as the entry asks them.
     pub fn steps(&mut self) {
         match self.entry {
             Entry::Open => {}
@@ -99,6 +107,7 @@ impl Boundaries<'_> {
                 let scene = self.scene();
                 let base = scene.joint(self.random);
                 self.coefficients_of(&base);
+                self.nonces_of(&base);
                 let len = scene.parties as usize * scene.shape.words();
                 self.least_length(18, &base, len, words);
                 self.least_length(18, &base, scene.shape.outputs, outputs);
@@ -251,9 +260,10 @@ impl Boundaries<'_> {
         self.elements(15, &base, &indices, |request| request.lists().scratch);
     }
 
-    /// Questions 16 to 18 of a round.
+    /// Questions 16 to 18 and 25 of a round.
     fn sending(&mut self, at: &At) {
         self.coefficients_of(&at.base);
+        self.nonces_of(&at.base);
         self.least_length(18, &at.base, at.round.words(), words);
     }
 
@@ -266,21 +276,26 @@ impl Boundaries<'_> {
         }
     }
 
-    /// Questions 19 to 21 of a round.
+    /// Question 25: one more, one less, none.
+    fn nonces_of(&mut self, base: &Request) {
+        let len = nonces(&mut base.clone()).len();
+        let mut outside = vec![len + 1];
+        outside.extend(len.checked_sub(1));
+        if len > 1 {
+            outside.push(0);
+        }
+        self.add(25, base, len, &outside, |request, len| {
+            nonces(request).resize(len, 1);
+        });
+    }
+
+    /// Questions 19 and 20 of a round: of a commitment no word must be an element, of a reveal the check shares.
     fn receiving(&mut self, at: &At) {
         self.exact_length(19, &at.base, heard);
-        let last = len_of(&at.base, heard) - 1;
-        // At a commitment the inside, p - 1, is refused by 21, which is asked after 20.
-        self.elements(20, &at.base, &[0, last], heard);
-        if at.round.is_commit() {
-            for index in [0, last] {
-                self.add(21, &at.base, 1, &[0, 2, P - 1], |request, mark| {
-                    heard(request)[index] = mark;
-                });
-            }
-            self.add(21, &at.base, 1, &[2], |request, mark| {
-                heard(request).fill(mark)
-            });
+        let asked = (0..len_of(&at.base, heard)).filter(|&index| at.round.has_element(index));
+        let asked: Vec<usize> = asked.collect();
+        if let [first, .., last] = asked[..] {
+            self.elements(20, &at.base, &[first, last], heard);
         }
     }
 }

@@ -39,7 +39,7 @@ pub fn measured(answered: &[Answered]) -> BTreeMap<String, [usize; 4]> {
 }
 
 /// The table of the kept sets, in the order of `Set::KEPT`: each cell has the counts in all of them.
-pub fn table(sets: [&[Answered]; 3]) -> String {
+pub fn table(sets: [&[Answered]; 4]) -> String {
     let names = Set::KEPT.map(Set::name);
     let mut text = format!(
         "| requests ({}) | `open` | `send` | `receive` | `joint` |\n|---|---|---|---|---|\n",
@@ -55,14 +55,14 @@ pub fn table(sets: [&[Answered]; 3]) -> String {
                 counts.map_or(0, |counts| counts[column])
             });
             text.push_str(&match counts {
-                [0, 0, 0] => String::from(" |"),
+                [0, 0, 0, 0] => String::from(" |"),
                 _ => format!(" {} |", counts.map(|count| count.to_string()).join(" + ")),
             });
         }
         text.push('\n');
     }
     text.push_str(&format!(
-        "\n| whole runs by single entries | {} |\n|---|---|---|---|\n",
+        "\n| whole runs by single entries | {} |\n|---|---|---|---|---|\n",
         names.join(" | ")
     ));
     let found = sets.map(single_runs);
@@ -90,6 +90,7 @@ fn described(run: &SingleRun) -> String {
         None => String::new(),
     };
     let end = match run.aborted {
+        Some(round) if run.named => format!("aborted by `{}`, a party named", text::round(round)),
         Some(round) => format!("aborted by `{}`", text::round(round)),
         None => String::from("finished"),
     };
@@ -158,7 +159,7 @@ fn several_offend(request: &Request, refusal: Refusal) -> bool {
         11 => mended.lists().inputs,
         15 => mended.lists().scratch,
         17 => coefficients(&mut mended),
-        20 | 21 => heard(&mut mended),
+        20 => heard(&mut mended),
         _ => return false,
     };
     list[refusal.index] = 1;
@@ -245,6 +246,12 @@ fn unasked(one: &Answered, parties: u32, shape: &Shape) -> Vec<String> {
             return "in its excess";
         }
         let index = index % layout.len();
+        if index >= layout.mark(0) {
+            return "among the marks";
+        }
+        if index >= layout.nonce() {
+            return "in the nonce";
+        }
         if index >= layout.opened(0) {
             return "among the opened entries";
         }
@@ -284,8 +291,13 @@ fn empty_lists(one: &Answered) -> Vec<String> {
         Some(_) => "refused",
         None => "accepted",
     };
-    lists(&one.request)
-        .filter(|(_, numbers)| numbers.is_empty())
+    let fields = one.request.fields().into_iter();
+    fields
+        .filter(|(_, field)| match field {
+            Field::Numbers(numbers) => numbers.is_empty(),
+            Field::Bytes(bytes) => bytes.is_empty(),
+            Field::Position(_) => false,
+        })
         .map(|(list, _)| format!("{how}, `{list}` empty"))
         .collect()
 }
@@ -313,8 +325,12 @@ fn position(one: &Answered) -> Vec<String> {
         Some(number @ (13 | 14)) => vec![format!("at `{stage}`{gate}{held}: refused {number}")],
         Some(_) => Vec::new(),
         None => vec![format!(
-            "at `{stage}`{gate}{held}: {}",
-            text::answer(&one.answer).split(' ').next().unwrap_or("")
+            "at `{stage}`{gate}{held}: {}{}",
+            text::answer(&one.answer).split(' ').next().unwrap_or(""),
+            match one.answer.named() {
+                Some(_) => ", a party named",
+                None => "",
+            }
         )],
     }
 }

@@ -10,6 +10,7 @@ mod accept;
 mod boundary;
 mod boundary_steps;
 mod coverage;
+mod marks;
 mod neighbours;
 mod products;
 mod random_sheet;
@@ -100,6 +101,7 @@ pub enum Request {
         lent: Lent,
         position: Position,
         coefficients: Vec<u32>,
+        nonce: Vec<u8>,
         out: Vec<u32>,
     },
     Receive {
@@ -114,6 +116,7 @@ pub enum Request {
         inputs: Vec<u32>,
         scratch: Vec<u32>,
         coefficients: Vec<u32>,
+        nonces: Vec<u8>,
         transcript: Vec<u32>,
         outputs: Vec<u32>,
     },
@@ -127,6 +130,7 @@ pub enum Answer {
     },
     Send {
         result: Result<Position, Refusal>,
+        scratch: Vec<u32>,
         out: Vec<u32>,
     },
     Receive {
@@ -172,6 +176,7 @@ impl Entry {
 #[derive(Clone, Copy, Debug, PartialEq, Eq)]
 pub enum Field<'a> {
     Numbers(&'a [u32]),
+    Bytes(&'a [u8]),
     Position(Position),
 }
 
@@ -196,6 +201,7 @@ pub fn blank_joint(
     preps: &[u32],
     inputs: &[u32],
     coefficients: &[u32],
+    nonces: &[u8],
 ) -> Result<Request, Refusal> {
     let shape = circuit::shape(parties, circuit)?;
     let count = parties as usize;
@@ -206,6 +212,7 @@ pub fn blank_joint(
         inputs: inputs.to_vec(),
         scratch: vec![0; count * shape.scratch_len()],
         coefficients: coefficients.to_vec(),
+        nonces: nonces.to_vec(),
         transcript: vec![0; count * shape.words()],
         outputs: vec![0; shape.outputs],
     })
@@ -220,12 +227,14 @@ impl Request {
                 lent,
                 position,
                 coefficients,
+                nonce,
                 out,
             } => {
                 let mut fields = lent.fields();
                 fields.extend([
                     ("position", Field::Position(*position)),
                     ("coefficients", Field::Numbers(coefficients)),
+                    ("nonce", Field::Bytes(nonce)),
                     ("out", Field::Numbers(out)),
                 ]);
                 fields
@@ -249,6 +258,7 @@ impl Request {
                 inputs,
                 scratch,
                 coefficients,
+                nonces,
                 transcript,
                 outputs,
             } => vec![
@@ -258,6 +268,7 @@ impl Request {
                 ("inputs", Field::Numbers(inputs)),
                 ("scratch", Field::Numbers(scratch)),
                 ("coefficients", Field::Numbers(coefficients)),
+                ("nonces", Field::Bytes(nonces)),
                 ("transcript", Field::Numbers(transcript)),
                 ("outputs", Field::Numbers(outputs)),
             ],
@@ -283,17 +294,23 @@ impl Request {
                 lent,
                 position,
                 coefficients,
+                nonce,
                 out,
             } => {
-                let mut out = out.clone();
+                let (mut scratch, mut out) = (lent.scratch.clone(), out.clone());
                 let result = send(
                     &lent.party(),
-                    &lent.scratch,
+                    &mut scratch,
                     *position,
                     coefficients,
+                    nonce,
                     &mut out,
                 );
-                Answer::Send { result, out }
+                Answer::Send {
+                    result,
+                    scratch,
+                    out,
+                }
             }
             Request::Receive {
                 lent,
@@ -311,6 +328,7 @@ impl Request {
                 inputs,
                 scratch,
                 coefficients,
+                nonces,
                 transcript,
                 outputs,
             } => {
@@ -323,6 +341,7 @@ impl Request {
                     inputs,
                     &mut scratch,
                     coefficients,
+                    nonces,
                     &mut transcript,
                     &mut outputs,
                 );
@@ -350,7 +369,7 @@ impl Answer {
     pub fn lists(&self) -> Vec<(&'static str, &[u32])> {
         match self {
             Answer::Open { .. } => Vec::new(),
-            Answer::Send { out, .. } => vec![("out", out)],
+            Answer::Send { scratch, out, .. } => vec![("scratch", scratch), ("out", out)],
             Answer::Receive { scratch, .. } => vec![("scratch", scratch)],
             Answer::Joint {
                 scratch,
@@ -376,11 +395,28 @@ impl Answer {
     /// Whether the call ended a run by a failing check.
     pub fn aborted(&self) -> bool {
         match self {
-            Answer::Receive { result, .. } => matches!(result, Ok(Received::Aborted(_))),
+            Answer::Receive { result, .. } => matches!(result, Ok(Received::Aborted { .. })),
             Answer::Joint { result, .. } => {
                 result.is_ok_and(|result| matches!(result.ending, Ending::Aborted { .. }))
             }
             _ => false,
+        }
+    }
+}
+
+impl Answer {
+    /// The party that a failing check names.
+    pub fn named(&self) -> Option<u32> {
+        match self {
+            Answer::Receive {
+                result: Ok(Received::Aborted { party, .. }),
+                ..
+            } => *party,
+            Answer::Joint { result, .. } => match result.ok()?.ending {
+                Ending::Aborted { party, .. } => party,
+                Ending::Finished => None,
+            },
+            _ => None,
         }
     }
 }

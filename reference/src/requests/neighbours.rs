@@ -74,17 +74,21 @@ fn change(before: &Request, after: &Request) -> Option<String> {
                 _ => format!("{name} {}->{}", shown(old[index]), shown(new[index])),
             })
         }
-        (Field::Numbers(old), Field::Numbers(new)) => {
-            let shorter = old.len().min(new.len());
-            (old[..shorter] == new[..shorter]).then(|| match (old.len(), new.len()) {
-                (_, 0) => format!("{name} of no number"),
-                (from, to) if to + 1 == from => format!("{name} one shorter"),
-                (from, to) if from + 1 == to => format!("{name} one longer"),
-                (from, to) => format!("{name} {from}->{to} long"),
-            })
-        }
+        (Field::Numbers(old), Field::Numbers(new)) => length_change(name, old, new),
+        (Field::Bytes(old), Field::Bytes(new)) => length_change(name, old, new),
         _ => None,
     }
+}
+
+/// A change of the length of a list that is otherwise the same.
+fn length_change<T: PartialEq>(name: &str, old: &[T], new: &[T]) -> Option<String> {
+    let shorter = old.len().min(new.len());
+    (old[..shorter] == new[..shorter]).then(|| match (old.len(), new.len()) {
+        (_, 0) => format!("{name} of no number"),
+        (from, to) if to + 1 == from => format!("{name} one shorter"),
+        (from, to) if from + 1 == to => format!("{name} one longer"),
+        (from, to) => format!("{name} {from}->{to} long"),
+    })
 }
 
 /// A change of one number of a gate.

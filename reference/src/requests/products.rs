@@ -3,6 +3,7 @@
 use super::sets::filled;
 use super::{blank_joint, Lent, Request};
 use crate::circuit::{self, IN, MUL, OUT, SQ, TIMES};
+use crate::commitment::{NONCE_BYTES, WORDS};
 use crate::field::P;
 use crate::party::Position;
 use crate::position::{Sort, Stage};
@@ -88,7 +89,8 @@ fn largest_check(kind: u32) -> Request {
             held: 0,
         },
         coefficients,
-        out: vec![0],
+        nonce: vec![255; NONCE_BYTES],
+        out: vec![0; WORDS],
     }
 }
 
@@ -109,6 +111,7 @@ fn largest_run(parties: u32) -> Request {
         &vec![LARGEST; parties as usize * shape.prep_len()],
         &vec![LARGEST; shape.inputs],
         &vec![LARGEST; shape.coefficients()],
+        &vec![255; shape.nonces()],
     )
     .expect("the circuit is accepted")
 }

@@ -41,7 +41,7 @@ pub(super) const CASES: [(u32, &[Entry], usize, bool); 21] = [
     (18, SENDERS, 2, true),
     (19, RECEIVERS, 3, false),
     (20, RECEIVERS, 3, false),
-    (21, RECEIVERS, 3, false),
+    (25, SENDERS, 4, true),
 ];
 
 /// The lists that all entries are lent, of one party or of all.
@@ -115,7 +115,7 @@ pub(super) fn refused(
         }
         14 => wrong_half(random, &scene, entry, party, variant),
         15 => spoiled_scratch(random, &scene, entry, party, variant),
-        16..=18 => spoiled_sending(random, &scene, entry, party, number, variant),
+        16..=18 | 25 => spoiled_sending(random, &scene, entry, party, number, variant),
         _ => spoiled_hearing(random, &scene, party, number, variant),
     }
 }
@@ -144,21 +144,24 @@ pub(super) fn add_later_faults(random: &mut Random, request: &mut Request, numbe
     match request {
         Request::Open { .. } => {}
         Request::Send {
-            coefficients, out, ..
-        } => {
-            late_coefficients(coefficients, number);
-            if number < 18 {
-                out.clear();
-            }
-        }
-        Request::Joint {
             coefficients,
-            transcript,
+            nonce: nonces,
+            out: words,
+            ..
+        }
+        | Request::Joint {
+            coefficients,
+            nonces,
+            transcript: words,
             ..
         } => {
             late_coefficients(coefficients, number);
-            if number < 18 {
-                transcript.clear();
+            // 25 is asked between 17 and 18.
+            if number < 18 && random.once_in(2) {
+                nonces.push(7);
+            }
+            if number < 18 || number == 25 {
+                words.clear();
             }
         }
         Request::Receive { heard, .. } => {

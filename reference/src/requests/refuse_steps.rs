@@ -1,9 +1,10 @@
-//! Requests that one of the questions 13 to 21 refuses.
+//! Requests that one of the questions 13 to 20 and 25 refuses.
 
 use super::refuse::{set_len, set_position, spoil_elements};
 use super::scene::Scene;
 use super::{Entry, Request};
 use crate::circuit::{ADD, IN, MUL, OUT, PLUS, SQ, SUB, TIMES};
+use crate::commitment::REVEALED;
 use crate::field::P;
 use crate::party::{Position, Round, Sort, Stage};
 use crate::random::Random;
@@ -158,7 +159,7 @@ pub(super) fn spoiled_scratch(
     request
 }
 
-/// Questions 16 to 18: coefficients and outgoing lists.
+/// Questions 16 to 18 and 25: coefficients, outgoing lists and nonces.
 pub(super) fn spoiled_sending(
     random: &mut Random,
     scene: &Scene,
@@ -171,9 +172,9 @@ pub(super) fn spoiled_sending(
         Joint => scene.joint(random),
         _ => {
             let round = scene.find(random, |_, round| match (number, variant) {
-                (16, 2) => !round.is_commit(),
-                (18, 0) => round == Round::Multiply,
-                (18, _) => round != Round::Multiply,
+                (16, 2) | (25, 3) => !round.is_commit(),
+                (18, 0) => round.words() > 1,
+                (18, _) => true,
                 _ => round.is_commit(),
             });
             scene.step(random, entry, party, round)
@@ -195,7 +196,19 @@ pub(super) fn spoiled_sending(
         {
             spoil_elements(random, coefficients, [P, u32::MAX][variant]);
         }
-        Request::Send { out, .. } => out.truncate(1 - variant),
+        Request::Send { nonce: nonces, .. } | Request::Joint { nonces, .. } if number == 25 => {
+            let len = nonces.len();
+            nonces.resize([len.saturating_sub(1), len + 1, 0, len + 1][variant], 1);
+        }
+        Request::Send {
+            lent,
+            position,
+            out,
+            ..
+        } => {
+            let words = position.round(&lent.circuit).map_or(1, Round::words);
+            out.truncate((words - 1) * (1 - variant));
+        }
         Request::Joint {
             transcript,
             outputs,
@@ -210,7 +223,7 @@ pub(super) fn spoiled_sending(
     request
 }
 
-/// Questions 19 to 21: the words heard.
+/// Questions 19 and 20: the words heard.
 pub(super) fn spoiled_hearing(
     random: &mut Random,
     scene: &Scene,
@@ -221,8 +234,8 @@ pub(super) fn spoiled_hearing(
     let chosen = scene.find(random, |_, round| match (number, variant) {
         (19, _) => true,
         (20, 0) => round == Round::Input,
-        (20, 1) => !round.is_commit(),
-        _ => round.is_commit(),
+        (20, 1) => !round.is_commit() && !round.is_reveal(),
+        _ => round.is_reveal(),
     });
     let mut request = scene.step(random, Receive, party, chosen);
     let gate = scene.rounds[chosen].0;
@@ -238,14 +251,15 @@ pub(super) fn spoiled_hearing(
             heard[(owner + 1) % len] = random.pick(&[P, u32::MAX]);
         }
         (20, 1) => spoil_elements(random, heard, P),
-        (20, _) => {
-            // Question 20 is asked of all words before 21 is asked of the first.
-            heard[0] = 0;
-            heard[len - 1] = P;
-        }
         _ => {
-            let index = random.below(len);
-            heard[index] = [0, 2, P - 1][variant];
+            // The check share of one party; the words of nonces are not asked.
+            let party = random.below(scene.parties as usize);
+            for (index, word) in heard.iter_mut().enumerate() {
+                if index % REVEALED != 0 {
+                    *word = u32::MAX;
+                }
+            }
+            heard[REVEALED * party] = random.pick(&[P, u32::MAX]);
         }
     }
     request

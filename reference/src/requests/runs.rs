@@ -101,32 +101,34 @@ pub(super) fn two_products(random: &mut Random, parties: u32, key: u32) -> Scene
     Scene::new(random, parties, circuit, key)
 }
 
-/// Runs with each kind of bad preprocessing, under a key of 0 and another one: joint, and one party by
-/// single entries.
+/// Runs with each kind of bad preprocessing: joint under a key of 0 and another one, and one party by single entries.
 pub(super) fn bad_preps(random: &mut Random, wrongs: &[Wrong], scene_of: SceneOf) -> Vec<Request> {
     let mut requests = Vec::new();
     for &wrong in wrongs {
         for key in [0, random.nonzero()] {
-            let parties = random.between(2, 8) as u32;
+            let parties = random.between(2, 4) as u32;
             let mut scene = scene_of(random, parties, key);
             spoil(random, &mut scene, wrong);
             requests.push(scene.joint(random));
-            let party = scene.any_party(random);
-            requests.extend(scene.whole_and_after(random, Some(party), None));
+            if key != 0 {
+                let party = scene.any_party(random);
+                requests.extend(scene.whole_and_after(random, Some(party), None));
+            }
         }
     }
     requests
 }
 
-/// Runs of two or three parties that hear one word otherwise than it was sent, in each of the rounds.
+/// Runs of a few parties that hear one word otherwise than it was sent, in each of the rounds.
 pub(super) fn tampered(
     random: &mut Random,
     rounds: impl Iterator<Item = Round>,
+    most: usize,
     scene_of: SceneOf,
 ) -> Vec<Request> {
     let mut requests = Vec::new();
     for round in rounds {
-        let parties = random.between(2, 3) as u32;
+        let parties = random.between(2, most) as u32;
         let key = random.nonzero();
         let scene = scene_of(random, parties, key);
         let chosen = scene.find(random, |_, here| here == round);
@@ -149,8 +151,8 @@ pub(super) fn tampered(
     requests
 }
 
-/// For each number of parties a run of all of them by single entries, and joint runs of circuits of
-/// any length up to `max_lines`.
+/// For each number of parties a run by single entries, of all of them or of one among many, and joint runs of circuits
+/// of any length up to `max_lines`.
 pub(super) fn good(random: &mut Random, kinds: Kinds, max_lines: usize) -> Vec<Request> {
     let mut requests = Vec::new();
     for parties in 2..=8 {
@@ -159,7 +161,8 @@ pub(super) fn good(random: &mut Random, kinds: Kinds, max_lines: usize) -> Vec<R
         let key = random.element();
         let scene = Scene::new(random, parties, circuit, key);
         requests.push(scene.joint(random));
-        requests.extend(scene.whole_and_after(random, None, None));
+        let party = (parties > 4).then(|| scene.any_party(random));
+        requests.extend(scene.whole_and_after(random, party, None));
         for key in [0, random.nonzero(), random.nonzero()] {
             let lines = random.between(2, max_lines);
             let circuit = random::circuit(random, kinds, parties, lines);

@@ -1,7 +1,8 @@
 //! A circuit with preprocessing, inputs and coefficients, and requests taken from its run.
 
 use super::{Entry, Lent, Request, Size};
-use crate::circuit::{self, Shape};
+use crate::circuit::{self, Shape, IN};
+use crate::commitment::NONCE_BYTES;
 use crate::field;
 use crate::joint::first_inputs;
 use crate::party::{receive, send, Party, Position, Received, Round, Sort, Stage};
@@ -18,16 +19,27 @@ pub(super) struct Scene {
     pub preps: Vec<u32>,
     pub inputs: Vec<u32>,
     pub coefficients: Vec<u32>,
+    pub nonces: Vec<u8>,
     /// Whether lists to be written hold zeros at first, which keeps long requests short as text.
     /// Otherwise they hold any numbers, and sometimes have an excess.
     pub zeros: bool,
 }
 
-/// A word that is heard otherwise than it was sent: in which round, which one, and what is added.
+/// A word that is heard otherwise than it was sent, by all parties: in which round, which one, and what is added.
 #[derive(Clone, Copy, Debug)]
 pub(super) struct Tamper {
     pub round: usize,
     pub word: usize,
+    pub by: u32,
+}
+
+/// A number of one party's scratch that its caller alters before a half of a round, and what is added.
+#[derive(Clone, Copy, Debug)]
+pub(super) struct Meddle {
+    pub round: usize,
+    pub half: Entry,
+    pub party: u32,
+    pub place: usize,
     pub by: u32,
 }
 
@@ -55,11 +67,12 @@ impl Player<'_> {
         }
     }
 
-    fn sending(&self, coefficients: &[u32], out: Vec<u32>) -> Request {
+    fn sending(&self, coefficients: &[u32], nonce: &[u8], out: Vec<u32>) -> Request {
         Request::Send {
             lent: self.lend(),
             position: self.position,
             coefficients: coefficients.to_vec(),
+            nonce: nonce.to_vec(),
             out,
         }
     }
@@ -73,8 +86,17 @@ impl Player<'_> {
     }
 }
 
+/// Adds to a word of a round, so that an element stays one.
+pub(super) fn alter(round: Round, heard: &mut [u32], word: usize, by: u32) {
+    heard[word] = if round.has_element(word) {
+        field::add(heard[word], by)
+    } else {
+        heard[word].wrapping_add(by)
+    };
+}
+
 impl Scene {
-    /// Good preprocessing under the key, random inputs and coefficients for an accepted circuit.
+    /// Good preprocessing under the key, random inputs, coefficients and nonces for an accepted circuit.
     pub fn new(random: &mut Random, parties: u32, circuit: Vec<u32>, key: u32) -> Scene {
         let shape = circuit::shape(parties, &circuit).expect("the circuit is an accepted one");
         Scene {
@@ -83,6 +105,7 @@ impl Scene {
             preps: prep::make(random, parties, &circuit, key),
             inputs: (0..shape.inputs).map(|_| random.edge_element()).collect(),
             coefficients: random.elements(shape.coefficients()),
+            nonces: random.bytes(shape.nonces()),
             circuit,
             shape,
             zeros: false,
@@ -97,6 +120,7 @@ impl Scene {
             preps,
             inputs,
             coefficients,
+            nonces,
             ..
         } = run
         else {
@@ -110,6 +134,7 @@ impl Scene {
             preps,
             inputs,
             coefficients,
+            nonces,
             zeros: true,
         }
     }
@@ -131,6 +156,16 @@ impl Scene {
         let circuit = random::rich_circuit(random, kinds, parties, lines);
         let key = random.element();
         Scene::new(random, parties, circuit, key)
+    }
+
+    /// Makes party 1 the owner of party 0's in gates. Their whole masks are then any elements.
+    pub fn disown(&mut self) {
+        for line in self.circuit.chunks_exact_mut(4) {
+            if line[..2] == [IN, 0] {
+                line[1] = 1;
+            }
+        }
+        self.shape = circuit::shape(self.parties, &self.circuit).expect("an accepted circuit");
     }
 
     /// The kinds that its gates may have.
@@ -219,6 +254,7 @@ impl Scene {
             inputs: self.inputs.clone(),
             scratch: self.fresh(random, count * self.shape.scratch_len()),
             coefficients: self.coefficients.clone(),
+            nonces: self.nonces.clone(),
             transcript: self.fresh(random, count * self.shape.words()),
             outputs: self.fresh(random, self.shape.outputs),
         }
@@ -247,7 +283,7 @@ impl Scene {
     pub fn halves(&self, random: &mut Random, party: u32, rounds: &[usize]) -> Vec<Request> {
         let wanted = |round: usize, here: u32| rounds.contains(&round) && here == party;
         let end = rounds.iter().max().map_or(0, |last| last + 1);
-        self.play(random, wanted, end, None).requests
+        self.play(random, wanted, end, None, None).requests
     }
 
     /// All requests of one party, or of all parties, in a run by single entries: opening, and both
@@ -269,10 +305,18 @@ impl Scene {
         let words = vec![0; self.parties as usize];
         for player in &played.players {
             if party.is_none_or(|party| party == player.view.party) {
-                requests.extend([player.sending(&[], vec![0]), player.receiving(&words)]);
+                requests.extend([player.sending(&[], &[], vec![0]), player.receiving(&words)]);
             }
         }
         requests
+    }
+
+    /// All requests of all parties in a run by single entries, until a party has ended, where the caller of one
+    /// has altered its scratch.
+    pub fn whole_meddled(&self, random: &mut Random, meddle: Meddle) -> Vec<Request> {
+        let (all, end) = (|_, _| true, self.rounds.len());
+        let played = self.play(random, all, end, None, Some(meddle));
+        self.opened(played).requests
     }
 
     fn play_all(
@@ -282,7 +326,12 @@ impl Scene {
         tamper: Option<Tamper>,
     ) -> Played<'_> {
         let wanted = |_, here| party.is_none_or(|party| party == here);
-        let mut played = self.play(random, wanted, self.rounds.len(), tamper);
+        let played = self.play(random, wanted, self.rounds.len(), tamper, None);
+        self.opened(played)
+    }
+
+    /// The same with the requests that open the run.
+    fn opened<'a>(&self, mut played: Played<'a>) -> Played<'a> {
         let halves = std::mem::take(&mut played.requests);
         for request in halves {
             if let Request::Send { lent, position, .. } = &request {
@@ -304,50 +353,56 @@ impl Scene {
         wanted: impl Fn(usize, u32) -> bool,
         end: usize,
         tamper: Option<Tamper>,
+        meddle: Option<Meddle>,
     ) -> Played<'_> {
         let mut players: Vec<Player<'_>> = (0..self.parties)
             .map(|party| self.player(random, party))
             .collect();
         let mut requests = Vec::new();
         let mut coefficients = &self.coefficients[..];
+        let mut nonces = &self.nonces[..];
         for (index, &(gate, round)) in self.rounds.iter().enumerate().take(end) {
-            let entries = if round.is_commit() {
-                round.unchecked(self.pending(gate))
+            let (entries, bytes) = if round.is_commit() {
+                (round.unchecked(self.pending(gate)), NONCE_BYTES)
             } else {
-                0
+                (0, 0)
             };
             let (now, later) = coefficients.split_at(entries);
             coefficients = later;
 
-            let mut heard = Vec::with_capacity(2 * players.len());
+            let mut heard = Vec::with_capacity(round.words() * players.len());
+            let meddled = |half, player: &mut Player<'_>| {
+                let here = |one: &Meddle| {
+                    (one.round, one.half, one.party) == (index, half, player.view.party)
+                };
+                if let Some(Meddle { place, by, .. }) = meddle.filter(here) {
+                    player.scratch[place] = player.scratch[place].wrapping_add(by);
+                }
+            };
             for player in &mut players {
+                meddled(Entry::Send, player);
+                let (nonce, later) = nonces.split_at(bytes);
+                nonces = later;
                 if wanted(index, player.view.party) {
                     let out = self.fresh(random, round.words());
-                    requests.push(player.sending(now, out));
+                    requests.push(player.sending(now, nonce, out));
                 }
                 let Player {
                     view,
                     scratch,
                     position,
                 } = player;
-                let mut out = [0; 2];
-                *position = send(view, scratch, *position, now, &mut out).expect("an honest step");
-                heard.extend(&out[..round.words()]);
+                let mut out = vec![0; round.words()];
+                *position =
+                    send(view, scratch, *position, now, nonce, &mut out).expect("an honest step");
+                heard.extend(out);
             }
-            let tamper = tamper.filter(|tamper| tamper.round == index);
-            let mut tampered = heard.clone();
-            if let Some(Tamper { word, by, .. }) = tamper {
-                tampered[word] = field::add(tampered[word], by);
-            }
-            if !round.is_commit() {
-                heard.clone_from(&tampered);
+            if let Some(Tamper { word, by, .. }) = tamper.filter(|tamper| tamper.round == index) {
+                alter(round, &mut heard, word, by);
             }
             for player in &mut players {
+                meddled(Entry::Receive, player);
                 if wanted(index, player.view.party) {
-                    // Another mark than 1 is refused, and the round goes on with the right ones.
-                    if tampered != heard {
-                        requests.push(player.receiving(&tampered));
-                    }
                     requests.push(player.receiving(&heard));
                 }
                 let Player {
@@ -357,11 +412,12 @@ impl Scene {
                 } = player;
                 let (Received::Moved(next)
                 | Received::Released { position: next, .. }
-                | Received::Aborted(next)) =
+                | Received::Aborted { position: next, .. }) =
                     receive(view, scratch, *position, &heard).expect("an honest step");
                 *position = next;
             }
-            if !matches!(players[0].position.stage, Stage::Send(_)) {
+            let goes_on = |player: &Player<'_>| matches!(player.position.stage, Stage::Send(_));
+            if !players.iter().all(goes_on) {
                 break;
             }
         }

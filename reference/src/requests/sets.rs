@@ -4,7 +4,7 @@ use super::boundary::{boundaries, Boundary, ListOf, NO_ELEMENTS};
 use super::boundary_steps::coefficients;
 use super::runs::{self, Wrong, TRIPLE_WRONGS};
 use super::scene::Scene;
-use super::{products, rotation, squares, Answered, Entry, Request, Size};
+use super::{marks, products, rotation, squares, Answered, Entry, Request, Size};
 use crate::circuit::{IN, MAX_GATES, MUL, OUT, PLUS};
 use crate::docket;
 use crate::random::{self, Kinds, Random};
@@ -14,27 +14,33 @@ pub enum Set {
     Small,
     Large,
     Square,
+    Mark,
     SquaresLarge,
     Products,
+    MarksLarge,
 }
 
 impl Set {
-    pub const ALL: [Set; 5] = [
+    pub const ALL: [Set; 7] = [
         Set::Small,
         Set::Large,
         Set::Square,
+        Set::Mark,
         Set::SquaresLarge,
         Set::Products,
+        Set::MarksLarge,
     ];
-    pub const KEPT: [Set; 3] = [Set::Small, Set::Large, Set::Square];
+    pub const KEPT: [Set; 4] = [Set::Small, Set::Large, Set::Square, Set::Mark];
 
     pub fn name(self) -> &'static str {
         match self {
             Set::Small => "small",
             Set::Large => "large",
             Set::Square => "square",
+            Set::Mark => "mark",
             Set::SquaresLarge => "squares-large",
             Set::Products => "products",
+            Set::MarksLarge => "marks-large",
         }
     }
 
@@ -43,8 +49,10 @@ impl Set {
             Set::Small => "short circuits; both sides of every question's boundary, whole runs, tampered words, bad preprocessing",
             Set::Large => "circuits of up to 256 gates and 8 parties; the longest runs and lists, refusals at high indices",
             Set::Square => "squares among other gates; both sides of every question's boundary, squares of every kind of wire, tampered words, bad preprocessing",
+            Set::Mark => "commitments of short circuits; nonces of every wrong length, marks and nonces of any words, every part of a check altered, heard and in the scratch",
             Set::SquaresLarge => "squares in circuits of up to 256 gates and 8 parties; every boundary, whole runs, the longest run",
             Set::Products => "products at the edges of a reduction: by constants, by the key share, of opened values; the largest sums of products",
+            Set::MarksLarge => "commitments in circuits of up to 256 gates and 8 parties; every part of a check altered, the longest nonce lists and transcripts",
         }
     }
 
@@ -55,8 +63,10 @@ impl Set {
             Set::Small => small(&mut random),
             Set::Large => large(&mut random),
             Set::Square => squares::kept(&mut random),
+            Set::Mark => marks::kept(&mut random),
             Set::SquaresLarge => squares::large(&mut random),
             Set::Products => products::all(&mut random),
+            Set::MarksLarge => marks::large(&mut random),
         };
         requests.into_iter().map(Request::answered).collect()
     }
@@ -70,23 +80,25 @@ fn small(random: &mut Random) -> Vec<Request> {
     let mut requests = runs::worked(random, docket::request());
     let scene_of = |random: &mut Random, parties| {
         let lines = random.between(kinds.rich_lines(), 12);
-        Scene::rich_of(random, kinds, parties, lines)
+        let mut scene = Scene::rich_of(random, kinds, parties, lines);
+        scene.zeros = random.once_in(2);
+        scene
     };
     for entry in Entry::ALL {
         for boundary in boundaries(random, entry, kinds, &scene_of) {
-            let crowded = random.once_in(3).then(|| boundary.clone().crowded(random));
+            let crowded = random.once_in(4).then(|| boundary.clone().crowded(random));
             requests.extend(boundary.requests());
             requests.extend(crowded.into_iter().flat_map(Boundary::requests));
         }
     }
     let scene_of = runs::two_products;
-    requests.extend(runs::good(random, kinds, 40));
+    requests.extend(runs::good(random, kinds, 30));
     requests.extend(runs::bad_preps(random, &TRIPLE_WRONGS, scene_of));
-    requests.extend(runs::tampered(random, kinds.rounds(), scene_of));
+    requests.extend(runs::tampered(random, kinds.rounds(), 2, scene_of));
     let size = Size {
         kinds,
-        max_lines: 40,
-        max_parties: 8,
+        max_lines: 24,
+        max_parties: 4,
     };
     for turn in 0..TURNS {
         requests.extend(rotation::requests(random, turn, size));
@@ -123,13 +135,7 @@ pub(super) fn longest_run(kind: u32) -> Vec<u32> {
 /// Mostly gates without a round, so that a whole run takes few requests.
 fn few_rounds() -> Vec<u32> {
     let mut kinds = filled(PLUS);
-    for (gate, kind) in [
-        (60, IN),
-        (120, MUL),
-        (150, OUT),
-        (200, MUL),
-        (MAX_GATES - 2, OUT),
-    ] {
+    for (gate, kind) in [(60, IN), (120, MUL), (150, OUT)] {
         kinds[gate] = kind;
     }
     kinds
@@ -138,17 +144,22 @@ fn few_rounds() -> Vec<u32> {
 fn large(random: &mut Random) -> Vec<Request> {
     let mut requests = Vec::new();
 
-    // The longest lists: inputs, preprocessing with scratch and coefficients, outputs, transcript.
-    for kinds in [filled(IN), filled(MUL), filled(OUT), longest_run(MUL)] {
-        requests.push(scene(random, 8, &kinds).joint(random));
+    // The longest lists: inputs, preprocessing with scratch and coefficients, outputs; and the longest run.
+    for (parties, kinds) in [
+        (8, filled(IN)),
+        (8, filled(MUL)),
+        (2, filled(OUT)),
+        (2, longest_run(MUL)),
+    ] {
+        requests.push(scene(random, parties, &kinds).joint(random));
     }
-    for parties in [2, 3, 5, 8] {
+    for parties in [2, 4] {
         let mut scene = Scene::rich_of(random, Kinds::Base, parties, MAX_GATES);
         scene.zeros = true;
         requests.push(scene.joint(random));
     }
     // Lists to be written that hold any numbers and have an excess.
-    let mut used = scene(random, 8, &filled(PLUS));
+    let mut used = scene(random, 4, &filled(PLUS));
     used.zeros = false;
     let mut used = used.joint(random);
     if let Request::Joint {
@@ -183,7 +194,7 @@ fn large(random: &mut Random) -> Vec<Request> {
     let inputs: ListOf = |request| request.lists().inputs;
     for (parties, kind, number, list) in [
         (8, MUL, 9, prep),
-        (8, IN, 11, inputs),
+        (2, IN, 11, inputs),
         (2, MUL, 17, coefficients),
     ] {
         let mut scene = scene(random, parties, &filled(kind));
@@ -192,7 +203,9 @@ fn large(random: &mut Random) -> Vec<Request> {
         requests.extend(Boundary::last_element(number, &base, list).requests());
     }
     let scene_of = |random: &mut Random, parties| {
-        let mut scene = Scene::rich_of(random, Kinds::Base, parties, MAX_GATES);
+        let circuit = random::rich_circuit_of_few_checks(random, Kinds::Base, parties, MAX_GATES);
+        let key = random.element();
+        let mut scene = Scene::new(random, parties, circuit, key);
         scene.preps.fill(0);
         scene.zeros = true;
         scene

@@ -1,5 +1,6 @@
 //! Sheets that are scored, and requests about sheets whose text has a fault.
 
+use super::boundary_steps::nonces;
 use super::scene::Scene;
 use super::sheet_reads::nested;
 use super::sheet_sets::{circuit_of, read, write, write_into};
@@ -38,14 +39,16 @@ pub(super) fn scores(random: &mut Random) -> Vec<SheetRequest> {
         // Refused by the run: another circuit's material.
         score("(out (add (in 0) (in 1)))\n", &docket),
     ];
-    // The parties, the material, an input, the scratch, a coefficient, the outputs.
-    let changes: [fn(&mut Request); 6] = [
+    // The parties, the material, an input, the scratch, a coefficient, the outputs; a nonce byte too few and too many.
+    let changes: [fn(&mut Request); 8] = [
         |joint| lists(joint, |parties, _| *parties = 9),
         |joint| lists(joint, |_, lists| lists[0][3] = P),
         |joint| lists(joint, |_, lists| lists[1][1] = P),
-        |joint| lists(joint, |_, lists| lists[2].truncate(27)),
+        |joint| lists(joint, |_, lists| lists[2].truncate(75)),
         |joint| lists(joint, |_, lists| lists[3][2] = P),
         |joint| lists(joint, |_, lists| lists[4].clear()),
+        |joint| nonces(joint).truncate(127),
+        |joint| nonces(joint).push(0),
     ];
     for change in changes {
         let mut joint = docket.clone();
@@ -85,6 +88,27 @@ fn lists(joint: &mut Request, change: impl Fn(&mut u32, [&mut Vec<u32>; 5])) {
     }
 }
 
+/// The lines of a request to `send` before that of the nonce.
+const SEND: &str = "\
+send
+parties 2
+party 0
+circuit
+prep
+inputs
+scratch
+position 0 send-own 0
+coefficients
+";
+
+/// The lines of a joint run between its circuit and its nonces.
+const RUN: &str = "\
+preps
+inputs
+scratch
+coefficients
+";
+
 /// Faults of a line, beside lines that have none.
 pub(super) fn faults() -> Vec<SheetRequest> {
     const BYTE: &str = "a byte above 255";
@@ -97,6 +121,20 @@ pub(super) fn faults() -> Vec<SheetRequest> {
         fault(
             format!("read\nparties 2\ntext{text}\ncircuit 9 9\n"),
             2,
+            message,
+        )
+    };
+    let in_send = |bytes: &str, message: &'static str| {
+        fault(
+            format!("{SEND}nonce{bytes}\nout 9\n"),
+            SEND.lines().count(),
+            message,
+        )
+    };
+    let in_run = |head: &str, bytes: &str, message: &'static str| {
+        fault(
+            format!("{head}\n{RUN}nonces{bytes}\ntranscript\noutputs\n"),
+            3 + RUN.lines().count(),
             message,
         )
     };
@@ -115,8 +153,8 @@ pub(super) fn faults() -> Vec<SheetRequest> {
         in_read(" 256 x", "not a number"),
         in_read(" x 256", "not a number"),
         in_read(" 256 4294967296", "a number above 4294967295"),
-        in_read(&format!(" 256{}", zeros(16_384)), "more than 16384 numbers"),
-        read(2, &vec![0; 16_384]),
+        in_read(&format!(" 256{}", zeros(65_536)), "more than 65536 numbers"),
+        read(2, &vec![0; 65_536]),
         // The byte in the other entries, and a circuit's numbers, which may be above 255.
         fault(
             "write\nparties 2\ncircuit 1 0 0 0 7 0 0 0\ntext 0 255 256\n".to_string(),
@@ -125,6 +163,30 @@ pub(super) fn faults() -> Vec<SheetRequest> {
         ),
         write_into(2, &[1, 0, 0, 0, 7, 0, 0, 0], 3),
         fault("score\nparties 2\ntext 256\npreps\n".to_string(), 2, BYTE),
+        // The bytes of nonces, in every entry that takes some.
+        in_send(" 0 255 256", BYTE),
+        in_send(" 4294967295", BYTE),
+        in_send(" 256 x", "not a number"),
+        in_send(" 256 4294967296", "a number above 4294967295"),
+        in_run("score\nparties 2\ntext", " 256", BYTE),
+        in_run("joint\nparties 2\ncircuit", " 255 256", BYTE),
+        in_run("show\nparties 2\ncircuit", " 256", BYTE),
+        in_run("show\nparties 2\ncircuit", " -1", "not a number"),
+        fault(
+            format!("{SEND}out 9\n"),
+            SEND.lines().count(),
+            "nonce is wanted",
+        ),
+        fault(
+            format!("{SEND}nonces\nout 9\n"),
+            SEND.lines().count(),
+            "nonce is wanted",
+        ),
+        fault(
+            format!("joint\nparties 2\ncircuit\n{RUN}transcript\noutputs\n"),
+            3 + RUN.lines().count(),
+            "nonces is wanted",
+        ),
         SheetRequest::Read {
             parties: 2,
             text: sheet.to_vec(),

@@ -29,11 +29,6 @@ pub enum SheetRequest {
     },
 }
 
-fn line_of(name: &str, text: &[u8]) -> String {
-    let numbers: Vec<u32> = text.iter().map(|&byte| byte.into()).collect();
-    text::line(name, &numbers)
-}
-
 fn first_line(word: &str, result: Result<usize, Refusal>) -> String {
     match result {
         Ok(count) => format!("{word} {count}\n"),
@@ -58,7 +53,10 @@ impl SheetRequest {
                 text,
                 circuit,
             } => {
-                let (text, circuit) = (line_of("text", text), text::line("circuit", circuit));
+                let (text, circuit) = (
+                    text::bytes_line("text", text),
+                    text::line("circuit", circuit),
+                );
                 format!("read\nparties {parties}\n{text}{circuit}")
             }
             SheetRequest::Write {
@@ -66,10 +64,15 @@ impl SheetRequest {
                 circuit,
                 text,
             } => {
-                let (text, circuit) = (line_of("text", text), text::line("circuit", circuit));
+                let (text, circuit) = (
+                    text::bytes_line("text", text),
+                    text::line("circuit", circuit),
+                );
                 format!("write\nparties {parties}\n{circuit}{text}")
             }
-            SheetRequest::Score { text, joint } => score_request(&line_of("text", text), joint),
+            SheetRequest::Score { text, joint } => {
+                score_request(&text::bytes_line("text", text), joint)
+            }
             SheetRequest::Faulty { lines, .. } => lines.clone(),
         }
     }
@@ -93,7 +96,7 @@ impl SheetRequest {
             } => {
                 let mut text = text.clone();
                 let result = write_sheet(*parties, circuit, &mut text);
-                first_line("bytes", result) + &line_of("text", &text)
+                first_line("bytes", result) + &text::bytes_line("text", &text)
             }
             SheetRequest::Score { text, joint } => match scored(text, joint) {
                 Ok(answered) => text::show(&answered),
@@ -113,6 +116,7 @@ pub fn score_request(sheet: &str, joint: &Request) -> String {
         match field {
             Field::Numbers(_) if name == "circuit" => request.push_str(sheet),
             Field::Numbers(numbers) => request.push_str(&text::line(name, numbers)),
+            Field::Bytes(bytes) => request.push_str(&text::bytes_line(name, bytes)),
             Field::Position(_) => unreachable!("a joint run has no position"),
         }
     }

@@ -12,6 +12,8 @@ pub struct SingleRun {
     pub all_parties: bool,
     /// The round whose failing check has aborted the run.
     pub aborted: Option<Round>,
+    /// Whether a party is named then.
+    pub named: bool,
     /// The last round in which another word was heard than was sent.
     pub tampered: Option<Round>,
 }
@@ -33,6 +35,7 @@ impl<'a> Open<'a> {
             seen: SingleRun {
                 all_parties: false,
                 aborted: None,
+                named: false,
                 tampered: None,
             },
         }
@@ -87,14 +90,14 @@ pub fn single_runs(answered: &[Answered]) -> BTreeMap<SingleRun, usize> {
                 Request::Send { lent, position, .. },
                 Answer::Send {
                     result: Ok(next),
+                    scratch,
                     out,
                 },
             ) => {
                 let run = open.as_mut().filter(|run| run.goes_on(lent, *position));
                 if let (Some(run), Some(round)) = (run, position.round(&lent.circuit)) {
                     run.sent.insert(lent.party, out[..round.words()].to_vec());
-                    run.players
-                        .insert(lent.party, (*next, lent.scratch.clone()));
+                    run.players.insert(lent.party, (*next, scratch.clone()));
                 }
             }
             (
@@ -113,8 +116,12 @@ pub fn single_runs(answered: &[Answered]) -> BTreeMap<SingleRun, usize> {
                         Ok(Received::Moved(next) | Received::Released { position: next, .. }) => {
                             next
                         }
-                        Ok(Received::Aborted(next)) => {
+                        Ok(Received::Aborted {
+                            position: next,
+                            party,
+                        }) => {
                             run.seen.aborted = Some(round);
+                            run.seen.named = party.is_some();
                             next
                         }
                     };

@@ -113,7 +113,9 @@ fn two_squares(random: &mut Random, parties: u32, key: u32) -> Scene {
 
 fn rich(random: &mut Random, parties: u32) -> Scene {
     let lines = random.between(KINDS.rich_lines(), KINDS.rich_lines() + 2);
-    Scene::rich_of(random, KINDS, parties, lines)
+    let mut scene = Scene::rich_of(random, KINDS, parties, lines);
+    scene.zeros = random.once_in(2);
+    scene
 }
 
 pub(super) fn kept(random: &mut Random) -> Vec<Request> {
@@ -134,7 +136,9 @@ pub(super) fn kept(random: &mut Random) -> Vec<Request> {
     }
     for parties in 2..=8 {
         let key = random.nonzero();
-        requests.push(rich(random, parties).joint(random));
+        if [2, 5, 8].contains(&parties) {
+            requests.push(rich(random, parties).joint(random));
+        }
         let scene = Scene::new(random, parties, IN_TURNS.to_vec(), key);
         requests.push(scene.joint(random));
     }
@@ -158,7 +162,7 @@ pub(super) fn kept(random: &mut Random) -> Vec<Request> {
         requests.extend(scene.whole_and_after(random, Some(1), None));
     }
     let rounds = [Round::Square, Round::CommitOpened, Round::RevealOpened];
-    requests.extend(runs::tampered(random, rounds.into_iter(), one_square));
+    requests.extend(runs::tampered(random, rounds.into_iter(), 2, one_square));
     requests
 }
 
@@ -277,7 +281,7 @@ fn of_squares(random: &mut Random, entry: Entry) -> Vec<Boundary> {
 }
 
 /// Turns of the rotation in the large set.
-const TURNS: usize = 6;
+const TURNS: usize = 9;
 
 pub(super) fn large(random: &mut Random) -> Vec<Request> {
     let mut requests = Vec::new();
@@ -287,7 +291,7 @@ pub(super) fn large(random: &mut Random) -> Vec<Request> {
     }
     requests.extend(runs::good(random, KINDS, 60));
     requests.extend(runs::bad_preps(random, &PAIR_WRONGS, two_squares));
-    requests.extend(runs::tampered(random, KINDS.rounds(), two_squares));
+    requests.extend(runs::tampered(random, KINDS.rounds(), 3, two_squares));
     let size = Size {
         kinds: KINDS,
         max_lines: 60,

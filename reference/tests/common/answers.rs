@@ -2,13 +2,10 @@
 
 use reference::circuit;
 use reference::requests::{Answer, Answered, Request};
-use reference::{Ending, JointResult, Position, Received, Refusal, Sort, Stage, P};
+use reference::{Ending, JointResult, Position, Received, Refusal, Round, Sort, Stage, P};
 
-type Offends = fn(u32) -> bool;
-
-/// The list whose number the refusal's index names, and whether a number in it offends.
-fn offending(one: &Answered, number: u32) -> Option<(&[u32], Offends)> {
-    let no_element: Offends = |x| x >= P;
+/// The list whose number, the first that is no element, the refusal's index names.
+fn offending(one: &Answered, number: u32) -> Option<&[u32]> {
     let (prep, inputs): (&[u32], &[u32]) = match &one.request {
         Request::Open { lent } | Request::Send { lent, .. } | Request::Receive { lent, .. } => {
             (&lent.prep, &lent.inputs)
@@ -16,13 +13,11 @@ fn offending(one: &Answered, number: u32) -> Option<(&[u32], Offends)> {
         Request::Joint { preps, inputs, .. } => (preps, inputs),
     };
     match (number, &one.request) {
-        (9, _) => Some((prep, no_element)),
-        (11, _) => Some((inputs, no_element)),
+        (9, _) => Some(prep),
+        (11, _) => Some(inputs),
         (17, Request::Send { coefficients, .. } | Request::Joint { coefficients, .. }) => {
-            Some((coefficients, no_element))
+            Some(coefficients)
         }
-        (20, Request::Receive { heard, .. }) => Some((heard, no_element)),
-        (21, Request::Receive { heard, .. }) => Some((heard, |x| x != 1)),
         _ => None,
     }
 }
@@ -43,9 +38,24 @@ pub fn assert_refusal_is_right(one: &Answered, refusal: Refusal) {
                 first_asked_offender(&lent.circuit, &lent.scratch, lent.parties, *position)
             );
         }
-        (9 | 11 | 17 | 20 | 21, _) => {
-            let (list, offends) = offending(one, number).expect("the entry has such a list");
-            assert_eq!(Some(index), list.iter().position(|&x| offends(x)));
+        (
+            20,
+            Request::Receive {
+                lent,
+                position,
+                heard,
+            },
+        ) => {
+            let round = position.round(&lent.circuit).expect("a round is heard");
+            assert!(!round.is_commit());
+            // Of a reveal's nine words the first.
+            let asked = |index: usize| !round.is_reveal() || index.is_multiple_of(9);
+            let first = (0..heard.len()).find(|&index| asked(index) && heard[index] >= P);
+            assert_eq!(Some(index), first);
+        }
+        (9 | 11 | 17, _) => {
+            let list = offending(one, number).expect("the entry has such a list");
+            assert_eq!(Some(index), list.iter().position(|&x| x >= P));
         }
         _ => assert_eq!(index, 0),
     }
@@ -88,6 +98,17 @@ fn first_asked_offender(
     (0..scratch.len()).find(|&index| asked(index) && scratch[index] >= P)
 }
 
+/// Where the nonce stands in a party's scratch: after shares, MAC shares, opened entries and MAC shares of these.
+fn nonce_place(circuit: &[u32]) -> usize {
+    let count = |kind| {
+        circuit
+            .chunks_exact(4)
+            .filter(|line| line[0] == kind)
+            .count()
+    };
+    2 * (circuit.len() / 4) + 2 * (2 * count(6) + count(8) + 1)
+}
+
 /// On a refusal every list is as before; otherwise nothing beyond what is due is written.
 pub fn assert_written_as_due(one: &Answered) {
     let refused = one.answer.refusal().is_some();
@@ -97,32 +118,57 @@ pub fn assert_written_as_due(one: &Answered) {
                 lent,
                 out: before,
                 position,
+                nonce,
                 ..
             },
-            Answer::Send { out, .. },
+            Answer::Send { scratch, out, .. },
         ) => {
-            let words = match position.round(&lent.circuit) {
-                Some(round) if !refused => round.words(),
-                _ => 0,
-            };
+            let round = position.round(&lent.circuit).filter(|_| !refused);
+            let words = round.map_or(0, Round::words);
             assert_eq!(before[words..], out[words..]);
-            assert!(out[..words].iter().all(|&word| word < P));
+            let mut written = lent.scratch.clone();
+            match round {
+                // The nonce is written, high byte first, and nothing else.
+                Some(round) if round.is_commit() => {
+                    let place = nonce_place(&lent.circuit);
+                    for (number, bytes) in written[place..].iter_mut().zip(nonce.chunks(4)) {
+                        *number = u32::from_be_bytes(bytes.try_into().unwrap());
+                    }
+                }
+                // What is posted is the check share and the nonce as it stands.
+                Some(round) if round.is_reveal() => {
+                    assert_eq!(out[0], position.held);
+                    let place = nonce_place(&lent.circuit);
+                    assert_eq!(out[1..9], lent.scratch[place..place + 8]);
+                }
+                _ => assert!(out[..words].iter().all(|&word| word < P)),
+            }
+            assert_eq!(written, *scratch);
         }
-        (Request::Receive { lent, position, .. }, Answer::Receive { result, scratch }) => {
+        (
+            Request::Receive {
+                lent,
+                position,
+                heard,
+            },
+            Answer::Receive { result, scratch },
+        ) => {
             let untouched = match result {
-                Err(_) | Ok(Received::Aborted(_)) => true,
-                Ok(_) => matches!(
-                    position.stage,
-                    Stage::Receive(Sort::CommitOpened | Sort::RevealOpened | Sort::CommitOutput)
-                ),
+                Err(_) | Ok(Received::Aborted { .. }) => true,
+                Ok(_) => position.stage == Stage::Receive(Sort::RevealOpened),
             };
+            let mut written = lent.scratch.clone();
             if untouched {
-                assert_eq!(lent.scratch, *scratch);
+                assert_eq!(written, *scratch);
+                return;
+            }
+            // Marks are written as they are heard, and by a commitment nothing else.
+            let marks = nonce_place(&lent.circuit) + 8;
+            if let Stage::Receive(Sort::CommitOpened | Sort::CommitOutput) = position.stage {
+                written[marks..marks + heard.len()].copy_from_slice(heard);
+                assert_eq!(written, *scratch);
             } else {
-                let len = circuit::shape(lent.parties, &lent.circuit)
-                    .unwrap()
-                    .scratch_len();
-                assert_eq!(lent.scratch[len..], scratch[len..]);
+                assert_eq!(written[marks - 8..], scratch[marks - 8..]);
             }
         }
         (

@@ -18,6 +18,7 @@ pub struct Case {
     pub preps: Vec<u32>,
     pub inputs: Vec<u32>,
     pub coefficients: Vec<u32>,
+    pub nonces: Vec<u8>,
 }
 
 /// What a run leaves.
@@ -44,6 +45,7 @@ impl Case {
             preps: prep::make(random, parties, &circuit, key),
             inputs: (0..shape.inputs).map(|_| random.edge_element()).collect(),
             coefficients: random.elements(shape.coefficients()),
+            nonces: random.bytes(shape.nonces()),
             circuit,
             shape,
         }
@@ -92,6 +94,7 @@ impl Case {
             &self.inputs,
             &mut left.scratch,
             &self.coefficients,
+            &self.nonces,
             &mut left.transcript,
             &mut left.outputs,
         );
@@ -109,6 +112,8 @@ impl Case {
             .map(|(view, band)| open(view, band).unwrap())
             .collect();
         let (mut rounds, mut words, mut outputs, mut used) = (0, 0, 0, 0);
+        let mut nonces = &self.nonces[..];
+        let mut named = None;
         let ending = loop {
             let at = positions[0];
             let round = match at.stage {
@@ -117,6 +122,7 @@ impl Case {
                 Stage::Aborted => {
                     break Ending::Aborted {
                         gate: positions[0].gate,
+                        party: named,
                     }
                 }
                 Stage::Receive(_) => panic!("a receiving half comes after its sending half"),
@@ -132,13 +138,15 @@ impl Case {
             let mut heard = Vec::new();
             for ((view, band), position) in views
                 .iter()
-                .zip(left.scratch.chunks_exact(len))
+                .zip(left.scratch.chunks_exact_mut(len))
                 .zip(&mut positions)
             {
-                let mut out = [u32::MAX; 2];
-                *position = send(view, band, *position, coefficients, &mut out).unwrap();
-                assert!(out[round.words()..].iter().all(|&word| word == u32::MAX));
-                heard.extend(&out[..round.words()]);
+                let (nonce, later) = nonces.split_at(if round.is_commit() { 32 } else { 0 });
+                nonces = later;
+                let mut out = vec![u32::MAX; round.words() + 1];
+                *position = send(view, band, *position, coefficients, nonce, &mut out).unwrap();
+                assert_eq!(out.pop(), Some(u32::MAX));
+                heard.extend(out);
             }
             alter(rounds, round, &mut heard);
             left.transcript[words..words + heard.len()].copy_from_slice(&heard);
@@ -160,8 +168,13 @@ impl Case {
                         released = Some(output);
                         next
                     }
-                    Received::Aborted(next) => {
+                    Received::Aborted {
+                        position: next,
+                        party,
+                    } => {
                         assert_eq!(before, band);
+                        assert!(view.party == 0 || named == party);
+                        named = party;
                         next
                     }
                 };
