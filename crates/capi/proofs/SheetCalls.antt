@@ -1,25 +1,23 @@
 -- The calls that read and write sheets: one whose answer has room does what its entry does. Lent no list, the reader and the writer are refused last,
 -- as a call whose answer has no room.
 -- Assumes nothing.
-use Prim.Native.Nat.{ℕ, suc, _+_, _*_, _-_, _<_, _≤_}
+use Prim.Native.Nat.{ℕ, suc, _-_, _<_}
 use mathlib.Core.Path.{_≡_, refl, sym, ap, _∙_}
-use mathlib.Core.Bool.{Bool}
-use mathlib.Core.List.{List, [], _++_}
+use mathlib.Core.List.{List, []}
 use native.Mathlib.Omega.{arith}
 use lib.ListN.{length, length-append}
 use lib.Dec.{leb}
 use borrow.Author.Tests.{lt-leb}
 use Rattle.field.specs.Words.{size, largest}
 use Rattle.circuit.specs.Verdict.{Verdict, Accepted, Refused, ask, _then_}
-use Rattle.circuit.specs.Gate.{gateSize, gates}
+use Rattle.circuit.specs.Gate.{gates}
 use Rattle.circuit.specs.Accept.{askCircuit}
-use Rattle.circuit.specs.Valid.{Valid}
 use Rattle.circuit.proofs.Valid.{valid}
 use Rattle.circuit.proofs.Verdicts.{ask-no}
 use Rattle.protocol.specs.Ask.{askParties}
 use Rattle.protocol.specs.Send.{overwrite}
 use Rattle.protocol.specs.Entry.{leave}
-use Rattle.forms.specs.Form.{printRows, print, feed}
+use Rattle.forms.specs.Form.{printRows, print}
 use Rattle.forms.specs.Machine.{reading}
 use Rattle.forms.specs.Entry.{
   Answer,

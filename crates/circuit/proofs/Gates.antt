@@ -1,27 +1,19 @@
 -- What an accepted circuit's gates are: which gates are there, what they name, and how it starts.
 -- Assumes nothing.
-use Prim.Native.Nat.{ℕ, zero, suc, _+_, _*_, _<_, _≤_}
+use Prim.Native.Nat.{ℕ, zero, suc, _<_, _≤_}
 use mathlib.Core.Path.{_≡_, refl, subst}
 use mathlib.Core.Bool.{true, false, not}
 use mathlib.Core.List.{List}
 use native.Mathlib.Nat.{not-suc-le-zero}
 use native.Mathlib.Omega.{arith}
-use lib.ListN.{length, List·getD-eq-default}
 use lib.Dec.{eqb, leb}
 use borrow.Author.Tests.{eqb-true, ne-eqb, leb-true}
-use Rattle.circuit.specs.Gate.{gateSize, Kind, kindOut, firstKind, lastKind, decode, Out, Gate, gateOf, entry, gate, gates}
+use Rattle.circuit.specs.Gate.{Kind, kindOut, firstKind, lastKind, decode, Out, Gate, gateOf, gate, gates}
 use Rattle.circuit.specs.Kind.{Class, Local, Owned, Opens, Output, Role, kindShape, isClass, shape, factor}
 use Rattle.circuit.specs.Accept.{isKind}
 use Rattle.circuit.specs.Valid.{Ref, Fits, Valid}
 use Rattle.circuit.proofs.Tests.{by-cases, both-right, false-no}
 use Rattle.circuit.proofs.KindLaws.{gate-facts}
-
--- past the end stands an out gate
-pub gate-past : (c : List ℕ) (j : ℕ) → length c ≤ gateSize * j → gate c j .kind ≡ Out
-unfolding gate entry decode
-gate-past c j h =
-    let kind : length c ≤ gateSize * j + 0 = omega arith in
-    rw (List·getD-eq-default c 0 kind)
 
 -- below the last kind are the others, and above it is none
 pub no-last : (k : ℕ) → k < lastKind → eqb k lastKind ≡ false

@@ -1,14 +1,14 @@
 -- Which rounds a class has, what follows each of them, and what the rounds of a gate come to.
 -- Assumes nothing.
 use Prim.Native.Nat.{ℕ, zero, suc, _+_, _*_, _≤_}
-use mathlib.Core.Path.{_≡_, refl, ap, sym, _∙_}
+use mathlib.Core.Path.{_≡_, refl, sym, _∙_}
 use mathlib.Core.Logic.{_⊎_, inl, inr}
-use mathlib.Core.Bool.{Bool, true, false, cond, _&&_, _||_}
+use mathlib.Core.Bool.{Bool, true, false, _&&_, _||_}
 use mathlib.Core.List.{List, [], _∷_}
 use native.Mathlib.Numerals.{add-one}
 use native.Mathlib.Omega.{arith}
 use lib.Dec.{eqb}
-use borrow.Author.Tests.{eqb-true, eqb-false}
+use borrow.Author.Tests.{eqb-true}
 use Rattle.circuit.specs.Gate.{Kind, gate}
 use Rattle.circuit.specs.Kind.{Class, Local, Owned, Opens, Output, Shape, kindShape, shape, isClass}
 use Rattle.circuit.specs.Count.{unchecked, uncheckedAfter}
@@ -30,13 +30,6 @@ RoundClass Own k = (k ≡ Owned) ⊎ (k ≡ Opens)
 RoundClass Open k = k ≡ Output
 RoundClass (Commit h) k = k ≡ Output
 RoundClass (Reveal h) k = k ≡ Output
-
--- a check is there
-abbrev pub Pending : Round → ℕ → Type 0
-Pending Own u = Unit {0}
-Pending Open u = Unit {0}
-Pending (Commit h) u = hasCheck u h ≡ true
-Pending (Reveal h) u = hasCheck u h ≡ true
 
 -- the rounds of a gate that follow a check, and one of its rounds
 abbrev pub afterCheck : Check → List Round
@@ -100,12 +93,6 @@ module _ (u : ℕ) where
       go Open Output h = refl
       go (Commit x) k h = check-pending x k h .0
       go (Reveal x) k h = check-pending x k h .0
-
-  pub round-pending : (r : Round) (k : Class) → among r (classRounds u k) ≡ true → Pending r u
-  round-pending Own k e = tt
-  round-pending Open k e = tt
-  round-pending (Commit h) k e = check-pending h k (sym (is-among (Commit h) k) ∙ e) .1
-  round-pending (Reveal h) k e = check-pending h k (sym (is-among (Reveal h) k) ∙ e) .1
 
   -- what follows a round in the rounds of an output, and in those of the other classes
   output-after : (r : Round) → among r (classRounds u Output) ≡ true → following r (classRounds u Output) ≡ after r
@@ -249,10 +236,6 @@ module _ (c : List ℕ) (j : ℕ) where
   pub class-at-round : (r : Round) → among r (rounds c j) ≡ true → RoundClass r (shape (gate c j) .class)
   unfolding rounds
   class-at-round r = round-class (unchecked c j) r (shape (gate c j) .class)
-
-  pub pending-at-round : (r : Round) → among r (rounds c j) ≡ true → Pending r (unchecked c j)
-  unfolding rounds
-  pending-at-round r = round-pending (unchecked c j) r (shape (gate c j) .class)
 
   pub after-round : (r : Round) → among r (rounds c j) ≡ true → following r (rounds c j) ≡ after r
   unfolding rounds

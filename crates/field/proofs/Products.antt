@@ -3,7 +3,7 @@
 use Prim.Native.Nat.{ℕ, _+_, _*_, _/_, _%_}
 use native.Mathlib.Omega.{arith}
 use mathlib.Core.Path.{_≡_, ap, sym, _∙_}
-use Rattle.field.specs.Prime.{p, norm, add, mul}
+use Rattle.field.specs.Prime.{norm, add, mul}
 use Rattle.field.specs.Prime.Laws.{norm-eq, add-eq, mul-eq, add-norm}
 use Rattle.field.proofs.Laws.{laws}
 use Rattle.algebra.proofs.Ring.{add-norm-r}

@@ -1,14 +1,14 @@
 -- Where a run stands after a round: at the same gate, or where the linear gates after it lead. These count nothing.
 -- Assumes nothing.
-use Prim.Native.Nat.{ℕ, zero, suc, _+_, _-_, _<_, _≤_}
+use Prim.Native.Nat.{ℕ, suc, _+_, _-_, _<_}
 use mathlib.Core.Path.{_≡_, sym, ap, subst, _∙_}
-use mathlib.Core.Bool.{Bool, true, false, cond}
+use mathlib.Core.Bool.{cond}
 use mathlib.Core.List.{List}
 use native.Mathlib.Decide.{ℕ-discrete}
 use native.Mathlib.Numerals.{add-one}
 use native.Mathlib.Omega.{arith}
 use Rattle.circuit.specs.Gate.{Gate, gate, gates}
-use Rattle.circuit.specs.Kind.{Output, isOut, isLinear, ownedBy, shape}
+use Rattle.circuit.specs.Kind.{Output, isOut, ownedBy, shape}
 use Rattle.circuit.specs.Count.{total, count, prepAt, inputAt, unchecked}
 use Rattle.circuit.specs.Valid.{Valid}
 use Rattle.circuit.proofs.Counts.{total-mono}
@@ -27,15 +27,6 @@ module _ (c : List ℕ) where
   total-over : (f : Gate → ℕ) → ((g : Gate) → Idle g → f g ≡ 0) → (left j : ℕ) → j + left ≡ gates c → total f c (reach c left j) ≡ total f c j
   unfolding total
   total-over f none left j e = reached c left j e .passes (total f c) (λ x l. rw (none (gate c x) (idle (gate c x) l)) (omega arith))
-
-  reach-later : (left j : ℕ) → j ≤ reach c left j
-  unfolding reach
-  reach-later zero j = omega arith
-  reach-later (suc left) j = go (isLinear (gate c j)) (reach-later left (suc j))
-    where
-      go : (b : Bool) → suc j ≤ reach c left (suc j) → j ≤ cond b (reach c left (suc j)) j
-      go true h = omega arith
-      go false h = omega arith
 
   module _ (j : ℕ) (h : j < gates c) where
     rest : (j + 1) + (gates c - (j + 1)) ≡ gates c

@@ -1,17 +1,14 @@
 -- What an entry answers and leaves, by what its questions come to.
 -- Assumes nothing.
-use Prim.Native.Nat.{ℕ, suc, _-_}
-use mathlib.Core.Path.{_≡_, refl, sym, ap, _∙_}
-use mathlib.Core.Bool.{Bool, true, false, cond}
-use mathlib.Core.List.{List, [], _∷_}
+use Prim.Native.Nat.{ℕ, _-_}
+use mathlib.Core.Path.{_≡_, sym, ap, _∙_}
+use mathlib.Core.Bool.{true}
+use mathlib.Core.List.{List, []}
 use lib.ListN.{length}
-use lib.Dec.{ltb}
-use Rattle.circuit.specs.Gate.{gates}
 use Rattle.algebra.specs.Ops.{Ops}
 use Rattle.circuit.specs.Verdict.{Verdict, Accepted, Refused, ask, _then_}
-use Rattle.circuit.specs.Round.{Round, rounds, following}
-use Rattle.protocol.specs.Scratch.{layout, read, Value}
-use Rattle.protocol.specs.Position.{Position, occurs, Point, Stage, Send, Receive, Finished, Aborted, holding, start, keep, whenSending, whenReceiving, finished, aborted, begin, reach, enter, resume, proceed, follow}
+use Rattle.circuit.specs.Round.{Round}
+use Rattle.protocol.specs.Position.{Position, occurs, Stage, Send, Receive, holding, start, whenSending, whenReceiving}
 use Rattle.protocol.specs.Party.{Party}
 use Rattle.protocol.specs.Send.{sent, holds, noted, overwrite}
 use Rattle.protocol.specs.Receive.{finds, left}

@@ -6,7 +6,7 @@ use mathlib.Core.Bool.{Bool, true, false, cond}
 use mathlib.Core.List.{List, [], _∷_}
 use native.Mathlib.Omega.{arith}
 use lib.Dec.{eqb, ltb}
-use borrow.Author.Tests.{ltb-true, lt-ltb, le-ltb, eqb-true, eq-eqb, ne-eqb}
+use borrow.Author.Tests.{ltb-true, lt-ltb, le-ltb, eq-eqb, ne-eqb}
 use Rattle.algebra.specs.Ops.{Ops}
 use Rattle.circuit.specs.Gate.{Gate, gate, gates}
 use Rattle.circuit.specs.Kind.{Class, Local, Owned, Opens, Output, shape, isClass, isLinear}

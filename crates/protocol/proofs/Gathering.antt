@@ -1,4 +1,4 @@
--- Lists that are gone through party by party: a number of each gathered, a number of each given away, and words put one after another.
+-- Lists that are gone through party by party: what holds of each entry, a list of zeros, and words put one after another.
 -- Assumes nothing.
 use Prim.Native.Nat.{ℕ, zero, suc, _+_, _-_, _*_, _<_, _≤_}
 use mathlib.Core.Path.{_≡_, refl, sym, ap, _∙_}
@@ -7,10 +7,9 @@ use native.Mathlib.Decide.{ℕ-discrete}
 use native.Mathlib.Nat.{add-sub-cancel-left}
 use native.Mathlib.Numerals.{add-one}
 use native.Mathlib.Omega.{arith}
-use lib.ListN.{length, getD, set, take, drop, replicate, length-set, length-drop, drop-of-length-le}
+use lib.ListN.{length, getD, set, take, drop, replicate, length-drop, drop-of-length-le}
 use lib.Seq.{getD-set-same, getD-set-other, length-take-le, set-split, drop-drop}
 use borrow.Rule.Slice.PartMut.{putMid}
-use Rattle.algebra.specs.Element.{Is}
 use Rattle.protocol.specs.Send.{overwrite}
 use Rattle.protocol.specs.Joint.{joined}
 use Rattle.protocol.proofs.Filling.{Filled, filled-length, filled-again, filled-done}
@@ -29,48 +28,6 @@ pub zeros : (n i : ℕ) → _≡_ {A = ℕ} (getD (replicate n 0) i 0) 0
 zeros zero i = refl
 zeros (suc n) zero = refl
 zeros (suc n) (suc i) = zeros n i
-
--- a list xs of as many numbers as there are in xs₀ has w m for each party m before i
-pub record Gathered (q : ℕ) (w : ℕ → ℕ) (xs₀ xs : List ℕ) (i : ℕ) : Type 0 where
-  pub long : length xs ≡ length xs₀
-  pub each : (m : ℕ) → m < i → Is q (w m) (getD xs m 0)
-
-module _ {q : ℕ} {w : ℕ → ℕ} {xs₀ : List ℕ} where
-  pub gathered-none : Gathered q w xs₀ xs₀ 0
-  gathered-none = record { long = refl; each = λ m h. absurd (omega arith) }
-
-  module _ (n : ℕ) {xs : List ℕ} {i : ℕ} (g : Gathered q w xs₀ xs i) where
-    pub gathered-more : n ≤ length xs₀ → i < n → {x : ℕ} → Is q (w i) x → Gathered q w xs₀ (set xs i x) (i + 1)
-    gathered-more few h {x} e =
-        record {
-          long = length-set xs i x ∙ g .long;
-          each = each-set 0 (λ m z. Is q (w m) z) xs i x (omega (arith, g .long)) (g .each) e;
-        }
-
-    pub gathered-all : n ≤ i → (m : ℕ) → m < n → Is q (w m) (getD xs m 0)
-    gathered-all h m l = g .each m (omega arith)
-
--- the parties before i have given away their numbers of xs₀, and the others have them
-pub record Given (xs₀ xs : List ℕ) (i : ℕ) : Type 0 where
-  pub long : length xs ≡ length xs₀
-  pub none : (m : ℕ) → m < i → getD xs m 0 ≡ 0
-  pub rest : (m : ℕ) → i ≤ m → getD xs m 0 ≡ getD xs₀ m 0
-
-module _ {xs₀ : List ℕ} where
-  pub given-none : Given xs₀ xs₀ 0
-  given-none = record { long = refl; none = λ m h. absurd (omega arith); rest = λ m h. refl }
-
-  module _ (n : ℕ) {xs : List ℕ} {i : ℕ} (g : Given xs₀ xs i) where
-    pub given-more : n ≤ length xs₀ → i < n → Given xs₀ (set xs i 0) (i + 1)
-    given-more few h =
-        record {
-          long = length-set xs i 0 ∙ g .long;
-          none = each-set 0 (λ m z. z ≡ 0) xs i 0 (omega (arith, g .long)) (g .none) refl;
-          rest = λ m l. getD-set-other xs i m 0 0 (λ e. omega (arith, e)) ∙ g .rest m (omega arith);
-        }
-
-    pub given-all : n ≤ i → (m : ℕ) → m < n → getD xs m 0 ≡ 0
-    given-all h m l = g .none m (omega arith)
 
 -- words are put, k a party, into a list of that length
 module _ (n k : ℕ) (out₀ : List ℕ) (long : length out₀ ≡ n * k) where

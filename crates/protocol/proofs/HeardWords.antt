@@ -11,7 +11,7 @@ use Rattle.algebra.specs.Element.{Is}
 use Rattle.algebra.specs.Ops.{Ops}
 use Rattle.circuit.specs.Gate.{Gate, gate, gates}
 use Rattle.circuit.specs.Kind.{Class, Owned, Opens, Output, shape, isClass, isIn}
-use Rattle.circuit.specs.Round.{Check, Round, Own, Open, Commit, Reveal, revealWords, shapeWords, words}
+use Rattle.circuit.specs.Round.{Round, Own, Open, Commit, Reveal, shapeWords, words}
 use Rattle.circuit.specs.Valid.{Valid}
 use Rattle.circuit.proofs.KindLaws.{is-class, class-is, opens-no-in, opens-no-out, output-no-in, owned-facts, opens-facts, output-facts}
 use Rattle.circuit.proofs.Gates.{owner-named}
@@ -121,9 +121,3 @@ module _ (O : Ops) (n : ℕ) (heard : List ℕ) (r : Round) (g : Gate) where
   pub output-heard : shape g .class ≡ Output → heardFirst O n g r heard ≡ heardSum O n (words g r) 0 heard
   unfolding heardFirst
   output-heard e = rw (output-no-in e)
-
--- the words of a reveal come to their sum
-pub reveal-heard : (O : Ops) {q n : ℕ} {c : List ℕ} {j : ℕ} {heard : List ℕ} (k : Check) → Hears q n c j (Reveal k) heard
-    → heardFirst O n (gate c j) (Reveal k) heard ≡ heardSum O n revealWords 0 heard
-unfolding shapeWords
-reveal-heard O {q} {n} {c} {j} {heard} k s = output-heard O n heard (Reveal k) (gate c j) (class-at-round c j (Reveal k) (s .occurs))

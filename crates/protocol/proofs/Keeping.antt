@@ -14,13 +14,13 @@ use Rattle.algebra.proofs.Sums.{sum-lt}
 use Rattle.circuit.specs.Gate.{gate, gates}
 use Rattle.circuit.specs.Kind.{Class, Local, Owned, Opens, Output, shape, isClass}
 use Rattle.circuit.specs.Count.{unchecked}
-use Rattle.circuit.specs.Round.{First, Second, Round, Own, Open, Commit, Reveal, isCommit, isReveal, checkRounds, classRounds, rounds, among, shapeWords, words, checked, openedIn, nonceIn, nonceSize, nonceWords}
+use Rattle.circuit.specs.Round.{First, Second, Round, Own, Open, Commit, Reveal, isCommit, checkRounds, classRounds, rounds, among, shapeWords, words, checked, openedIn, nonceIn, nonceSize, nonceWords}
 use Rattle.circuit.specs.Valid.{Valid}
 use Rattle.circuit.proofs.Counts.{unchecked-valued, unchecked-out, unchecked-fits, unchecked-within}
 use Rattle.circuit.proofs.KindLaws.{class-is, owned-no-out, opens-no-out, owned-facts, opens-facts}
 use Rattle.circuit.proofs.Gates.{output-named}
 use Rattle.circuit.proofs.RoundLaws.{class-at-round}
-use Rattle.circuit.proofs.Tests.{false-no, by-cases}
+use Rattle.circuit.proofs.Tests.{by-cases}
 use Rattle.protocol.specs.Scratch.{layout, slotsSize, scratchSize, putNonce}
 use Rattle.sha256.specs.Sha256.{wordsOf}
 use Rattle.sha256.proofs.Bytes.{length-words}
@@ -32,8 +32,8 @@ use Rattle.protocol.specs.declared.Layout.{Layout}
 use Rattle.protocol.specs.declared.Site.{Site}
 use Rattle.protocol.specs.Holding.{Held, Worked}
 use Rattle.protocol.specs.Code.{Sited}
-use Rattle.protocol.specs.Ready.{Ready, Receives}
-use Rattle.protocol.proofs.Following.{followed, unchecked-reach, next-followed, next-aborted, next-possible}
+use Rattle.protocol.specs.Ready.{Ready}
+use Rattle.protocol.proofs.Following.{followed, unchecked-reach, next-followed, next-aborted}
 use Rattle.protocol.proofs.Writing.{OpenedTo, worked-skip}
 use Rattle.protocol.proofs.Tails.{slots-room, marks-room, nonce-room, nonce-length, marks-length, read-nonce, read-marks, worked-same, opened-same}
 use Rattle.protocol.proofs.Settling.{Keeps, settle-keeps}
@@ -257,20 +257,6 @@ ready-next {q} P l₀ l y at₀ at r₀ r x k s o sited e f =
       worked = t .0;
       opened = t .1;
     }
-
--- the invariant: what is asked of one round and its words gives what is asked of the round that follows
-pub received-ready : {O : Ops} (F : Field O) (P : Party) (l : List ℕ) (y : Layout) (at at′ : Site) (r r′ : Round) (heard : List ℕ)
-    → Receives (O .size) P l y at r heard
-    → (v : Ruling)
-    → (passed v ≡ false → isReveal r ≡ true)
-    → Sited (P .circuit) (P .me) at′
-    → at′ .gate ≡ next (P .circuit) (at .gate) r v .gate
-    → next (P .circuit) (at .gate) r v .stage ≡ Send r′
-    → Ready (O .size) P (left O P v l (at .gate) r heard) y at′ r′
-received-ready {O} F P l y at at′ r r′ heard s v lawful sited e f =
-    let k = s .ready in
-    let o = next-possible (P .circuit) (at .gate) v r (k .occurs) lawful (k .sited .within) in
-    ready-next P l _ y at at′ r r′ _ k (received-stands F P l (at .gate) heard r (ready-stood k) (s .whole) v) (o .occurs) sited e f
 
 -- nothing is asked of the scratch where a run starts
 pub start-stands : (q : ℕ) (c l : List ℕ) → Stands q c l 0 (Send Own)

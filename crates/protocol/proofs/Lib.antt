@@ -29,7 +29,6 @@ pub mod Front
 pub mod Said
 pub mod Marks
 pub mod Gathering
-pub mod Dues
 pub mod Runs
 pub mod SlotQuestions
 pub mod Entries

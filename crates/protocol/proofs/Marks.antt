@@ -15,13 +15,12 @@ use Rattle.sha256.specs.Digest.{same}
 use Rattle.sha256.specs.Digest.Laws.{digest-long}
 use Rattle.sha256.proofs.Bytes.{length-words}
 use Rattle.sha256.proofs.Alike.{same-refl}
-use Rattle.circuit.specs.Round.{Check, Round, Commit, Reveal, isReveal, commitWords, nonceSize, nonceWords, revealWords}
+use Rattle.circuit.specs.Round.{Check, Round, Own, Open, Commit, Reveal, isReveal, commitWords, nonceSize, nonceWords, revealWords}
 use Rattle.circuit.proofs.Tests.{by-cases, false-no}
-use Rattle.protocol.specs.Scratch.{layout, scratchSize, marksAt, band, nonceOf, marksOf, putNonce, putMarks}
-use Rattle.protocol.specs.Party.{Party}
+use Rattle.protocol.specs.Scratch.{layout, scratchSize, nonceOf, marksOf, putNonce, putMarks}
 use Rattle.protocol.specs.Send.{mark, revealed, sent, holds, noted}
 use Rattle.protocol.specs.Position.{keep}
-use Rattle.protocol.specs.Receive.{Blame, Nobody, Blames, Ruling, Passed, Stopped, passed, firstBlame, fits, misfit, weighs, heardSum, ruling, received, finds, left}
+use Rattle.protocol.specs.Receive.{Blame, Nobody, Blames, Ruling, Passed, Stopped, passed, firstBlame, fits, misfit, weighs, heardSum, received, finds, left}
 use Rattle.protocol.specs.Joint.{Joint, joined, party, nonceFor}
 use Rattle.protocol.specs.Run.{State, firstRuling, lowest, taken, said, notes, ends, step}
 use Rattle.protocol.proofs.Tails.{nonce-put, marks-put, nonce-marks, nonce-length, marks-length, length-nonce, marks-room, nonce-room}
@@ -88,6 +87,14 @@ module _ (O : Ops) (J : Joint) where
   pub ends-reveals : (s : State) (r : Round) → passed (ends O J s r) ≡ false → isReveal r ≡ true
   ends-reveals s r h = by-cases (isReveal r) (λ e. e) (λ e. false-no (sym h ∙ ap passed (ends-other s r e)))
 
+  -- a reveal notes nothing
+  pub notes-reveal : (s : State) (r : Round) (i : ℕ) → isReveal r ≡ true → notes O J s r i ≡ s .scratch i
+  unfolding notes noted
+  notes-reveal s Own i e = false-no e
+  notes-reveal s Open i e = false-no e
+  notes-reveal s (Commit k) i e = false-no e
+  notes-reveal s (Reveal k) i e = refl
+
   -- every party has the marks of all that is held and noted
   pub record Sealed (s : State) : Type 0 where
     pub marks : (i : ℕ) → i < n
@@ -114,12 +121,17 @@ module _ (O : Ops) (J : Joint) where
           band-joined commitWords n (λ i. mark (revealed (s .held i) (nonceOf (layout c) (s .scratch i)))) (λ i l. unfold mark in digest-long _) t lt,
         ) (unfold mark in refl))
 
-    -- so the sum alone decides
+    -- so for every party the sum alone decides ..
+    pub sealed-finds : (i : ℕ) → i < n
+        → finds O (party J i) (notes O J s (Reveal k) i) (Reveal k) (said O J s (Reveal k))
+        ≡ weighs Nobody (eqb (heardSum O n revealWords 0 (said O J s (Reveal k))) 0)
+    unfolding finds notes noted party
+    sealed-finds i l = ruling-fits O n _ (said O J s (Reveal k)) (Reveal k) refl (all-fit n _ _ (reveals-fit i l))
+
+    -- .. and for all together
     pub sealed-ends : 0 < n → ends O J s (Reveal k) ≡ weighs Nobody (eqb (heardSum O n revealWords 0 (said O J s (Reveal k))) 0)
-    unfolding ends finds notes noted party
-    sealed-ends some =
-        lowest-alike n _ _ some
-        (λ i l. ruling-fits O n _ (said O J s (Reveal k)) (Reveal k) refl (all-fit n _ _ (reveals-fit i l)))
+    unfolding ends
+    sealed-ends some = lowest-alike n _ _ some sealed-finds
 
   -- after a commitment all is so
   pub commit-sealed : (s : State) (k : Check)

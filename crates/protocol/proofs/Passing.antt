@@ -4,10 +4,10 @@ use Prim.Native.Nat.{ℕ, _*_, _<_, _≤_}
 use mathlib.Core.Path.{_≡_, refl}
 use mathlib.Core.Bool.{Bool, true, false, cond, not, _||_}
 use mathlib.Core.List.{List}
-use lib.ListN.{length, getD}
+use lib.ListN.{length}
 use lib.Dec.{ltb, eqb}
 use borrow.Author.Tests.{lt-ltb, le-leb, eq-eqb}
-use Rattle.circuit.specs.Verdict.{Accepted, ask, each}
+use Rattle.circuit.specs.Verdict.{Accepted}
 use Rattle.circuit.specs.Gate.{gate, gates}
 use Rattle.circuit.specs.Count.{prepSize, inputCount, unchecked}
 use Rattle.circuit.specs.Round.{Round, Own, Open, Commit, Reveal, isCommit, isReveal, revealWords, rounds, among, words, openedIn, coefficientsIn, nonceIn}

@@ -2,7 +2,6 @@
 -- Assumes nothing.
 use Prim.Native.Nat.{ℕ, _+_, _-_, _*_, _<_, _≤_}
 use mathlib.Core.Path.{_≡_, refl, ap, _∙_}
-use mathlib.Core.Logic.{_⊎_, inl, inr}
 use mathlib.Core.Bool.{true, false}
 use mathlib.Core.List.{List}
 use native.Mathlib.Numerals.{add-one}
@@ -10,7 +9,7 @@ use native.Mathlib.Omega.{arith}
 use lib.ListN.{length, getD, drop}
 use Rattle.algebra.specs.Ops.{Ops}
 use Rattle.circuit.specs.Gate.{gateSize, gate}
-use Rattle.circuit.specs.Kind.{Local, Owned, Opens, Output, shape}
+use Rattle.circuit.specs.Kind.{Owned, Opens, shape}
 use Rattle.circuit.specs.Round.{Check, First, Second, Round, Own, Open, Commit, Reveal}
 use Rattle.circuit.proofs.KindLaws.{owned-facts}
 use Rattle.protocol.specs.Scratch as S
@@ -143,9 +142,3 @@ module _ (O : Ops) (P : Party) (l : List ℕ) (j : ℕ) (heard : List ℕ) where
   pub left-stopped : (v : Ruling) (r : Round) → passed v ≡ false → l ≡ left O P v l j r heard
   unfolding left
   left-stopped v r h = rw h
-
-  pub received-nothing : (shape (gate (P .circuit) j) .class ≡ Local) ⊎ (shape (gate (P .circuit) j) .class ≡ Output)
-      → l ≡ received O P l j Own heard
-  unfolding received ownReceived
-  received-nothing (inl c) = rw c
-  received-nothing (inr c) = rw c

@@ -8,7 +8,7 @@ use native.Mathlib.Omega.{arith}
 use lib.ListN.{length}
 use Rattle.algebra.specs.Ops.{Ops}
 use Rattle.circuit.specs.Round.{Round}
-use Rattle.protocol.specs.Position.{Stage, Send, Receive, Finished, Aborted, aborted, follow, whenSending}
+use Rattle.protocol.specs.Position.{Stage, Send, aborted, follow, whenSending}
 use Rattle.protocol.specs.Receive.{Ruling, passed, next}
 use Rattle.protocol.specs.Entry.{releases}
 use Rattle.protocol.specs.Joint.{Joint}
@@ -17,13 +17,6 @@ use Rattle.protocol.specs.Run.{State, Run, ends, step, released, still, 
 -- nothing is sent at a stage
 abbrev pub Over : Stage → Type 1
 Over x = (A : Type 0) (a : A) (g : Round → A) → whenSending x a g ≡ a
-
-pub over-of : (x : Stage) → ((r : Round) → x ≡ Send r → ⊥) → Over x
-unfolding whenSending
-over-of (Send r) h A a g = absurd (h r refl)
-over-of (Receive r) h A a g = refl
-over-of Finished h A a g = refl
-over-of Aborted h A a g = refl
 
 module _ (O : Ops) (J : Joint) (k : ℕ) (s : State) where
   -- A run goes on with a round at a sending half ..

@@ -2,17 +2,15 @@
 -- Assumes nothing.
 use Prim.Native.Nat.{ℕ, _+_, _*_, _<_, _≤_}
 use mathlib.Core.Path.{_≡_, refl, _∙_}
-use mathlib.Core.Logic.{_⊎_, inl, inr}
-use mathlib.Core.Bool.{true, false, cond}
+use mathlib.Core.Bool.{true, false}
 use mathlib.Core.List.{List, [], _∷_}
 use native.Mathlib.Omega.{arith}
-use lib.Dec.{eqb}
 use lib.ListN.{length, getD, set, drop}
 use borrow.Author.Tests.{eq-eqb, ne-eqb}
 use Rattle.algebra.specs.Ops.{Ops}
 use Rattle.algebra.specs.Element.{Is}
 use Rattle.circuit.specs.Gate.{gateSize, gate}
-use Rattle.circuit.specs.Kind.{Local, Owned, Opens, Output, shape}
+use Rattle.circuit.specs.Kind.{Owned, Opens, shape}
 use Rattle.circuit.specs.Count.{unchecked}
 use Rattle.circuit.specs.Round.{Round, Own, Open, isCommit, words, openedIn, coefficientsIn, nonceIn}
 use Rattle.circuit.proofs.KindLaws.{owned-facts, opens-facts}
@@ -26,10 +24,6 @@ use Rattle.protocol.specs.Code.{layoutOf}
 use Rattle.protocol.specs.Ready.{Ready, Sends, Named}
 use Rattle.protocol.proofs.Writing.{OpenedTo}
 use Rattle.protocol.proofs.Readiness.{gate-there, record-fits, room-there, opened-there, class-of, input-words, opening-words, opening-held, output-words, output-held}
-
-pub overwrite-none : (out : List ℕ) → out ≡ overwrite [] out
-unfolding overwrite
-overwrite-none out = refl
 
 pub overwrite-one : (w : ℕ) (out : List ℕ) → 0 < length out → set out 0 w ≡ overwrite (w ∷ []) out
 unfolding overwrite
@@ -145,14 +139,6 @@ module _ (O : Ops) (P : Party) (l : List ℕ) (y : Layout) (at : Site) (held : �
       → ws ≡ overwrite (sent O P l (at .gate) held coefficients nonce Own) out
   unfolding sent ownWords opening recordOf recordIn
   sent-opening k c n e = e ∙ rw (c, n .first, n .second, n .openings, k .sited .prep, k .lay)
-
-  -- the other classes have no round of their own
-  pub sent-nothing : (shape (gate (P .circuit) (at .gate)) .class ≡ Local) ⊎ (shape (gate (P .circuit) (at .gate)) .class ≡ Output)
-      → ws ≡ out
-      → ws ≡ overwrite (sent O P l (at .gate) held coefficients nonce Own) out
-  unfolding sent ownWords
-  sent-nothing (inl c) e = rw c (e ∙ overwrite-none out)
-  sent-nothing (inr c) e = rw c (e ∙ overwrite-none out)
 
   pub sent-output : Ready (O .size) P l y at Open
       → ws ≡ overwrite (S.wire (layoutOf y) l (gate (P .circuit) (at .gate) .first) .share ∷ []) out

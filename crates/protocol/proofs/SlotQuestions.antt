@@ -5,7 +5,7 @@ use mathlib.Core.Path.{_≡_, refl, sym, ap, _∙_}
 use mathlib.Core.Bool.{Bool, true, false, not, _||_}
 use mathlib.Core.List.{List}
 use borrow.Author.Tests.{lt-ltb, le-ltb}
-use Rattle.circuit.specs.Verdict.{Accepted, Refused, ask}
+use Rattle.circuit.specs.Verdict.{Accepted, Refused}
 use Rattle.circuit.proofs.Verdicts.{ask-yes, ask-no}
 use Rattle.protocol.specs.Scratch.{Slot, layout, offset, read}
 use Rattle.protocol.specs.Ask.{slotQuestion}

@@ -5,10 +5,10 @@ use mathlib.Core.Path.{_≡_, refl, sym, ap, _∙_}
 use mathlib.Core.List.{List, _++_, append-assoc}
 use native.Mathlib.Omega.{arith}
 use lib.ListN.{length, getD, take, drop, length-append, length-drop, List·getD-append}
-use lib.Seq.{sets, length-sets, sets-eq, length-take-le, take-at, drop-at, take-take, take-append-le, drop-append-le, drop-append-add, drop-drop, getD-take, take-add}
+use lib.Seq.{length-sets, sets-eq, length-take-le, take-at, drop-at, take-take, take-append-le, drop-append-le, getD-take, take-add}
 use Rattle.circuit.specs.Round.{commitWords, nonceWords}
 use Rattle.protocol.specs.Scratch.{Layout, layout, Slot, Share, Mac, Value, ValueMac, slotsSize, read, writtenAt, nonceAt, marksAt, scratchSize, nonceOf, marksOf, putNonce, putMarks}
-use Rattle.protocol.specs.Holding.{Within, Worked, Held, Opened}
+use Rattle.protocol.specs.Holding.{Within, Worked}
 use Rattle.protocol.proofs.Slots.{slot-fits}
 use Rattle.protocol.proofs.Writing.{OpenedTo}
 
@@ -44,18 +44,6 @@ module _ (k : ℕ) (ws xs : List ℕ) (h : k + length ws ≤ length xs) where
   getD-written i l =
       rw written-is
       (List·getD-append (take k xs) (ws ++ drop (k + length ws) xs) 0 i (omega (arith, front-long)) ∙ getD-take k xs i 0 l)
-
-  pub drop-written : (m : ℕ) → k + length ws ≤ m → drop m (writtenAt k ws xs) ≡ drop m xs
-  drop-written m l =
-      let d : ℕ = m - (k + length ws) in
-      let far : m ≡ length (take k xs) + (length ws + d) = omega (arith, front-long) in
-      let near : k + length ws + d ≡ m = omega arith in
-      rw written-is
-      (ap (λ (n : ℕ). drop n (take k xs ++ (ws ++ drop (k + length ws) xs))) far
-      ∙ drop-append-add (take k xs) (ws ++ drop (k + length ws) xs) (length ws + d)
-      ∙ drop-append-add ws (drop (k + length ws) xs) d
-      ∙ drop-drop d (k + length ws) xs
-      ∙ ap (λ (n : ℕ). drop n xs) near)
 
   -- a part that ends before the place
   pub before-written : (b a : ℕ) → b + a ≤ k → take a (drop b (writtenAt k ws xs)) ≡ take a (drop b xs)
@@ -97,10 +85,6 @@ module _ (y : Layout) (l : List ℕ) where
     unfolding nonceOf putNonce
     nonce-put = ap (λ (n : ℕ). take n (drop (nonceAt y) (writtenAt (nonceAt y) ws l))) (sym long) ∙ part-written (nonceAt y) ws l nonce-fits
 
-    pub marks-nonce : (n : ℕ) → marksOf n y (putNonce y l ws) ≡ marksOf n y l
-    unfolding marksOf putNonce marksAt
-    marks-nonce n = ap (take (n * commitWords)) (drop-written (nonceAt y) ws l nonce-fits (nonceAt y + nonceWords) (omega (arith, long)))
-
     pub read-nonce : (s : Slot) → Within y s → read y (putNonce y l ws) s ≡ read y l s
     unfolding read putNonce nonceAt
     read-nonce s w = getD-written (slotsSize y) ws l (unfold nonceAt in nonce-fits) _ (slot-fits y s (omega arith) w)
@@ -125,10 +109,6 @@ module _ (y : Layout) (l : List ℕ) where
   pub length-nonce : marksAt y ≤ length l → length (nonceOf y l) ≡ nonceWords
   unfolding nonceOf marksAt
   length-nonce h = length-take-le nonceWords (drop (nonceAt y) l) (omega (arith, length-drop (nonceAt y) l))
-
-  pub length-marks : (n : ℕ) → marksAt y + n * commitWords ≤ length l → length (marksOf n y l) ≡ n * commitWords
-  unfolding marksOf
-  length-marks n h = length-take-le (n * commitWords) (drop (marksAt y) l) (omega (arith, length-drop (marksAt y) l))
 
   -- an excess beyond the scratch does not matter
   module _ (e : List ℕ) where

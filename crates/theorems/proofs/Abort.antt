@@ -14,13 +14,12 @@ use Rattle.algebra.specs.Ops.{Ops}
 use Rattle.field.specs.Words.{ops}
 use Rattle.circuit.specs.Verdict.{Verdict, Accepted, Refused}
 use Rattle.circuit.specs.Gate.{gates}
-use Rattle.circuit.specs.Round.{Round, Own, Open, Commit, Reveal, isReveal, nonceSize, revealWords}
+use Rattle.circuit.specs.Round.{Round, isReveal, nonceSize, revealWords}
 use Rattle.circuit.specs.Round.{overRun, roundCount, checkCount}
 use Rattle.circuit.specs.Valid.{Valid}
 use Rattle.circuit.proofs.Valid.{valid}
 use Rattle.circuit.proofs.Verdicts.{ask-true, then-left, then-right}
 use Rattle.protocol.specs.Position.{Point, Stage, Send, Receive, Finished, Aborted, finished, aborted, follow}
-use Rattle.protocol.specs.Send.{noted}
 use Rattle.protocol.specs.Receive.{Nobody, Stopped, passed as goesOn, weighs, heardSum, next, left}
 use Rattle.protocol.specs.Entry.{releases}
 use Rattle.protocol.specs.Joint.{Joint, party}
@@ -33,7 +32,7 @@ use Rattle.theorems.specs.Premises.{Accepts, Enough, after}
 use Rattle.theorems.specs.Abort.{Fails, StopsAt, Stops, NamesNobody}
 use Rattle.circuit.proofs.Tests.{by-cases, false-no}
 use Rattle.protocol.proofs.Following.{weighs-zero, weighs-not}
-use Rattle.protocol.proofs.Marks.{ends-other, ends-reveals}
+use Rattle.protocol.proofs.Marks.{ends-other, ends-reveals, notes-reveal}
 use Rattle.protocol.proofs.Points.{Fits, FitsStage, spentStage, spent, goes-start, fits-follow, spent-follow, spent-le}
 use Rattle.protocol.proofs.Spending.{rounds-le}
 use Rattle.theorems.proofs.Given.{some-party}
@@ -213,13 +212,7 @@ module _ (O : Ops) (J : Joint) (scratch : List ℕ) where
       -- It writes nothing into a scratch ..
       unwritten : (i : ℕ) → left O (party J i) (ends O J (state k) r) (notes O J (state k) r i) (state k .point .gate) r (said O J (state k) r) ≡ state k .scratch i
       unfolding left
-      unwritten i = rw (f .halted) (go r (ends-reveals O J (state k) r (f .halted)))
-        where
-          go : (t : Round) → isReveal t ≡ true → notes O J (state k) t i ≡ state k .scratch i
-          go Own e = false-no e
-          go Open e = false-no e
-          go (Commit c) e = false-no e
-          go (Reveal c) e = unfold notes noted in refl
+      unwritten i = rw (f .halted) (notes-reveal O J (state k) r i (ends-reveals O J (state k) r (f .halted)))
 
       -- .. and releases no output.
       unreleased : released O J (state k) r ≡ []

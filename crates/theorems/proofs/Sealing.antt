@@ -11,7 +11,6 @@ use native.Mathlib.Omega.{arith}
 use lib.ListN.{length}
 use lib.Dec.{eqb}
 use Rattle.algebra.specs.Ops.{Ops}
-use Rattle.sha256.specs.Digest.Laws.{digest-long}
 use Rattle.sha256.specs.Sha256.{wordsOf}
 use Rattle.sha256.proofs.Bytes.{length-words}
 use Rattle.circuit.specs.Gate.{gate}
@@ -19,20 +18,19 @@ use Rattle.circuit.specs.Count.{unchecked}
 use Rattle.circuit.specs.Round.{Check, Round, Own, Open, Commit, Reveal, isCommit, isReveal, commitWords, nonceSize, nonceWords, revealWords, shapeWords, words, coefficientsIn, commitsIn, overRun, checkCount}
 use Rattle.circuit.specs.Valid.{Valid}
 use Rattle.circuit.proofs.Tests.{false-no}
-use Rattle.protocol.specs.Scratch.{layout, scratchSize, nonceOf, marksOf, putNonce, putMarks}
+use Rattle.protocol.specs.Scratch.{layout, scratchSize, nonceOf, putNonce, putMarks}
 use Rattle.protocol.specs.Position.{Point, Stage, Send, Receive, Finished, Aborted, aborted, start, follow, mayHold}
-use Rattle.protocol.specs.Send.{revealed, mark, noted}
+use Rattle.protocol.specs.Send.{noted}
 use Rattle.protocol.specs.Receive.{Nobody, Passed, passed, fits, weighs, heardSum, next, received, finds, left}
 use Rattle.protocol.specs.Joint.{Joint, party, nonceFor}
 use Rattle.protocol.specs.Run.{State, begun, takes, said, notes, ends, step}
-use Rattle.protocol.proofs.Following.{ruling-other, ruling-fits, next-holds, start-is}
+use Rattle.protocol.proofs.Following.{ruling-other, next-holds, start-is}
 use Rattle.protocol.proofs.Points.{Fits, FitsStage, spentStage, spent, goes-start, fits-follow, spent-follow, spent-le}
-use Rattle.protocol.proofs.Tails.{length-nonce, nonce-room, marks-room, nonce-length, nonce-put, nonce-marks, read-nonce, read-marks, SameSlots}
+use Rattle.protocol.proofs.Tails.{nonce-room, marks-room, nonce-length, nonce-put, nonce-marks, read-nonce, read-marks, SameSlots}
 use Rattle.protocol.proofs.Words.{length-band}
 use Rattle.protocol.proofs.Said.{length-said}
-use Rattle.protocol.proofs.Bands.{band-joined}
 use Rattle.protocol.proofs.Lengths.{length-left, length-noted}
-use Rattle.protocol.proofs.Marks.{same-of, all-fit, Sealed, ends-other, ends-reveals, sealed-ends, commit-sealed, said-shown}
+use Rattle.protocol.proofs.Marks.{Sealed, ends-other, ends-reveals, sealed-finds, sealed-ends, commit-sealed}
 use Rattle.theorems.specs.Premises.{Enough, after}
 use Rattle.theorems.proofs.Runs.{Idle, after-step, after-idle}
 
@@ -182,26 +180,7 @@ module _ (O : Ops) (J : Joint) where
           go Own sealed = other Own refl
           go Open sealed = other Open refl
           go (Commit k) sealed = other (Commit k) refl
-          go (Reveal k) sealed =
-              let mine : finds O (party J i) (notes O J s (Reveal k) i) (Reveal k) (said O J s (Reveal k))
-              ≡ weighs Nobody (eqb (heardSum O (J .parties) revealWords 0 (said O J s (Reveal k))) 0) =
-              (unfold finds notes noted party in
-              ruling-fits O (J .parties) _ (said O J s (Reveal k)) (Reveal k) refl (all-fit (J .parties) _ _ (fit (sealed refl)))) in
-              mine ∙ sym (sealed-ends O J s (sealed refl) k some)
-            where
-              fit : Sealed O J s → (t : ℕ) → t < J .parties
-                  → fits (marksOf (J .parties) (layout (J .circuit)) (s .scratch i)) (said O J s (Reveal k)) t ≡ true
-              fit is t lt =
-                  unfold fits in
-                  same-of _ _
-                  (rw (
-                    said-shown O J s is k,
-                    band-joined revealWords (J .parties) (λ i. revealed (s .held i) (nonceOf (layout (J .circuit)) (s .scratch i)))
-                        (λ i l. ap suc (length-nonce (layout (J .circuit)) (s .scratch i) (nonce-room (J .parties) (J .circuit) (is .long i l)))) t lt,
-                    is .marks i l,
-                    band-joined commitWords (J .parties) (λ i. mark (revealed (s .held i) (nonceOf (layout (J .circuit)) (s .scratch i))))
-                        (λ i l. unfold mark in digest-long _) t lt,
-                  ))
+          go (Reveal k) sealed = sealed-finds O J s (sealed refl) k i l ∙ sym (sealed-ends O J s (sealed refl) k some)
 
   -- All parties send the words of a round.
   pub said-long : (s : State) → Kept s → (r : Round) → FitsStage (J .circuit) (s .point .gate) (Send r)

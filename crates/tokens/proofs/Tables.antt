@@ -60,11 +60,6 @@ gate-at [] v = refl
 gate-at (w ∷ ws) zero = refl
 gate-at (w ∷ ws) (suc v) = gate-at ws v
 
-pub length-gates : (table : List ℕ) → length (gatesAt table) ≡ length table
-unfolding gatesAt
-length-gates [] = refl
-length-gates (w ∷ ws) = ap suc (length-gates ws)
-
 -- a row that is named is there, and then some row can be named
 pub named-low : (ms : List Bool) (v : ℕ) → named ms v ≡ true → v < length ms
 unfolding named

@@ -3,7 +3,7 @@
 use borrow.Author.Needs.{needs}
 use mathlib.Core.Path.{_∙_, ap}
 use native.Mathlib.Omega.{arith}
-use Rattle.field.specs.Prime.{add, norm}
+use Rattle.field.specs.Prime.{add}
 use Rattle.field.proofs.Bounds.{product-fits, product-lt}
 use Rattle.field.proofs.Products.{norm-sum, norm-product}
 use Rattle.field.proofs.add_product.Statement.{statement}

@@ -4,8 +4,6 @@
 use Prim.Native.Nat.{_*_, _/_, _<_}
 use mathlib.Core.Path.{_≡_, refl, _∙_}
 use native.Mathlib.Omega.{arith}
-use mir.Syntax.{w64}
-use mir.Val.{Fits}
 use Rattle.field.specs.Prime.{p}
 use Rattle.field.proofs.Bounds.{product-lt}
 use Rattle.field.proofs.Folding.{high-fits, lower-fits, halves-fit, next-fits, more-fits, twice-element}

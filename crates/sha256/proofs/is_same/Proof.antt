@@ -1,7 +1,6 @@
 -- `sha256::is_same` meets its contract: lists of other lengths differ, and the loop keeps that there is no difference so far.
 -- Assumes nothing.
 use borrow.Author.Needs.{needs}
-use native.Mathlib.Omega.{arith}
 use mathlib.Core.Path.{sym}
 use Prim.Native.Nat.{_-_}
 use lib.ListN.{length}

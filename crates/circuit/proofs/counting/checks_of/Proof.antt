@@ -1,6 +1,6 @@
 -- `circuit::counting::checks_of` meets its contract: an output has two checks or one, and no other gate any.
 -- Assumes nothing.
-use mathlib.Core.Path.{sym, _∙_}
+use mathlib.Core.Path.{sym}
 use borrow.Author.Needs.{needs}
 use borrow.Author.Tests.{ne-eqb}
 use Rattle.circuit.proofs.RoundLaws.{checks-first, checks-later, checks-valued}

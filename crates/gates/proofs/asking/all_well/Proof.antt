@@ -1,8 +1,6 @@
 -- `gates::asking::all_well` meets its contract: the gates are valid if their weight is told.
 -- Assumes nothing.
-use mathlib.Core.Path.{_≡_}
 use native.Mathlib.Omega.{arith}
-use borrow.Author.Needs.{needs}
 use borrow.Author.Tests.{not-true, eqb-false}
 use Rattle.circuit.specs.Gate.{gates}
 use Rattle.circuit.proofs.Tests.{false-no}

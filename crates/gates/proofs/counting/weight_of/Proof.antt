@@ -1,6 +1,6 @@
 -- `gates::counting::weight_of` meets its contract: an input of the party counts as one more than its record.
 -- Assumes nothing.
-use mathlib.Core.Path.{_≡_, sym, ap, _∙_}
+use mathlib.Core.Path.{sym, ap, _∙_}
 use native.Mathlib.Omega.{arith}
 use borrow.Author.Needs.{needs}
 use Rattle.circuit.specs.Kind.{Owned, isClass}

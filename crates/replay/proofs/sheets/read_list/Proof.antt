@@ -1,7 +1,6 @@
 -- `replay::sheets::read_list` is safe: the room is as long as the longest list.
 -- Assumes nothing.
 use borrow.Author.Needs.{needs}
-use mathlib.Core.Path.{sym}
 use native.Mathlib.Omega.{arith}
 use lib.ListN.{length-take}
 use Rattle.replay.proofs.sheets.read_list.Statement.{statement}

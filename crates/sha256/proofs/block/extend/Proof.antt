@@ -1,7 +1,6 @@
 -- `sha256::block::extend` meets its contract: the loop keeps that the words so far extend to what is asked for.
 -- Assumes nothing.
 use borrow.Author.Needs.{needs}
-use native.Mathlib.Omega.{arith}
 use Prim.Native.Nat.{_-_}
 use Rattle.sha256.proofs.Filling.{Filled, filled-start, filled-again, filled-done}
 use Rattle.sha256.proofs.block.extend.Statement.{statement}

@@ -2,7 +2,6 @@
 -- Assumes nothing.
 use borrow.Author.Needs.{needs}
 use mathlib.Core.Path.{refl, sym, ap, _∙_}
-use lib.ListN.{getD}
 use native.Mathlib.Omega.{arith}
 use Rattle.forms.specs.declared.Head.the-variants.{Line}
 use Rattle.forms.specs.Form.{named, closing}
