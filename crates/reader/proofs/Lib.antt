@@ -13,6 +13,5 @@ pub mod Growing
 -- what a callee promised, at its answer
 pub mod Answers
 -- a list copied
-pub mod Copying
 -- the entry
 pub mod Entering

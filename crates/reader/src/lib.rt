@@ -8,10 +8,8 @@ use forms::Answer;
 use gates::reading;
 use party::asking;
 ghost use mathlib.Core.Path.{_≡_};
-ghost use Prim.Native.Nat.{_≤_};
 ghost use lib.ListN.{length};
 ghost use Rattle.field.specs.Words.{size, largest};
-ghost use Rattle.protocol.specs.Send.{overwrite};
 ghost use Rattle.forms.specs.Entry.{readAnswer, readCircuit};
 ghost use Rattle.forms.specs.Code.{answerOf};
 ghost use Rattle.reader.specs.Code.{Settled};
@@ -52,18 +50,6 @@ pub enum Reading {
     Refused { number: u32, index: usize },
 }
 
-// Writes numbers at the start of a list.
-fn copy(from: &[Word], to: &mut [Word])
-    requires { ⌜ length (now from) ≤ length (now to) ⌝ }
-    ensures { λ r. ⌜ now (to .exit) ≡ overwrite (now (from .entry)) (now (to .entry)) ⌝ }
-{
-    let mut k = 0;
-    while k < from.len() {
-        to[k] = from[k];
-        k += 1;
-    }
-}
-
 // Questions 3 to 7 of the circuit that was read, then 18; then it is handed over.
 fn settle(parties: usize, read: &[Word], circuit: &mut [Word]) -> Answer
     ensures { λ r. ⌜ Settled parties (now (read .entry)) (now (circuit .entry)) (now (circuit .exit)) r ⌝ }
@@ -80,7 +66,7 @@ fn settle(parties: usize, read: &[Word], circuit: &mut [Word]) -> Answer
             index: 0,
         };
     }
-    copy(read, circuit);
+    sha256::copy(read, circuit);
     Answer::Done {
         count: read.len() / reading::GATE_SIZE,
     }

@@ -35,8 +35,8 @@ const WORDS: usize = 8;
 // One more than the largest byte.
 const BYTE: u32 = 256;
 
-// Writes a list over the front of another.
-fn copy(from: &[u32], to: &mut [u32])
+// Writes words over the front of a list.
+pub fn copy(from: &[u32], to: &mut [u32])
     requires { ⌜ length (now from) ≤ length (now to) ⌝ }
     ensures { λ _. ⌜ now (to .exit) ≡ now (from .entry) ++ drop (length (now (from .entry))) (now (to .entry)) ⌝ }
 {

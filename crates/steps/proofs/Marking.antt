@@ -68,9 +68,10 @@ length-behind share n out ys e = same-len-mid 1 n (set out 0 share) ys e ∙ len
 module _ (share : ℕ) (y : Layout) (l : List ℕ) (room : marksAt y ≤ length l) where
   -- what a reveal sends, once it is written
   pub revealed-written : (out : List ℕ) {k : ℕ} → k ≡ nonceAt y → revealWords ≤ length out
-      → {ys : List ℕ} → ys ≡ overwrite (midOf k (k + nonceWords - k) l) (midOf 1 (revealWords - 1) (set out 0 share))
+      → {ys : List ℕ}
+      → ys ≡ midOf k (k + nonceWords - k) l ++ drop (length (midOf k (k + nonceWords - k) l)) (midOf 1 (revealWords - 1) (set out 0 share))
       → putMid 1 (revealWords - 1) (set out 0 share) ys ≡ overwrite (revealed share (nonceOf y l)) out
-  unfolding nonceOf marksAt
+  unfolding nonceOf marksAt overwrite
   revealed-written out {k} e h f =
       let n : k + nonceWords - k ≡ nonceWords = omega arith in
       let words : midOf k (k + nonceWords - k) l ≡ nonceOf y l = rw (n, e) in

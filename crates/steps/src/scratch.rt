@@ -10,7 +10,6 @@ ghost use lib.ListN.{length};
 ghost use Rattle.circuit.specs.Round.{nonceSize};
 ghost use Rattle.sha256.specs.Sha256.{wordsOf};
 ghost use Rattle.protocol.specs.Scratch.{slotsSize, read, write, wire, putWire, putOpened, marksAt, putNonce, putMarks};
-ghost use Rattle.protocol.specs.Send.{overwrite};
 ghost use Rattle.field.specs.Words.{size};
 ghost use Rattle.protocol.specs.Holding.{Within, Held};
 ghost use Rattle.protocol.specs.Code.{layoutOf, slotOf};
@@ -58,18 +57,6 @@ pub fn put_opened(l: &mut [Word], y: Layout, t: usize, v: Word, m: Word)
     write_slot(l, y, Slot::ValueMac(t), m);
 }
 
-// Writes words over the front of a list.
-pub fn copy(from: &[Word], to: &mut [Word])
-    requires { ⌜ length (now from) ≤ length (now to) ⌝ }
-    ensures { λ r. ⌜ now (to .exit) ≡ overwrite (now (from .entry)) (now (to .entry)) ⌝ }
-{
-    let mut i = 0;
-    while i < from.len() {
-        to[i] = from[i];
-        i += 1;
-    }
-}
-
 // Notes the nonce that a commitment binds.
 pub fn put_nonce(l: &mut [Word], y: Layout, nonce: &[u8])
     requires { ⌜ (marksAt (layoutOf y) ≤ length (now l)) × (length (now nonce) ≡ nonceSize) ⌝ }
@@ -87,5 +74,5 @@ pub fn put_marks(l: &mut [Word], y: Layout, heard: &[Word])
 {
     let start = protocol::marks_at(y);
     let end = start + heard.len();
-    copy(heard, &mut l[start..end]);
+    sha256::copy(heard, &mut l[start..end]);
 }

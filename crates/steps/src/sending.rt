@@ -270,7 +270,7 @@ pub fn reveal_words(share: Word, l: &[Word], y: Layout, out: &mut [Word])
     let start = protocol::nonce_at(y);
     let end = start + NONCE_WORDS;
     out[0] = share;
-    scratch::copy(&l[start..end], &mut out[1..REVEAL_WORDS]);
+    sha256::copy(&l[start..end], &mut out[1..REVEAL_WORDS]);
 }
 
 // What a commitment sends: the mark of what its reveal will send.

@@ -3,6 +3,7 @@
 use mathlib.Core.Path.{sym, ap, _∙_}
 use borrow.Author.Needs.{needs}
 use Rattle.circuit.specs.Code.{verdictOf}
+use Rattle.protocol.specs.Send.{overwrite}
 use Rattle.reader.proofs.Entering.{settled-refused, settled-full, settled-done}
 use Rattle.reader.proofs.settle.Statement.{statement}
 use Rattle.reader.proofs.settle.Tie as tie
@@ -18,7 +19,7 @@ returns-2 c =
     settled-full _ _ _ k (c .if1 .taken)
 
 returns-3 : tie.Need-returns-3
-unfolding verdictOf
+unfolding verdictOf overwrite
 returns-3 c =
     let k = sym (c .before .before .before .before .before .before .before .ask-circuit .ensures) ∙ ap verdictOf
     (c .before .before .before .before .before .enum-told .given .1) in

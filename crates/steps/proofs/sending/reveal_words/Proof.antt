@@ -31,7 +31,10 @@ same-length c =
     length-behind (start .args .share) nonceWords (now (start .args .out)) (copied .last .1 .0) (copied .kept .1 .0)
 
 returns : tie.Need-returns
-returns c = revealed-written _ _ _ (c .before .before .before .before .before .before .before .before .pre .0) _ (c .before .before .before .before .before .nonce-at .ensures) (c .before .before .before .before .before .before .before .before .pre .1) (c .before .before .copy .ensures)
+returns c =
+    let start = c .before .before .before .before .before .before .before .before in
+    revealed-written _ _ _ (start .pre .0) (now (start .args .out)) (c .before .before .before .before .before .nonce-at .ensures) (start .pre .1)
+    (c .before .before .copy .ensures)
 
 pub reveal-words-spec : {M : Type 1} → statement M
 reveal-words-spec =
