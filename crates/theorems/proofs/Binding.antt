@@ -221,7 +221,7 @@ then-low : (w : ℕ) (ws : List ℕ) → w < 2 ^ 32 → ((t : ℕ) → getD ws t
 then-low w ws h hs zero = h
 then-low w ws h hs (suc t) = hs t
 
-module _ (O : Ops) (P : Party) (l : List ℕ) (j held : ℕ) (k : Check) (room : ℕ) (ms ws : List ℕ) (ok : Unrefused O P l j held k room ms ws) where
+module _ (O : Ops) (P : Party) (l : List ℕ) (j held : ℕ) (k : Check) (ms : List ℕ) (hears : askReceive (O .size) P l (receivingAt j (Commit k) held) ms ≡ Accepted) where
   open Ops O using (size)
 
   -- The commitment is a round of the gate ..
@@ -230,15 +230,15 @@ module _ (O : Ops) (P : Party) (l : List ℕ) (j held : ℕ) (k : Check) (room :
   commits =
       both-right (ltb j (gates (P .circuit))) (among (Commit k) (rounds (P .circuit) j))
       (both-left _ (cond (mayHold (Receive (Commit k))) (ltb held size) (eqb held 0))
-      (ask-true 13 0 _ (then-left _ _ (then-right (askLent size P l) _ (ok .hears)))))
+      (ask-true 13 0 _ (then-left _ _ (then-right (askLent size P l) _ hears))))
 
   -- .. and a reveal follows it.
-  reveals-next : follow (P .circuit) j (Commit k) ≡ record { gate = j; stage = Send (Reveal k) }
-  reveals-next = follow-is (P .circuit) j (Commit k) commits
-
-  hears-commit : receiveAnswer O P l (receivingAt j (Commit k) held) ms ≡ Next (sendingAt j (Reveal k) held)
+  pub hears-commit : receiveAnswer O P l (receivingAt j (Commit k) held) ms ≡ Next (sendingAt j (Reveal k) held)
   unfolding receiveAnswer answer whenReceiving outcome finds ruling concludes nextPosition next keep holding
-  hears-commit = rw (ok .hears) (ap (λ (x : Point). Next (holding x held)) reveals-next)
+  hears-commit = rw hears (ap (λ (x : Point). Next (holding x held)) (follow-is (P .circuit) j (Commit k) commits))
+
+module _ (O : Ops) (P : Party) (l : List ℕ) (j held : ℕ) (k : Check) (room : ℕ) (ms ws : List ℕ) (ok : Unrefused O P l j held k room ms ws) where
+  open Ops O using (size)
 
   -- The marks heard are written ..
   marked-is : marked O P l j held k room ms ws ≡ putMarks (layout (P .circuit)) l ms
@@ -295,9 +295,9 @@ module _ (O : Ops) (P : Party) (l : List ℕ) (j held : ℕ) (k : Check) (room :
         (reveal-decides O P (revealing O P l j held k room ms ws) j 0 k ws (ok .hears-reveal)))
 
     pub is-altered : Altered O P l j held k room ms ws
-    is-altered = record { heard-commit = hears-commit; sent-reveal = sends-reveal; heard-reveal = hears-reveal }
+    is-altered = record { heard-commit = hears-commit O P l j held k ms (ok .hears); sent-reveal = sends-reveal; heard-reveal = hears-reveal }
 
-    module _ (i share : ℕ) (nonce : List ℕ) (c : Changes O P l j held k room ms ws i share nonce) where
+    module _ (i share : ℕ) (nonce : List ℕ) (c : Changes (P .parties) ms ws i share nonce) where
       -- what party i committed to, and what is heard of it
       abbrev promised : List ℕ
       promised = revealed share (wordsOf nonce)
@@ -334,10 +334,10 @@ module _ (O : Ops) (P : Party) (l : List ℕ) (j held : ℕ) (k : Check) (room :
           }
 
       -- So the answer names that party or one before it, or there is a collision.
-      pub found-out : FoundOut O P l j held k room ms ws i share nonce
+      pub found-out : FoundOut (P .parties) ms ws (stoppedAt j) (lastAnswer O P l j held k room ms ws) i share nonce
       found-out = go (misfit (suc i) ms ws) refl
         where
-          go : (m : Blame) → misfit (suc i) ms ws ≡ m → FoundOut O P l j held k room ms ws i share nonce
+          go : (m : Blame) → misfit (suc i) ms ws ≡ m → FoundOut (P .parties) ms ws (stoppedAt j) (lastAnswer O P l j held k room ms ws) i share nonce
           go Nobody e = inr (collides (all-fit O ms ws (suc i) e i (omega arith)))
           go (Blames h) e =
               let lowest = found-lowest O ms ws (suc i) h e in

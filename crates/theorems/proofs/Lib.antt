@@ -37,3 +37,4 @@ pub mod JointOrder
 pub mod Fitting
 pub mod Binding
 pub mod Cancelled
+pub mod Transit

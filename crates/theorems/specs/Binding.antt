@@ -110,6 +110,23 @@ pub record Collides (m m′ : List ℕ) : Type 0 where
   pub differ : m ≢ m′
   pub same-hash : sha256 m ≡ sha256 m′
 
+-- the marks ms and the words ws of a reveal, as they are heard of n parties
+module _ (n : ℕ) (ms ws : List ℕ) where
+  -- party i committed to a check share and a nonce, and its mark is heard so; but its reveal is heard as other words
+  pub record Changes (i share : ℕ) (nonce : List ℕ) : Type 0 where
+    pub within : i < n
+    pub share-low : share < 2 ^ 32
+    pub nonce-long : length nonce ≡ nonceSize
+    pub nonce-low : (t : ℕ) → getD nonce t 0 < 2 ^ 8
+    pub committed : band commitWords ms i ≡ mark (revealed share (wordsOf nonce))
+    pub heard-low : (t : ℕ) → getD ws t 0 < 2 ^ 32
+    pub other : band revealWords ws i ≢ revealed share (wordsOf nonce)
+
+  -- the answer a names it, or a party before it, or the bytes that it committed to and those that are heard of it collide
+  abbrev pub FoundOut : Position → Answer → ℕ → ℕ → List ℕ → Type 0
+  FoundOut stopped a i share nonce =
+      ((h : ℕ) × (h ≤ i) × (a ≡ Abort (Blames h) stopped)) ⊎ Collides (bytesOf 4 share ++ nonce) (bytes (band revealWords ws i))
+
 -- three calls of party P, which holds a check share at a commitment of gate j: it hears the words ms of the commitment, sends its reveal, and hears
 -- the words ws of the reveal. They may be altered on the way
 module _ (O : Ops) (P : Party) (l : List ℕ) (j held : ℕ) (k : Check) (room : ℕ) (ms ws : List ℕ) where
@@ -138,22 +155,6 @@ module _ (O : Ops) (P : Party) (l : List ℕ) (j held : ℕ) (k : Check) (room :
     pub sent-reveal : sendAnswer O P marked (sendingAt j (Reveal k) held) [] [] room ≡ Next (receivingAt j (Reveal k) 0)
     pub heard-reveal : Decides O (P .parties) ms ws (stoppedAt j) (goesOn P l j k) lastAnswer
 
-  -- party i committed to a check share and a nonce, and its mark is heard so; but its reveal is heard as other words
-  pub record Changes (i share : ℕ) (nonce : List ℕ) : Type 0 where
-    pub within : i < P .parties
-    pub share-low : share < 2 ^ 32
-    pub nonce-long : length nonce ≡ nonceSize
-    pub nonce-low : (t : ℕ) → getD nonce t 0 < 2 ^ 8
-    pub committed : band commitWords ms i ≡ mark (revealed share (wordsOf nonce))
-    pub heard-low : (t : ℕ) → getD ws t 0 < 2 ^ 32
-    pub other : band revealWords ws i ≢ revealed share (wordsOf nonce)
-
-  -- then the answer names it, or a party before it, or the bytes that it committed to and those that are heard of it collide
-  abbrev pub FoundOut : ℕ → ℕ → List ℕ → Type 0
-  FoundOut i share nonce =
-      ((h : ℕ) × (h ≤ i) × (lastAnswer ≡ Abort (Blames h) (stoppedAt j)))
-      ⊎ Collides (bytesOf 4 share ++ nonce) (bytes (band revealWords ws i))
-
 abbrev pub Alterable : Ops → Type 0
 Alterable O =
     (P : Party) (l : List ℕ) (j held : ℕ) (k : Check) (room : ℕ) (ms ws : List ℕ)
@@ -166,5 +167,5 @@ Binding O =
     (P : Party) (l : List ℕ) (j held : ℕ) (k : Check) (room : ℕ) (ms ws : List ℕ)
     → Unrefused O P l j held k room ms ws
     → (i share : ℕ) (nonce : List ℕ)
-    → Changes O P l j held k room ms ws i share nonce
-    → FoundOut O P l j held k room ms ws i share nonce
+    → Changes (P .parties) ms ws i share nonce
+    → FoundOut (P .parties) ms ws (stoppedAt j) (lastAnswer O P l j held k room ms ws) i share nonce

@@ -31,7 +31,7 @@ module _ (O : Ops) where
     -- no call is refused
     pub unrefused : Unrefused O party₀ committed 3 10 First 9 ms words
     -- seat 1 reveals other words than it committed to
-    pub changes : Changes O party₀ committed 3 10 First 9 ms words 1 77 nonce
+    pub changes : Changes 2 ms words 1 77 nonce
     -- the sum would pass
     pub cancels : checkSum O 2 ms words ≡ 0
     -- but seat 1 is named

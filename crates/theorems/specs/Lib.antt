@@ -10,3 +10,4 @@ pub mod Apart
 pub mod ApartDemands
 pub mod Binding
 pub mod Cancelled
+pub mod Transit
