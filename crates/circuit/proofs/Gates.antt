@@ -2,26 +2,26 @@
 -- Assumes nothing.
 use Prim.Native.Nat.{ℕ, zero, suc, _<_, _≤_}
 use mathlib.Core.Path.{_≡_, refl, subst}
-use mathlib.Core.Bool.{true, false, not}
+use mathlib.Core.Bool.{true, false, cond, not}
 use mathlib.Core.List.{List}
 use native.Mathlib.Nat.{not-suc-le-zero}
 use native.Mathlib.Omega.{arith}
 use lib.Dec.{eqb, leb}
 use borrow.Author.Tests.{eqb-true, ne-eqb, leb-true}
-use Rattle.circuit.specs.Gate.{Kind, kindOut, firstKind, lastKind, decode, Out, Gate, gateOf, gate, gates}
+use Rattle.circuit.specs.Gate.{Kind, kindOut, kindSq, kindGive, firstKind, lastKind, decode, Out, Gate, gateOf, gate, gates}
 use Rattle.circuit.specs.Kind.{Class, Local, Owned, Opens, Output, Role, kindShape, isClass, shape, factor}
 use Rattle.circuit.specs.Accept.{isKind}
 use Rattle.circuit.specs.Valid.{Ref, Fits, Valid}
 use Rattle.circuit.proofs.Tests.{by-cases, both-right, false-no}
 use Rattle.circuit.proofs.KindLaws.{gate-facts}
 
--- below the last kind are the others, and above it is none
-pub no-last : (k : ℕ) → k < lastKind → eqb k lastKind ≡ false
-no-last k h = ne-eqb k lastKind (λ e. absurd (omega (arith, h, e)))
+-- below sq are the kinds before it, and above the last kind is none
+pub other-kinds : (k : ℕ) → k < kindSq → (eqb k kindSq ≡ false) × (eqb k kindGive ≡ false)
+other-kinds k h = (ne-eqb k kindSq (λ e. absurd (omega (arith, h, e))), ne-eqb k kindGive (λ e. absurd (omega (arith, h, e))))
 
 pub decode-past : (k : ℕ) → lastKind < k → decode k ≡ Out
 unfolding decode
-decode-past k h = rw (other 1 (omega arith), other 2 (omega arith), other 3 (omega arith), other 4 (omega arith), other 5 (omega arith), other 6 (omega arith), other 8 (omega arith))
+decode-past k h = rw (other 1 (omega arith), other 2 (omega arith), other 3 (omega arith), other 4 (omega arith), other 5 (omega arith), other 6 (omega arith), other 8 (omega arith), other 9 (omega arith))
   where
     other : (m : ℕ) → m ≤ lastKind → eqb k m ≡ false
     other m l = ne-eqb k m (λ e. absurd (omega (arith, h, l, e)))
@@ -30,8 +30,8 @@ kind-high : (k : ℕ) → isKind k ≡ true → k ≤ lastKind
 unfolding isKind
 kind-high k e = leb-true k lastKind (both-right (leb firstKind k) (leb k lastKind) e)
 
--- of a kind's number, one is the number of a kind without a value
-pub kind-valued : (k : ℕ) → isKind k ≡ true → not (eqb k kindOut) ≡ not (isClass Output (kindShape (decode k) .class))
+-- of the kinds' numbers, two are numbers of kinds without a value
+pub kind-valued : (k : ℕ) → isKind k ≡ true → cond (eqb k kindOut) false (not (eqb k kindGive)) ≡ not (isClass Output (kindShape (decode k) .class))
 unfolding isKind decode kindShape isClass
 kind-valued zero e = false-no e
 kind-valued (suc zero) e = refl
@@ -42,7 +42,8 @@ kind-valued (suc (suc (suc (suc (suc zero))))) e = refl
 kind-valued (suc (suc (suc (suc (suc (suc zero)))))) e = refl
 kind-valued (suc (suc (suc (suc (suc (suc (suc zero))))))) e = refl
 kind-valued (suc (suc (suc (suc (suc (suc (suc (suc zero)))))))) e = refl
-kind-valued (suc (suc (suc (suc (suc (suc (suc (suc (suc k))))))))) e = absurd (omega (arith, kind-high (suc (suc (suc (suc (suc (suc (suc (suc (suc k))))))))) e))
+kind-valued (suc (suc (suc (suc (suc (suc (suc (suc (suc zero))))))))) e = refl
+kind-valued (suc (suc (suc (suc (suc (suc (suc (suc (suc (suc k)))))))))) e = absurd (omega (arith, kind-high (suc (suc (suc (suc (suc (suc (suc (suc (suc (suc k)))))))))) e))
 
 module _ {n q : ℕ} {c : List ℕ} (v : Valid n q c) where
   -- what gate j names first and second, by what the numbers are for

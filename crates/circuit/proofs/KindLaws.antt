@@ -2,12 +2,14 @@
 -- Assumes nothing.
 use Prim.Native.Nat.{ℕ, zero, suc, _+_, _*_, _≤_}
 use mathlib.Core.Path.{_≡_, refl, ap, sym, subst, _∙_}
-use mathlib.Core.Bool.{true, false}
+use mathlib.Core.Bool.{Bool, true, false, cond}
 use native.Mathlib.Omega.{arith}
+use lib.Dec.{eqb}
 use borrow.Author.Tests.{eqb-true, eq-eqb}
-use Rattle.circuit.specs.Gate.{Kind, In, Add, Sub, Plus, Times, Mul, Out, Sq, Gate}
-use Rattle.circuit.specs.Kind.{Class, Local, Owned, Opens, Output, Party, Wire, Shape, kindShape, shape, classNumber, isClass, isLinear, isIn, isOut, ownedBy}
+use Rattle.circuit.specs.Gate.{Kind, In, Add, Sub, Plus, Times, Mul, Out, Sq, Give, Gate}
+use Rattle.circuit.specs.Kind.{Class, Local, Owned, Opens, Output, Party, Wire, Shape, maskSize, kindShape, shape, classNumber, isClass, isLinear, isIn, isOut, isGive, seenBy, everyone, receiver, ownedBy}
 use Rattle.circuit.specs.Code.{classOf, shapeOf}
+use Rattle.circuit.proofs.Tests.{false-no, both-left, both-right}
 use Rattle.circuit.specs.declared.Shape as code
 
 pub record LocalFacts (s : Shape) : Type 0 where
@@ -31,7 +33,10 @@ pub record OpensFacts (s : Shape) : Type 0 where
   pub second : s .openings ≡ 2 → s .second ≡ Wire
 
 pub record OutputFacts (s : Shape) : Type 0 where
-  pub prep : s .prep ≡ 0
+  -- a mask for the party that its second names, or no record
+  pub bare : eqb (s .prep) maskSize ≡ false → s .prep ≡ 0
+  pub masked : eqb (s .prep) maskSize ≡ true → s .second ≡ Party
+  pub low : s .prep ≤ maskSize
   pub openings : s .openings ≡ 0
   pub words : s .words ≡ 1
   pub first : s .first ≡ Wire
@@ -51,8 +56,9 @@ facts Sub = record { prep = refl; openings = refl; words = refl; first = refl }
 facts Plus = record { prep = refl; openings = refl; words = refl; first = refl }
 facts Times = record { prep = refl; openings = refl; words = refl; first = refl }
 facts Mul = record { some = omega arith; few = omega arith; words = refl; prep = refl; first = refl; second = λ e. refl }
-facts Out = record { prep = refl; openings = refl; words = refl; first = refl }
+facts Out = record { bare = λ e. refl; masked = λ e. false-no e; low = omega arith; openings = refl; words = refl; first = refl }
 facts Sq = record { some = omega arith; few = omega arith; words = refl; prep = refl; first = refl; second = λ e. absurd (omega (arith, e)) }
+facts Give = record { bare = λ e. false-no (sym e); masked = λ e. refl; low = omega arith; openings = refl; words = refl; first = refl }
 
 -- the class of a number
 classAt : ℕ → Class
@@ -119,6 +125,39 @@ module _ (g : Gate) where
   pub output-facts : shape g .class ≡ Output → OutputFacts (shape g)
   output-facts = gate-facts
 
+-- a give is an output with a mask, for the party that it names second; an out has no record
+module _ (g : Gate) where
+  pub output-gives : shape g .class ≡ Output → isGive g ≡ eqb (shape g .prep) maskSize
+  unfolding isGive
+  output-gives e = rw (class-is e)
+
+  pub give-output : isGive g ≡ true → shape g .class ≡ Output
+  unfolding isGive
+  give-output e = is-class Output (both-left (isOut g) (eqb (shape g .prep) maskSize) e)
+
+  pub give-prep : isGive g ≡ true → shape g .prep ≡ maskSize
+  unfolding isGive
+  give-prep e = eqb-true (shape g .prep) maskSize (both-right (isOut g) (eqb (shape g .prep) maskSize) e)
+
+  pub give-second : isGive g ≡ true → shape g .second ≡ Party
+  give-second e = output-facts g (give-output e) .masked (sym (output-gives (give-output e)) ∙ e)
+
+  pub bare-prep : shape g .class ≡ Output → isGive g ≡ false → shape g .prep ≡ 0
+  bare-prep k e = output-facts g k .bare (sym (output-gives k) ∙ e)
+
+  pub no-give : isOut g ≡ false → isGive g ≡ false
+  unfolding isGive
+  no-give e = rw e
+
+  -- everyone sees every score
+  pub everyone-sees : seenBy everyone g ≡ true
+  unfolding seenBy
+  everyone-sees = either (isGive g)
+    where
+      either : (b : Bool) → cond b true true ≡ true
+      either true = refl
+      either false = refl
+
 -- a linear gate has no record, opens nothing and is nobody's
 pub record Idle (g : Gate) : Type 0 where
   pub prep : shape g .prep ≡ 0
@@ -149,7 +188,7 @@ pub facts-low : (k : Class) (s : Shape) → Facts k s → Low s
 facts-low Local s f = record { prep = omega (arith, f .prep); openings = omega (arith, f .openings); words = omega (arith, f .words) }
 facts-low Owned s f = record { prep = omega (arith, f .prep); openings = omega (arith, f .openings); words = omega (arith, f .words) }
 facts-low Opens s f = record { prep = omega (arith, f .prep, f .few); openings = f .few; words = omega (arith, f .words, f .few) }
-facts-low Output s f = record { prep = omega (arith, f .prep); openings = omega (arith, f .openings); words = omega (arith, f .words) }
+facts-low Output s f = record { prep = omega (arith, f .low); openings = omega (arith, f .openings); words = omega (arith, f .words) }
 
 pub kind-low : (k : Kind) → Low (kindShape k)
 kind-low k = facts-low (kindShape k .class) (kindShape k) (facts k)

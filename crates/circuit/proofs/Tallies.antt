@@ -40,8 +40,8 @@ module _ {c : List ℕ} {i j : ℕ} {t : Tally} (was : Tallied c i j t) where
         let h = told e in
         let none = local-facts (gate c j) h in
         record {
-          prep = omega (arith, was .prep, prep-more c j, none .prep);
-          openings = omega (arith, was .openings, openings-more c j, none .openings);
+          prep = omega (arith, was .prep, shape-prep s (gate c j .kind) said, prep-more c j);
+          openings = omega (arith, was .openings, openings-more c j, none);
           unchecked = omega (arith, was .unchecked, unchecked-more c j, unchecked-valued (shape (gate c j)) (N.unchecked c j) (local-no-out h), none .openings);
           inputs = omega (arith, was .inputs, input-more c i j, nobody (local-no-in h));
         }
@@ -77,13 +77,13 @@ module _ {c : List ℕ} {i j : ℕ} {t : Tally} (was : Tallied c i j t) where
           inputs = omega (arith, was .inputs, input-more c i j, nobody (opens-no-in h));
         }
 
-    pub tally-output : classOf (s .class) ≡ Output → Tallied c i (j + 1) (record { prep = t .prep; openings = t .openings; unchecked = 0; inputs = t .inputs })
+    pub tally-output : classOf (s .class) ≡ Output → Tallied c i (j + 1) (record { prep = t .prep + s .prep; openings = t .openings; unchecked = 0; inputs = t .inputs })
     tally-output e =
         let h = told e in
-        let none = output-facts (gate c j) h in
+        let none = output-facts (gate c j) h .openings in
         record {
-          prep = omega (arith, was .prep, prep-more c j, none .prep);
-          openings = omega (arith, was .openings, openings-more c j, none .openings);
+          prep = omega (arith, was .prep, shape-prep s (gate c j .kind) said, prep-more c j);
+          openings = omega (arith, was .openings, openings-more c j, none);
           unchecked = omega (arith, unchecked-more c j, unchecked-out (shape (gate c j)) (N.unchecked c j) (class-is h));
           inputs = omega (arith, was .inputs, input-more c i j, nobody (output-no-in h));
         }

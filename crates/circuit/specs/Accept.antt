@@ -16,7 +16,7 @@ fewestGates = 2
 abbrev pub mostGates : ℕ
 mostGates = 256
 
--- "is the kind 1 to 7? 4."; document 02: "question 4 admits kind 8"
+-- "is the kind 1 to 7? 4."; document 02: "question 4 admits kind 8", "4 to 9 read with kind 9 included"
 unfoldable pub isKind : ℕ → Bool
 isKind kind = leb firstKind kind && leb kind lastKind
 
@@ -54,7 +54,7 @@ module _ (n q : ℕ) (c : List ℕ) where
   unfoldable pub askSize : Verdict
   askSize = ask 3 0 (eqb (length c % gateSize) 0 && leb fewestGates (gates c) && leb (gates c) mostGates)
 
-  -- "Is the last line an out? 7."
+  -- "Is the last line an out? 7."; of a give document 02 says that it "may be last"
   unfoldable pub askLast : Verdict
   askLast = ask 7 0 (isOut (gate c (gates c - 1)))
 

@@ -15,12 +15,13 @@ total f c (suc j) = total f c j + f (gate c j)
 unfoldable pub count : (Gate → Bool) → List ℕ → ℕ → ℕ
 count has c j = total (λ g. cond (has g) 1 0) c j
 
--- "Material: its key share; then, in line order, three numbers for each in line .. and six for each mul line", and four for each sq line:
+-- "Material: its key share; then, in line order, three numbers for each in line .. and six for each mul line", four for each sq line
+-- and three for each give line:
 -- where the record of gate j starts
 unfoldable pub prepAt : List ℕ → ℕ → ℕ
 prepAt c j = 1 + total (λ g. shape g .prep) c j
 
--- "With I in lines and M mul lines, material has 1 + 3 × I + 6 × M numbers", and 4 more for each sq line
+-- "With I in lines and M mul lines, material has 1 + 3 × I + 6 × M numbers", 4 more for each sq line and 3 more for each give line
 unfoldable pub prepSize : List ℕ → ℕ
 prepSize c = prepAt c (gates c)
 
@@ -40,7 +41,7 @@ inputCount c i = inputAt c i (gates c)
 unfoldable pub inCount : List ℕ → ℕ
 inCount c = count isIn c (gates c)
 
--- document 01's "outs"
+-- document 01's "outs"; a give counts as an out, since it "stops as out does"
 unfoldable pub outCount : List ℕ → ℕ
 outCount c = count isOut c (gates c)
 

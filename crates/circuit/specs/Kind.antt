@@ -1,12 +1,12 @@
 -- What a gate's kind tells of it: one table. Every test, length and count is made of it.
 -- Assumes nothing.
 use Prim.Native.Nat.{ℕ}
-use mathlib.Core.Bool.{Bool, cond, not, _&&_}
+use mathlib.Core.Bool.{Bool, true, cond, not, _&&_}
 use lib.Dec.{eqb}
-use Rattle.circuit.specs.Gate.{Kind, In, Add, Sub, Plus, Times, Mul, Out, Sq, Gate}
+use Rattle.circuit.specs.Gate.{Kind, In, Add, Sub, Plus, Times, Mul, Out, Sq, Give, Gate}
 
 -- Local: "They need no round", each party works them out by itself. Owned: one party's input. Opens: differences with the masks of a record
--- are opened. Output: a value is opened and checked; "An out line has no value and cannot be named."
+-- are opened. Output: a value is opened and checked; "An out line has no value and cannot be named.", "A give has no value".
 pub data Class : Type 0 where
   Local Owned Opens Output : Class
 
@@ -18,7 +18,8 @@ pub data Role : Type 0 where
 -- told by its kind, and every length and count follows."
 pub record Shape : Type 0 where
   pub class : Class
-  -- "three numbers for each in line .. and six for each mul line"; of sq "Its record is a, MAC of a, c, MAC of c": the length of its record
+  -- "three numbers for each in line .. and six for each mul line"; of sq "Its record is a, MAC of a, c, MAC of c"; of give "a three-number mask
+  -- record": the length of its record
   pub prep : ℕ
   -- how many values it opens that wait for the next output's first check
   pub openings : ℕ
@@ -32,8 +33,12 @@ abbrev shaped : Class → ℕ → ℕ → ℕ → Role → Role → Role → Sha
 shaped class prep openings words first second constant =
     record { class = class; prep = prep; openings = openings; words = words; first = first; second = second; constant = constant }
 
+-- the length of a mask's record, "(mask share, MAC share, whole mask)"
+abbrev pub maskSize : ℕ
+maskSize = 3
+
 unfoldable pub kindShape : Kind → Shape
-kindShape In = shaped Owned 3 0 1 Party Unused Unused
+kindShape In = shaped Owned maskSize 0 1 Party Unused Unused
 kindShape Add = shaped Local 0 0 0 Wire Wire Unused
 kindShape Sub = shaped Local 0 0 0 Wire Wire Unused
 kindShape Plus = shaped Local 0 0 0 Wire Unused Constant
@@ -41,6 +46,7 @@ kindShape Times = shaped Local 0 0 0 Wire Unused Constant
 kindShape Mul = shaped Opens 6 2 2 Wire Wire Unused
 kindShape Out = shaped Output 0 0 1 Wire Unused Unused
 kindShape Sq = shaped Opens 4 1 1 Wire Unused Unused
+kindShape Give = shaped Output maskSize 0 1 Wire Party Unused
 
 abbrev pub shape : Gate → Shape
 shape g = kindShape (g .kind)
@@ -66,6 +72,25 @@ opens g = isClass Opens (shape g .class)
 
 abbrev pub isOut : Gate → Bool
 isOut g = isClass Output (shape g .class)
+
+-- a give: an output that hides its score behind a mask, for the party that its second names
+unfoldable pub isGive : Gate → Bool
+isGive g = isOut g && eqb (shape g .prep) maskSize
+
+-- is the score of output g for a party of A? That of a give is for its receiver, "others get no score"; that of an out is for all
+unfoldable pub seenBy : (ℕ → Bool) → Gate → Bool
+seenBy A g = cond (isGive g) (A (g .second)) true
+
+-- party i alone, and all parties
+abbrev pub alone : ℕ → ℕ → Bool
+alone i k = eqb k i
+
+abbrev pub everyone : ℕ → Bool
+everyone k = true
+
+-- the party whose score of output g is listed: the receiver's; that of an out, which all have, from party 0
+unfoldable pub receiver : Gate → ℕ
+receiver g = cond (isGive g) (g .second) 0
 
 abbrev pub hasValue : Gate → Bool
 hasValue g = not (isOut g)

@@ -18,6 +18,7 @@ pub enum Kind {
     Mul,
     Out,
     Sq,
+    Give,
 }
 
 // Worked out alone; an input of one party; opens values; an output.

@@ -26,6 +26,11 @@ const KIND_OUT: usize = 7;
 
 const KIND_SQ: usize = 8;
 
+const KIND_GIVE: usize = 9;
+
+// Numbers of a mask's record.
+const MASK_SIZE: usize = 3;
+
 const LOCAL: usize = 0;
 
 const OWNED: usize = 1;
@@ -62,6 +67,9 @@ pub fn decode(number: usize) -> Kind
     if number == KIND_SQ {
         return Kind::Sq;
     }
+    if number == KIND_GIVE {
+        return Kind::Give;
+    }
     Kind::Out
 }
 
@@ -86,7 +94,7 @@ pub fn shape_of(kind: Kind) -> Shape
     match kind {
         Kind::In => Shape {
             class: Class::Owned,
-            prep: 3,
+            prep: MASK_SIZE,
             openings: 0,
             words: 1,
             first: Role::Party,
@@ -124,6 +132,15 @@ pub fn shape_of(kind: Kind) -> Shape
             second: Role::Unused,
             constant: Role::Unused,
         },
+        Kind::Give => Shape {
+            class: Class::Output,
+            prep: MASK_SIZE,
+            openings: 0,
+            words: 1,
+            first: Role::Wire,
+            second: Role::Party,
+            constant: Role::Unused,
+        },
     }
 }
 
@@ -132,7 +149,10 @@ pub fn has_value(number: usize) -> bool
     requires { ⌜ isKind number ≡ true ⌝ }
     ensures { λ r. ⌜ r ≡ not (isClass Output (kindShape (decode number) .class)) ⌝ }
 {
-    number != KIND_OUT
+    if number == KIND_OUT {
+        return false;
+    }
+    number != KIND_GIVE
 }
 
 fn class_number(class: Class) -> usize

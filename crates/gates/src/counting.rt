@@ -40,7 +40,7 @@ pub fn tally_gate(c: &[Word], i: usize, j: usize, t: Tally) -> Tally
             inputs: t.inputs,
         },
         Class::Output => Tally {
-            prep: t.prep,
+            prep: t.prep + s.prep,
             openings: t.openings,
             unchecked: 0,
             inputs: t.inputs,

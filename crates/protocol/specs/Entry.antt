@@ -1,17 +1,19 @@
 -- A party's three entries: the answer of each, and what the lent lists hold afterwards.
 -- Assumes nothing.
 use Prim.Native.Nat.{ℕ}
-use mathlib.Core.Bool.{Bool, true, false, cond}
+use mathlib.Core.Bool.{Bool, true, false, cond, _&&_}
 use mathlib.Core.List.{List, []}
 use lib.ListN.{length}
 use Rattle.algebra.specs.Ops.{Ops}
 use Rattle.circuit.specs.Verdict.{Verdict, Accepted, Refused}
+use Rattle.circuit.specs.Gate.{gate}
+use Rattle.circuit.specs.Kind.{seenBy, alone}
 use Rattle.circuit.specs.Round.{First, Second, Round, Own, Open, Commit, Reveal}
-use Rattle.protocol.specs.Scratch.{layout, Value, read}
+use Rattle.protocol.specs.Scratch.{layout}
 use Rattle.protocol.specs.Position.{Position, holding, Receive, start, keep, whenSending, whenReceiving}
-use Rattle.protocol.specs.Party.{Party}
+use Rattle.protocol.specs.Party.{Party, recordOf}
 use Rattle.protocol.specs.Send.{overwrite, sent, holds, noted}
-use Rattle.protocol.specs.Receive.{Blame, Ruling, Passed, Stopped, next, finds, left}
+use Rattle.protocol.specs.Receive.{Blame, Ruling, Passed, Stopped, score, next, finds, left}
 use Rattle.protocol.specs.Ask.{askLent, askSend, askReceive}
 
 -- what an entry answers
@@ -20,7 +22,7 @@ pub data Answer : Type 0 where
   Refusal : ℕ → ℕ → Answer
   -- the next position
   Next : Position → Answer
-  -- "Passing the second check releases the sum as the score": the output and the next position
+  -- "Passing the second check releases the sum as the score": the score and the next position
   Output : ℕ → Position → Answer
   -- "Stopped is no refusal.": the position names the gate; "naming the lowest such seat beside the line", or nobody
   Abort : Blame → Position → Answer
@@ -73,15 +75,17 @@ module _ (O : Ops) (P : Party) where
   unfoldable pub nextPosition : ℕ → ℕ → Round → Ruling → Position
   nextPosition j held r v = holding (next (P .circuit) j r v) (keep r held)
 
-  -- what a round r of gate j that ends so leads to, where output is the value at opened index 0
+  -- what a round r of gate j that ends so leads to, where output is the score. Of a give "others get no score": they are told the next position
   unfoldable pub concludes : ℕ → ℕ → ℕ → Round → Ruling → Answer
   concludes output j held r Passed =
-      cond (releases r) (Output output (nextPosition j held r Passed)) (Next (nextPosition j held r Passed))
+      cond (releases r && seenBy (alone (P .me)) (gate (P .circuit) j))
+      (Output output (nextPosition j held r Passed)) (Next (nextPosition j held r Passed))
   concludes output j held r (Stopped b) = Abort b (nextPosition j held r (Stopped b))
 
   -- what receiving round r of gate j leads to
   unfoldable pub outcome : List ℕ → ℕ → ℕ → List ℕ → Round → Answer
-  outcome l j held heard r = concludes (read (layout (P .circuit)) l (Value 0)) j held r (finds O P l r heard)
+  outcome l j held heard r =
+      concludes (score O (layout (P .circuit)) l (gate (P .circuit) j) (recordOf P j)) j held r (finds O P l r heard)
 
   -- Hearing: "a hearing half, which reads all seats' words in seat order"
   unfoldable pub receiveAnswer : List ℕ → Position → List ℕ → Answer

@@ -2,12 +2,13 @@
 -- Assumes nothing.
 use Prim.Native.Nat.{ℕ, _*_, _<_}
 use mathlib.Core.Path.{_≡_}
+use mathlib.Core.Bool.{true}
 use mathlib.Core.List.{List}
 use lib.ListN.{length, getD}
 use Rattle.algebra.specs.Ops.{Ops}
 use Rattle.algebra.specs.Sum.{sum}
 use Rattle.circuit.specs.Gate.{Gate, gate, gates}
-use Rattle.circuit.specs.Kind.{Class, Local, Owned, Opens, Output, shape}
+use Rattle.circuit.specs.Kind.{Class, Local, Owned, Opens, Output, shape, isGive}
 use Rattle.circuit.specs.Count.{prepSize}
 use Rattle.protocol.specs.Part.{partAt}
 use Rattle.protocol.specs.Party.{recordIn, maskAt, wholeMaskAt, aAt, bAt, cAt}
@@ -36,7 +37,7 @@ module _ (O : Ops) (n : ℕ) (c preps : List ℕ) where
   abbrev pub Authentic : ℕ → ℕ → Type 0
   Authentic j k = macSum j k ≡ mul wholeKey (shareSum j k)
 
-  -- "the owner's whole mask is the mask's sum"
+  -- "the owner's whole mask is the mask's sum"; of a give the receiver's: a "mask record whose whole mask the receiver knows"
   pub record GoodMask (j owner : ℕ) : Type 0 where
     pub mask : Authentic j maskAt
     pub whole : getD (recordAt owner j) wholeMaskAt 0 ≡ shareSum j maskAt
@@ -52,7 +53,7 @@ module _ (O : Ops) (n : ℕ) (c preps : List ℕ) where
   GoodRecord j g Local = Unit {0}
   GoodRecord j g Owned = GoodMask j (g .first)
   GoodRecord j g Opens = GoodTriple j (shape g .openings)
-  GoodRecord j g Output = Unit {0}
+  GoodRecord j g Output = isGive g ≡ true → GoodMask j (g .second)
 
   -- "Material over all seats is good when .."; "Good material passes 8 and 9"
   pub record Good : Type 0 where

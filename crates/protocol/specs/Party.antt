@@ -35,7 +35,7 @@ unfoldable pub inputOf : Party → ℕ → ℕ
 inputOf P j = getD (P .inputs) (inputAt (P .circuit) (P .me) j) 0
 
 -- "three numbers for each in line (mask share, MAC share, whole mask) and six for each mul line (a, MAC of a, b, MAC of b, c, MAC of c)"; of an
--- sq line "Its record is a, MAC of a, c, MAC of c": where each stands in its record
+-- sq line "Its record is a, MAC of a, c, MAC of c"; of a give line "a three-number mask record", as of an in line: where each stands in its record
 abbrev pub maskAt : ℕ
 maskAt = 0
 

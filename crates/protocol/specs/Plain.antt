@@ -1,12 +1,12 @@
 -- The circuit's value on plain inputs.
 -- Assumes nothing.
 use Prim.Native.Nat.{ℕ, zero, suc}
-use mathlib.Core.Bool.{cond}
+use mathlib.Core.Bool.{Bool, cond, _&&_}
 use mathlib.Core.List.{List, [], _∷_, _++_}
 use lib.ListN.{getD}
 use Rattle.algebra.specs.Ops.{Ops}
-use Rattle.circuit.specs.Gate.{Kind, In, Add, Sub, Plus, Times, Mul, Out, Sq, Gate, gate, gates}
-use Rattle.circuit.specs.Kind.{isOut}
+use Rattle.circuit.specs.Gate.{Kind, In, Add, Sub, Plus, Times, Mul, Out, Sq, Give, Gate, gate, gates}
+use Rattle.circuit.specs.Kind.{isOut, seenBy, everyone}
 use Rattle.protocol.specs.Party.{inputOf}
 use Rattle.protocol.specs.Joint.{Joint, party}
 
@@ -15,7 +15,7 @@ module _ (O : Ops) where
 
   -- "On plain inputs, the value of an in line is its owner's input for it; of add, sub and mul the sum, difference and product of the two
   -- named values; of plus and times the named value with the constant added or multiplied." Of sq the product of the named
-  -- value and itself. An out gate has no value: 0 keeps its place. vs are the values of the earlier gates
+  -- value and itself. An out gate has no value, nor has a give: 0 keeps its place. vs are the values of the earlier gates
   unfoldable pub kindValue : Kind → ℕ → ℕ → ℕ → ℕ → ℕ
   kindValue In input x z k = input
   kindValue Add input x z k = add x z
@@ -25,6 +25,7 @@ module _ (O : Ops) where
   kindValue Mul input x z k = mul x z
   kindValue Out input x z k = 0
   kindValue Sq input x z k = mul x x
+  kindValue Give input x z k = 0
 
   unfoldable pub valueOf : ℕ → List ℕ → Gate → ℕ
   valueOf input vs g = kindValue (g .kind) input (getD vs (g .first) 0) (getD vs (g .second) 0) (g .constant)
@@ -43,11 +44,15 @@ module _ (O : Ops) where
     unfoldable pub value : ℕ → ℕ
     value j = getD (values (gates (J .circuit))) j 0
 
-    -- "An out line's score is the value it names."
-    unfoldable pub scoreOf : Gate → List ℕ
-    scoreOf g = cond (isOut g) (value (g .first) ∷ []) []
+    -- "An out line's score is the value it names.", and so is a give's: the score of gate g, if a party of A sees it
+    unfoldable pub scoreOf : (ℕ → Bool) → Gate → List ℕ
+    scoreOf A g = cond (isOut g && seenBy A g) (value (g .first) ∷ []) []
 
-    -- the scores of the gates before j, in order
-    unfoldable pub scores : ℕ → List ℕ
-    scores zero = []
-    scores (suc j) = scores j ++ scoreOf (gate (J .circuit) j)
+    -- the scores of the gates before j that A's parties see, in order
+    unfoldable pub scoresSeen : (ℕ → Bool) → ℕ → List ℕ
+    scoresSeen A zero = []
+    scoresSeen A (suc j) = scoresSeen A j ++ scoreOf A (gate (J .circuit) j)
+
+    -- all scores
+    abbrev pub scores : ℕ → List ℕ
+    scores j = scoresSeen everyone j

@@ -7,16 +7,16 @@ use lib.ListN.{getD}
 use lib.Dec.{eqb}
 use Rattle.algebra.specs.Ops.{Ops}
 use Rattle.algebra.specs.Sum.{sum}
-use Rattle.circuit.specs.Gate.{Kind, In, Add, Sub, Plus, Times, Mul, Out, Sq, Gate, gate, gates}
-use Rattle.circuit.specs.Kind.{Class, Local, Owned, Opens, Output, shape, isLinear, factor}
+use Rattle.circuit.specs.Gate.{Kind, In, Add, Sub, Plus, Times, Mul, Out, Sq, Give, Gate, gate, gates}
+use Rattle.circuit.specs.Kind.{Class, Local, Owned, Opens, Output, shape, isLinear, isGive, factor}
 use Rattle.circuit.specs.Count.{unchecked}
 use Rattle.circuit.specs.Round.{Check, First, Second, Round, Own, Open, Commit, Reveal, isReveal, commitWords, revealWords, words}
 use Rattle.sha256.specs.Digest.{same}
 use Rattle.protocol.specs.Part.{Part, partAt, plus, minus, scale, shift, product}
-use Rattle.protocol.specs.Scratch.{Layout, layout, wire, putWire, putOpened, band, marksOf, putMarks}
+use Rattle.protocol.specs.Scratch.{Layout, layout, Value, read, wire, putWire, putOpened, band, marksOf, putMarks}
 use Rattle.protocol.specs.Position.{Point, aborted, follow}
-use Rattle.protocol.specs.Party.{Party, key, recordOf, maskAt, aAt, bAt, cAt}
-use Rattle.protocol.specs.Send.{mark, masked}
+use Rattle.protocol.specs.Party.{Party, key, recordOf, maskAt, wholeMaskAt, aAt, bAt, cAt}
+use Rattle.protocol.specs.Send.{mark, masked, shown}
 
 -- whom a stop names: the party whose reveal does not fit its mark, or nobody
 pub data Blame : Type 0 where
@@ -56,7 +56,7 @@ unfoldable pub next : List ℕ → ℕ → Round → Ruling → Point
 next c j r v = cond (passed v) (follow c j r) (aborted j)
 
 module _ (O : Ops) where
-  open Ops O using (mul)
+  open Ops O using (add, mul)
 
   -- the sum over n parties of the word t of each, where each sent k
   unfoldable pub heardSum : ℕ → ℕ → ℕ → List ℕ → ℕ
@@ -82,9 +82,13 @@ module _ (O : Ops) where
       putWire y (putDifferences y l x z m k u e d) j
       (product O i key (partAt m aAt) (partAt m (bAt k)) (partAt m (cAt k)) e d)
 
-  -- "hearing makes the sum and its MAC share the only opened entry, at index 0"
-  unfoldable pub afterOpenOutput : Layout → List ℕ → ℕ → ℕ → List ℕ
-  afterOpenOutput y l x s = putOpened y l 0 s (wire y l x .mac)
+  -- "hearing makes the sum and its MAC share the only opened entry, at index 0": output g shows s, and its record starts m
+  unfoldable pub afterOpenOutput : Layout → List ℕ → Gate → List ℕ → ℕ → List ℕ
+  afterOpenOutput y l g m s = putOpened y l 0 s (shown O y l g m .mac)
+
+  -- "Passing the second check releases the sum as the score"; of a give "The receiver's answer is the shown sum plus the whole mask"
+  unfoldable pub score : Layout → List ℕ → Gate → List ℕ → ℕ
+  score y l g m = cond (isGive g) (add (read y l (Value 0)) (getD m wholeMaskAt 0)) (read y l (Value 0))
 
   -- a gate that needs no round, of gates x and z and a constant k. "add; sub: first and second name earlier lines"; "plus; times: .. the
   -- constant is added or multiplied"
@@ -97,6 +101,7 @@ module _ (O : Ops) where
   linear i key Mul x z k = x
   linear i key Out x z k = x
   linear i key Sq x z k = x
+  linear i key Give x z k = x
 
   -- what is written for gate j, which is g
   unfoldable pub afterLinear : ℕ → ℕ → Layout → List ℕ → ℕ → Gate → List ℕ
@@ -146,7 +151,7 @@ module _ (O : Ops) where
     unfoldable pub received : List ℕ → ℕ → Round → List ℕ → List ℕ
     received l j Own heard = ownReceived l j heard (shape (gate (P .circuit) j) .class)
     received l j Open heard =
-        afterOpenOutput (layout (P .circuit)) l (gate (P .circuit) j .first)
+        afterOpenOutput (layout (P .circuit)) l (gate (P .circuit) j) (recordOf P j)
         (heardSum (P .parties) (words (gate (P .circuit) j) Open) 0 heard)
     received l j (Commit k) heard = putMarks (layout (P .circuit)) l heard
     received l j (Reveal k) heard = checkPassed l j k

@@ -5,13 +5,15 @@ use mathlib.Core.Bool.{cond, _&&_}
 use mathlib.Core.List.{List, [], _∷_, _++_}
 use lib.ListN.{take, drop}
 use Rattle.algebra.specs.Ops.{Ops}
-use Rattle.circuit.specs.Gate.{gates}
+use Rattle.circuit.specs.Gate.{gate, gates}
+use Rattle.circuit.specs.Kind.{receiver}
 use Rattle.circuit.specs.Count.{unchecked}
 use Rattle.circuit.specs.Round.{Round, coefficientsIn, commitsIn}
-use Rattle.protocol.specs.Scratch.{layout, scratchSize, Value, read, band}
+use Rattle.protocol.specs.Scratch.{layout, scratchSize, band}
+use Rattle.protocol.specs.Party.{recordOf}
 use Rattle.protocol.specs.Position.{Point, start, keep, whenSending}
 use Rattle.protocol.specs.Send.{sent, holds, noted}
-use Rattle.protocol.specs.Receive.{Blame, Nobody, Ruling, Passed, Stopped, passed, next, finds, left}
+use Rattle.protocol.specs.Receive.{Blame, Nobody, Ruling, Passed, Stopped, passed, score, next, finds, left}
 use Rattle.protocol.specs.Entry.{releases}
 use Rattle.protocol.specs.Joint.{Joint, joined, party, nonceFor}
 
@@ -95,11 +97,13 @@ module _ (O : Ops) (J : Joint) where
         blame = blamed v;
       }
 
-  -- the output that round r releases, if any
+  -- the score that round r releases, if any: that of a give is the receiver's, "listed by the joint run at the line's turn"
   unfoldable pub released : State → Round → List ℕ
   released s r =
+      let g = gate (J .circuit) (s .point .gate) in
+      let i = receiver g in
       cond (releases r && passed (ends s r))
-      (read (layout (J .circuit)) (s .scratch 0) (Value 0) ∷ []) []
+      (score O (layout (J .circuit)) (s .scratch i) g (recordOf (party J i) (s .point .gate)) ∷ []) []
 
   -- no round
   unfoldable pub still : State → Run

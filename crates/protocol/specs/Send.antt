@@ -7,15 +7,15 @@ use lib.ListN.{length, drop, getD}
 use lib.Dec.{eqb}
 use Rattle.algebra.specs.Ops.{Ops}
 use Rattle.algebra.specs.Sum.{sum}
-use Rattle.circuit.specs.Gate.{gate}
-use Rattle.circuit.specs.Kind.{Class, Local, Owned, Opens, Output, shape, factor}
+use Rattle.circuit.specs.Gate.{Gate, gate}
+use Rattle.circuit.specs.Kind.{Class, Local, Owned, Opens, Output, shape, isGive, factor}
 use Rattle.circuit.specs.Count.{unchecked}
 use Rattle.circuit.specs.Round.{Round, Own, Open, Commit, Reveal, isCommit, openedIn}
 use Rattle.sha256.specs.Sha256.{wordsOf}
 use Rattle.sha256.specs.Digest.{digest}
 use Rattle.protocol.specs.Part.{Part, partAt, minus}
 use Rattle.protocol.specs.Scratch.{Layout, layout, Value, ValueMac, read, wire, nonceOf, putNonce}
-use Rattle.protocol.specs.Party.{Party, key, recordOf, inputOf, wholeMaskAt, aAt, bAt}
+use Rattle.protocol.specs.Party.{Party, key, recordOf, inputOf, maskAt, wholeMaskAt, aAt, bAt}
 
 -- what a reveal posts: "the check word and the nonce as eight 32-bit words high byte first"; ws are the nonce's words
 abbrev pub revealed : ℕ → List ℕ → List ℕ
@@ -48,6 +48,11 @@ module _ (O : Ops) where
       (masked y l x m aAt .share ∷ masked y l z m (bAt k) .share ∷ [])
       (masked y l x m aAt .share ∷ [])
 
+  -- the party's part of what output g shows: "show, one word, the seat's share of first"; a give "shows and checks the line less the mask", which
+  -- starts its record m
+  unfoldable pub shown : Layout → List ℕ → Gate → List ℕ → Part
+  shown y l g m = cond (isGive g) (masked y l (g .first) m maskAt) (wire y l (g .first))
+
   -- "v is the sum of draw × opened value; the check word is the sum of draw × MAC share, less key share × v", over the first k entries
   unfoldable pub checkShare : Layout → List ℕ → ℕ → ℕ → List ℕ → ℕ
   checkShare y l k key coefficients =
@@ -77,7 +82,7 @@ module _ (O : Ops) where
     -- the nonce that stands in the scratch
     unfoldable pub sent : List ℕ → ℕ → ℕ → List ℕ → List ℕ → Round → List ℕ
     sent l j held coefficients nonce Own = ownWords l j (shape (gate (P .circuit) j) .class)
-    sent l j held coefficients nonce Open = wire (layout (P .circuit)) l (gate (P .circuit) j .first) .share ∷ []
+    sent l j held coefficients nonce Open = shown (layout (P .circuit)) l (gate (P .circuit) j) (recordOf P j) .share ∷ []
     sent l j held coefficients nonce (Commit k) = mark (revealed (holds l j (Commit k) coefficients) (wordsOf nonce))
     sent l j held coefficients nonce (Reveal k) = revealed held (nonceOf (layout (P .circuit)) l)
 

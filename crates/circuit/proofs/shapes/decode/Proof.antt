@@ -1,9 +1,9 @@
--- `circuit::shapes::decode` meets its contract: below the last kind its tests of the number are the definition's, in the same order; above there is none.
+-- `circuit::shapes::decode` meets its contract: its tests of the number are the definition's; above the last kind there is none.
 -- Assumes nothing.
 use mathlib.Core.Path.{sym}
 use native.Mathlib.Omega.{arith}
 use Rattle.circuit.proofs.Tests.{tests}
-use Rattle.circuit.proofs.Gates.{no-last, decode-past}
+use Rattle.circuit.proofs.Gates.{other-kinds, decode-past}
 use Rattle.circuit.specs.Gate.{decode}
 use Rattle.circuit.proofs.shapes.decode.Statement.{statement}
 use Rattle.circuit.proofs.shapes.decode.Tie as tie
@@ -34,15 +34,19 @@ returns-6 c = search tests
 
 returns-7 : tie.Need-returns-7
 unfolding decode
-returns-7 c = search (tests, no-last)
+returns-7 c = let below = other-kinds _ (c .before .before .before .before .before .before .if1 .taken) in rw (below .0, below .1) (search tests)
 
 returns-8 : tie.Need-returns-8
 unfolding decode
 returns-8 c = rw (c .if8 .taken)
 
 returns-9 : tie.Need-returns-9
-returns-9 c = sym (decode-past _ (omega (arith, c .before .if1 .left, c .if8 .left)))
+unfolding decode
+returns-9 c = rw (c .if9 .taken)
+
+returns-10 : tie.Need-returns-10
+returns-10 c = sym (decode-past _ (omega (arith, c .before .before .if1 .left, c .before .if8 .left, c .if9 .left)))
 
 pub decode-spec : {M : Type 1} → statement M
 decode-spec =
-    tie.close (tie.spec returns returns-2 returns-3 returns-4 returns-5 returns-6 returns-7 returns-8 returns-9)
+    tie.close (tie.spec returns returns-2 returns-3 returns-4 returns-5 returns-6 returns-7 returns-8 returns-9 returns-10)

@@ -50,9 +50,13 @@ returns-8 : tie.Need-returns-8
 unfolding kindShape shapeOf
 returns-8 c = rw (c .enum-told8 .given .1)
 
+returns-9 : tie.Need-returns-9
+unfolding kindShape shapeOf
+returns-9 c = rw (c .enum-told9 .given .1)
+
 pub shape-of-spec : {M : Type 1} → statement M
 shape-of-spec =
     tie.close
     (tie.spec (λ c. search needs) (λ c. search needs) local-requires (λ c. search needs) local-requires-2 (λ c. search needs) local-requires-3
-    (λ c. search needs) local-requires-4 (λ c. search needs) (λ c. search needs) (λ c. search needs) returns returns-2 returns-3 returns-4 returns-5
-    returns-6 returns-7 returns-8)
+    (λ c. search needs) local-requires-4 (λ c. search needs) (λ c. search needs) (λ c. search needs) (λ c. search needs) returns returns-2 returns-3 returns-4 returns-5
+    returns-6 returns-7 returns-8 returns-9)
