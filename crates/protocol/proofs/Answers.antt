@@ -5,20 +5,22 @@
 use Prim.Native.Nat.{ℕ}
 use mathlib.Core.Path.{_≡_, refl, sym, ap, _∙_}
 use mathlib.Core.Logic.{_↔_}
-use mathlib.Core.Bool.{Bool, true, false, cond}
+use mathlib.Core.Bool.{Bool, true, false, cond, _&&_}
 use mathlib.Core.List.{List}
 use native.Mathlib.Omega.{arith}
 use lib.Dec.{eqb}
 use borrow.Author.Tests.{eqb-true, eqb-false}
 use Rattle.algebra.specs.Ops.{Ops}
 use Rattle.circuit.specs.Verdict.{Verdict, Accepted, Refused, ask, _then_}
+use Rattle.circuit.specs.Gate.{gate}
+use Rattle.circuit.specs.Kind.{seenBy, alone}
 use Rattle.circuit.specs.Round.{First, Second, Round, Own, Open, Commit, Reveal, isReveal, revealWords}
-use Rattle.circuit.proofs.Tests.{false-no}
+use Rattle.circuit.proofs.Tests.{false-no, both-left, both-right}
 use Rattle.circuit.proofs.Verdicts.{refused-no, ask-true, then-left, then-right}
-use Rattle.protocol.specs.Scratch.{layout, read, Value, marksOf}
+use Rattle.protocol.specs.Scratch.{layout, marksOf}
 use Rattle.protocol.specs.Position.{Position, Stage, Send, Receive, Finished, Aborted, holding, aborted, follow, keep, occurs, whenSending, whenReceiving}
 use Rattle.protocol.specs.Party.{Party}
-use Rattle.protocol.specs.Receive.{Blame, Nobody, Blames, Ruling, Passed, Stopped, passed, misfit, weighs, heardSum, ruling, next, finds}
+use Rattle.protocol.specs.Receive.{Blame, Nobody, Blames, Ruling, Passed, Stopped, passed, misfit, weighs, heardSum, ruling, next, scored, finds}
 use Rattle.protocol.proofs.Following.{ruling-reveals, ruling-fits, ruling-blames, weighs-zero, weighs-not, aborted-holds}
 use Rattle.protocol.specs.Ask.{askLent, askSend, askReceive}
 use Rattle.protocol.specs.Entry.{Answer, Refusal, Next, Output, Abort, answer, releases, sendAnswer, receiveAnswer, concludes, outcome, nextPosition}
@@ -55,21 +57,21 @@ ended-receiving stopped other f = refl
 
 -- what a round that ends so leads to
 output-only : (O : Ops) (P : Party) (w j held : ℕ) (r : Round) (u : Ruling) {v : ℕ} {x : Position} → concludes O P w j held r u ≡ Output v x
-    → (u ≡ Passed) × (releases r ≡ true) × (w ≡ v) × (nextPosition O P j held r Passed ≡ x)
+    → (u ≡ Passed) × (releases r ≡ true) × (seenBy (alone (P .me)) (gate (P .circuit) j) ≡ true) × (w ≡ v) × (nextPosition O P j held r Passed ≡ x)
 unfolding concludes
-output-only O P w j held r Passed {v} {x} h = go (releases r) refl h
+output-only O P w j held r Passed {v} {x} h = go (releases r && seenBy (alone (P .me)) (gate (P .circuit) j)) refl h
   where
-    go : (d : Bool) → releases r ≡ d
+    go : (d : Bool) → (releases r && seenBy (alone (P .me)) (gate (P .circuit) j)) ≡ d
         → cond d (Output w (nextPosition O P j held r Passed)) (Next (nextPosition O P j held r Passed)) ≡ Output v x
-        → (Passed ≡ Passed) × (releases r ≡ true) × (w ≡ v) × (nextPosition O P j held r Passed ≡ x)
-    go true e h = (refl, e, cc, cc)
+        → (Passed ≡ Passed) × (releases r ≡ true) × (seenBy (alone (P .me)) (gate (P .circuit) j) ≡ true) × (w ≡ v) × (nextPosition O P j held r Passed ≡ x)
+    go true e h = (refl, both-left (releases r) _ e, both-right (releases r) _ e, cc, cc)
     go false e h = let z : _≡_ {A = ℕ} 0 1 = cc in absurd (omega arith)
 output-only O P w j held r (Stopped b) h = let z : _≡_ {A = ℕ} 0 1 = cc in absurd (omega arith)
 
 abort-only : (O : Ops) (P : Party) (w j held : ℕ) (r : Round) (u : Ruling) {b : Blame} {x : Position} → concludes O P w j held r u ≡ Abort b x
     → (u ≡ Stopped b) × (nextPosition O P j held r (Stopped b) ≡ x)
 unfolding concludes
-abort-only O P w j held r Passed {b} {x} h = go (releases r) h
+abort-only O P w j held r Passed {b} {x} h = go (releases r && seenBy (alone (P .me)) (gate (P .circuit) j)) h
   where
     go : (d : Bool) → cond d (Output w (nextPosition O P j held r Passed)) (Next (nextPosition O P j held r Passed)) ≡ Abort b x
         → (Passed ≡ Stopped b) × (nextPosition O P j held r (Stopped b) ≡ x)
@@ -112,13 +114,15 @@ module _ (O : Ops) (P : Party) (l : List ℕ) (at : Position) where
     misfitting = misfit (P .parties) (marksOf (P .parties) (layout (P .circuit)) l) heard
 
     -- "Passing the second check releases the sum as the score": no question refuses, the round is the second reveal of the position's gate,
-    -- every reveal fits its mark, the check shares sum to zero, v is the number at opened index 0, and x is the position that follows the gate
+    -- every reveal fits its mark, the check shares sum to zero, the score is for this party, v is the score, and x is the position that follows
+    -- the gate
     pub record Releases (v : ℕ) (x : Position) : Type 0 where
       pub accepts : askReceive size P l at heard ≡ Accepted
       pub second-reveal : at .stage ≡ Receive (Reveal Second)
       pub all-fit : misfitting ≡ Nobody
       pub zero-sum : revealedSum ≡ 0
-      pub output : v ≡ read (layout (P .circuit)) l (Value 0)
+      pub told : seenBy (alone (P .me)) (gate (P .circuit) (at .gate)) ≡ true
+      pub output : v ≡ scored O P l (at .gate)
       pub position : x ≡ holding (follow (P .circuit) (at .gate) (Reveal Second)) 0
 
     -- why a reveal stops a run: "A reveal whose hash is not the mark written for its seat stops the run before the sum is asked, naming the lowest
@@ -206,7 +210,7 @@ module _ (O : Ops) (P : Party) (l : List ℕ) (at : Position) where
         there : receiveAnswer O P l at heard ≡ Output v x → Releases v x
         there h =
             let (r, e, ok, is) = outcome-of h (λ number index q. let z : _≡_ {A = ℕ} 0 1 = cc in omega arith) in
-            let (found, released, v-is, x-is) = output-only O P _ (at .gate) (at .held) r (finds O P l r heard) is in
+            let (found, released, told, v-is, x-is) = output-only O P _ (at .gate) (at .held) r (finds O P l r heard) is in
             let second = release-second r released in
             let (fit, zero) = passed-found (Reveal Second) refl (ap (λ (r : Round). finds O P l r heard) (sym second) ∙ found) in
             record {
@@ -214,6 +218,7 @@ module _ (O : Ops) (P : Party) (l : List ℕ) (at : Position) where
               second-reveal = e ∙ ap Receive second;
               all-fit = fit;
               zero-sum = zero;
+              told = told;
               output = sym v-is;
               position = sym x-is ∙ ap (λ (r : Round). nextPosition O P (at .gate) (at .held) r Passed) second ∙ goes-on;
             }
@@ -221,7 +226,7 @@ module _ (O : Ops) (P : Party) (l : List ℕ) (at : Position) where
         back : Releases v x → receiveAnswer O P l at heard ≡ Output v x
         back h =
             receives-outcome (h .accepts) (Reveal Second) (h .second-reveal)
-            ∙ rw (found-passed (Reveal Second) refl (h .all-fit) (h .zero-sum), goes-on, h .output, h .position)
+            ∙ rw (found-passed (Reveal Second) refl (h .all-fit) (h .zero-sum), h .told, goes-on, h .output, h .position)
 
     -- "A reveal whose hash is not the mark written for its seat stops the run before the sum is asked ..; else the sum alone decides"
     pub abort-exactly : (b : Blame) (x : Position) → (receiveAnswer O P l at heard ≡ Abort b x) ↔ Stops b x

@@ -25,7 +25,7 @@ use Rattle.circuit.proofs.Tests.{by-cases}
 use Rattle.protocol.specs.Part.{Part}
 use Rattle.protocol.specs.Scratch.{Layout, layout, Slot, Share, Mac, Value, ValueMac, offset, slotsSize, read, write, wire, putWire, putOpened}
 use Rattle.protocol.specs.Party.{Party, key}
-use Rattle.protocol.specs.Send.{masked, checkShare, opening, ownWords, sent, holds, noted}
+use Rattle.protocol.specs.Send.{masked, shown, checkShare, opening, ownWords, showing, sent, holds, noted}
 use Rattle.protocol.specs.Receive.{afterInput, putDifferences, afterOpening, afterOpenOutput, afterLinear, settle, Ruling, passed, onward, ownReceived, checkPassed, received, finds, left}
 use Rattle.protocol.specs.Holding.{Within, Worked}
 use Rattle.protocol.proofs.Slots.{slot-fits, length-write, length-put, length-opened}
@@ -177,9 +177,10 @@ module _ {O : Ops} (F : Field O) (P : Party) (l e : List ℕ) (j : ℕ) where
     factor-front : wire y (l ++ e) (factor g) ≡ wire y l (factor g)
     factor-front = wire-front y e l _ (stood-room k) (opens-low .1)
 
-  -- the wire that an output shows
-  shown-front : Asks Open → wire y (l ++ e) (g .first) ≡ wire y l (g .first)
-  shown-front k = wire-front y e l _ (stood-room k) (shown-held k .within)
+  -- what an output shows
+  shown-front : Asks Open → showing O P (l ++ e) j ≡ showing O P l j
+  unfolding showing shown masked
+  shown-front k = rw (wire-front y e l (g .first) (stood-room k) (shown-held k .within))
 
   own-front : Asks Own → (shape g .class ≡ Owned) ⊎ (shape g .class ≡ Opens) → ownWords O P (l ++ e) j (shape g .class) ≡ ownWords O P l j (shape g .class)
   unfolding ownWords opening masked

@@ -12,7 +12,7 @@ use Rattle.algebra.specs.Ops.{Ops}
 use Rattle.algebra.specs.Field.{Field}
 use Rattle.algebra.proofs.Sums.{sum-lt}
 use Rattle.circuit.specs.Gate.{gate, gates}
-use Rattle.circuit.specs.Kind.{Class, Local, Owned, Opens, Output, shape, isClass}
+use Rattle.circuit.specs.Kind.{Class, Local, Owned, Opens, Output, shape, isClass, isGive}
 use Rattle.circuit.specs.Count.{unchecked}
 use Rattle.circuit.specs.Round.{First, Second, Round, Own, Open, Commit, Reveal, isCommit, checkRounds, classRounds, rounds, among, shapeWords, words, checked, openedIn, nonceIn, nonceSize, nonceWords}
 use Rattle.circuit.specs.Valid.{Valid}
@@ -24,7 +24,7 @@ use Rattle.circuit.proofs.Tests.{by-cases}
 use Rattle.protocol.specs.Scratch.{layout, slotsSize, scratchSize, putNonce}
 use Rattle.sha256.specs.Sha256.{wordsOf}
 use Rattle.sha256.proofs.Bytes.{length-words}
-use Rattle.protocol.specs.Send.{noted}
+use Rattle.protocol.specs.Send.{masked, shown, showing, noted}
 use Rattle.protocol.specs.Position.{Stage, stageOccurs, Send, Receive, Finished, Aborted, Point, finished, aborted, begin, reach, enter, resume}
 use Rattle.protocol.specs.Party.{Party, key}
 use Rattle.protocol.specs.Receive.{Ruling, passed, heardSum, next, onward, ownReceived, checkPassed, received, left}
@@ -34,7 +34,7 @@ use Rattle.protocol.specs.Holding.{Held, Worked}
 use Rattle.protocol.specs.Code.{Sited}
 use Rattle.protocol.specs.Ready.{Ready}
 use Rattle.protocol.proofs.Following.{followed, unchecked-reach, next-followed, next-aborted}
-use Rattle.protocol.proofs.Writing.{OpenedTo, worked-skip}
+use Rattle.protocol.proofs.Writing.{OpenedTo, Elements, worked-skip, wire-elements, minus-elements}
 use Rattle.protocol.proofs.Tails.{slots-room, marks-room, nonce-room, nonce-length, marks-length, read-nonce, read-marks, worked-same, opened-same}
 use Rattle.protocol.proofs.Settling.{Keeps, settle-keeps}
 use Rattle.protocol.proofs.Steps.{input-keeps, opening-keeps, open-output-keeps}
@@ -112,6 +112,15 @@ module _ {n q : ℕ} {c l : List ℕ} {j : ℕ} where
       let m = output-named (k .valid) j (k .within) (class-at-round c j Open (k .occurs)) in
       k .worked (gate c j .first) (m .earlier) (m .valued)
 
+-- what it shows is of elements
+pub showing-elements : {O : Ops} (F : Field O) (P : Party) {l : List ℕ} {j : ℕ} → Stood (P .parties) (O .size) (P .circuit) l j Open → Elements (O .size) (showing O P l j)
+unfolding showing shown masked
+showing-elements F P {l} {j} k =
+    by-cases (isGive (gate (P .circuit) j))
+    (λ e. rw e (minus-elements F _ _))
+    (λ e. rw e (wire-elements (layout (P .circuit)) l (gate (P .circuit) j .first) (shown-held k)))
+
+module _ {n q : ℕ} {c l : List ℕ} {j : ℕ} where
   -- there is room for the entries that a gate opens
   pub entries : {r : Round} → Stood n q c l j r → unchecked c j + shape (gate c j) .openings < layout c .capacity
   unfolding layout
@@ -180,7 +189,7 @@ module _ {O : Ops} (F : Field O) where
     followed-stands Open k e =
         let s =
         open-output-keeps F (P .circuit) (layout (P .circuit)) l j (stood-room k) (k .worked) _ _
-        (omega (arith, unchecked-fits (P .circuit) j (omega (arith, k .within)))) (heard-low _ _ _ _) (shown-held k) in
+        (omega (arith, unchecked-fits (P .circuit) j (omega (arith, k .within)))) (heard-low _ _ _ _) (showing-elements F P k) in
         record { len = s .len; stands = (s .worked, s .opened) }
     followed-stands (Commit h) k e =
         let s = read-marks (layout (P .circuit)) l (P .parties) heard (unfold shapeWords in e) (marks-room (P .parties) (P .circuit) (k .room)) in

@@ -12,9 +12,11 @@ use Rattle.circuit.specs.Gate.{gateSize, gate}
 use Rattle.circuit.specs.Kind.{Owned, Opens, shape}
 use Rattle.circuit.specs.Round.{Check, First, Second, Round, Own, Open, Commit, Reveal}
 use Rattle.circuit.proofs.KindLaws.{owned-facts}
+use Rattle.protocol.specs.Part.{Part}
 use Rattle.protocol.specs.Scratch as S
 use Rattle.protocol.specs.Party.{Party, key, recordIn, recordOf}
 use Rattle.protocol.specs.Position.{reach}
+use Rattle.protocol.specs.Send.{showing}
 use Rattle.protocol.specs.Receive.{afterInput, afterOpening, afterOpenOutput, Ruling, passed, settle, onward, ownReceived, checkPassed, received, left}
 use Rattle.protocol.specs.declared.Layout.{Layout}
 use Rattle.protocol.specs.declared.Site.{Site}
@@ -104,8 +106,8 @@ module _ (O : Ops) (P : Party) (l : List ℕ) (y : Layout) (at : Site) (heard : 
       (e₁ ∙ rw (w .first .is, w .second .is, first-heard O (P .parties) heard Own g c, second-heard O (P .parties) heard Own g c, em, n .first, n .second, n .openings, k .lay, k .sited .prep, k .sited .unchecked)))
 
   pub output-received : Ready (O .size) P l y at Open
-      → {x e : ℕ}
-      → x ≡ gate (P .circuit) (at .gate) .first
+      → {x : Part} {e : ℕ}
+      → x ≡ showing O P l (at .gate)
       → e ≡ heardFirst O (P .parties) (gate (P .circuit) (at .gate)) Open heard
       → {l₁ : List ℕ}
       → l₁ ≡ afterOpenOutput O (layoutOf y) l x e

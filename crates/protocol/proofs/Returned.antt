@@ -11,15 +11,16 @@ use Rattle.algebra.specs.Ops.{Ops}
 use Rattle.algebra.specs.Field.{Field}
 use Rattle.algebra.proofs.Ring.{sub-lt}
 use Rattle.circuit.specs.Verdict.{Verdict, Accepted, Refused}
-use Rattle.circuit.specs.Gate.{gates}
+use Rattle.circuit.specs.Gate.{gate, gates}
+use Rattle.circuit.specs.Kind.{seenBy, alone}
 use Rattle.circuit.specs.Round.{Round, isCommit, isReveal, rounds, among}
 use Rattle.circuit.proofs.Tests.{by-cases, both-right}
 use Rattle.circuit.proofs.Verdicts.{refused-no, then-left, then-right, ask-true}
-use Rattle.protocol.specs.Scratch.{layout, read, Value, marksOf}
+use Rattle.protocol.specs.Scratch.{layout, marksOf}
 use Rattle.protocol.specs.Position.{Position, Stage, Send, Receive, Finished, Aborted, holding, keep, occurs, stageOccurs, mayHold, whenSending, whenReceiving}
 use Rattle.protocol.specs.Party.{Party}
 use Rattle.protocol.specs.Send.{checkShare, holds}
-use Rattle.protocol.specs.Receive.{Ruling, Passed, Stopped, passed, ruling, finds}
+use Rattle.protocol.specs.Receive.{Ruling, Passed, Stopped, passed, ruling, scored, finds}
 use Rattle.protocol.specs.Ask.{askSend, askReceive}
 use Rattle.protocol.specs.Entry.{Answer, Refusal, Next, Output, Abort, answer, releases, sendAnswer, receiveAnswer, nextPosition, concludes, outcome}
 use Rattle.protocol.proofs.Following.{ruling-reveals, next-possible, next-holds}
@@ -53,7 +54,7 @@ Yields x (Abort b y) = y ≡ x
 
 yielded : (O : Ops) (P : Party) (w j held : ℕ) (r : Round) (v : Ruling) (x : Position) → Yields x (concludes O P w j held r v) → nextPosition O P j held r v ≡ x
 unfolding concludes
-yielded O P w j held r Passed x y = go (releases r) y
+yielded O P w j held r Passed x y = go (releases r && seenBy (alone (P .me)) (gate (P .circuit) j)) y
   where
     go : (b : Bool) → Yields x (cond b (Output w (nextPosition O P j held r Passed)) (Next (nextPosition O P j held r Passed))) → nextPosition O P j held r Passed ≡ x
     go true y = y
@@ -129,7 +130,7 @@ module _ {O : Ops} (F : Field O) (P : Party) (l : List ℕ) (at : Position) wher
       at-round r e here y =
           let marks = marksOf (P .parties) (layout (P .circuit)) l in
           subst (λ (z : Position). occurs size (P .circuit) z ≡ true)
-          (yielded O P (read (layout (P .circuit)) l (Value 0)) (at .gate) (at .held) r (ruling O (P .parties) r marks heard) x y)
+          (yielded O P (scored O P l (at .gate)) (at .gate) (at .held) r (ruling O (P .parties) r marks heard) x y)
           (next-occurs r (ruling O (P .parties) r marks heard) (ruling-reveals O (P .parties) marks heard r) here e)
 
       go : (v : Verdict) → askReceive size P l at heard ≡ v → Yields x (answer v (whenReceiving (at .stage) (Next at) (outcome O P l (at .gate) (at .held) heard))) → occurs size (P .circuit) x ≡ true

@@ -27,8 +27,8 @@ use Rattle.protocol.specs.Party.{Party, wholeMaskAt}
 use Rattle.protocol.specs.Send.{inputWord, masked, opening, ownWords, mark, sent}
 use Rattle.protocol.specs.Holding.{Below}
 use Rattle.protocol.specs.Ready.{HeardLow}
-use Rattle.protocol.proofs.Writing.{minus-elements, wire-elements}
-use Rattle.protocol.proofs.Keeping.{Stood, shown-held}
+use Rattle.protocol.proofs.Writing.{minus-elements}
+use Rattle.protocol.proofs.Keeping.{Stood, showing-elements}
 use Rattle.protocol.specs.Joint.{Joint, joined, party, nonceFor}
 use Rattle.protocol.specs.Run.{State, taken, said}
 use Rattle.protocol.proofs.Tails.{length-nonce, nonce-room}
@@ -144,7 +144,7 @@ module _ {O : Ops} (F : Field O) where
     sent-low Own k h = below-joined (omega (arith, F .one-lt)) n _ (λ i li. own-low (P i) (l i) j _)
     sent-low Open k h =
         below-joined (omega (arith, F .one-lt)) n _
-        (λ i li. below-one (wire-elements (layout (P i .circuit)) (l i) (gate (P i .circuit) j .first) (shown-held (k i li)) .share))
+        (λ i li. below-one (showing-elements F (P i) (k i li) .share))
     sent-low (Commit x) k h = tt
     sent-low (Reveal x) k h =
         λ i li.

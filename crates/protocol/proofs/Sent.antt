@@ -16,7 +16,7 @@ use Rattle.circuit.specs.Round.{Round, Own, Open, isCommit, words, openedIn, co
 use Rattle.circuit.proofs.KindLaws.{owned-facts, opens-facts}
 use Rattle.protocol.specs.Scratch as S
 use Rattle.protocol.specs.Party.{Party, key, recordIn, recordOf, inputOf, aAt, bAt}
-use Rattle.protocol.specs.Send.{inputWord, masked, checkShare, opening, ownWords, sent, holds, overwrite, openingWords}
+use Rattle.protocol.specs.Send.{inputWord, masked, checkShare, opening, ownWords, showing, sent, holds, overwrite, openingWords}
 use Rattle.protocol.specs.declared.Layout.{Layout}
 use Rattle.protocol.specs.declared.Site.{Site}
 use Rattle.protocol.specs.Holding.{Below, Held}
@@ -141,7 +141,7 @@ module _ (O : Ops) (P : Party) (l : List ℕ) (y : Layout) (at : Site) (held : �
   sent-opening k c n e = e ∙ rw (c, n .first, n .second, n .openings, k .sited .prep, k .lay)
 
   pub sent-output : Ready (O .size) P l y at Open
-      → ws ≡ overwrite (S.wire (layoutOf y) l (gate (P .circuit) (at .gate) .first) .share ∷ []) out
+      → ws ≡ overwrite (showing O P l (at .gate) .share ∷ []) out
       → ws ≡ overwrite (sent O P l (at .gate) held coefficients nonce Open) out
   unfolding sent
-  sent-output k e = e ∙ rw (k .lay)
+  sent-output k e = e

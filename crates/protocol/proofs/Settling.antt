@@ -9,7 +9,7 @@ use native.Mathlib.Numerals.{add-one}
 use lib.ListN.{length}
 use Rattle.algebra.specs.Ops.{Ops}
 use Rattle.algebra.specs.Field.{Field}
-use Rattle.circuit.specs.Gate.{Kind, In, Add, Sub, Plus, Times, Mul, Out, Sq, Gate, gate}
+use Rattle.circuit.specs.Gate.{Kind, In, Add, Sub, Plus, Times, Mul, Out, Sq, Give, Gate, gate}
 use Rattle.circuit.specs.Kind.{Local, Role, Unused, Party, Wire, Constant, kindShape, shape, isClass, isLinear}
 use Rattle.circuit.specs.Valid.{Fits, ValidGate}
 use Rattle.circuit.proofs.Tests.{false-no}
@@ -41,6 +41,7 @@ linear-elements F i key Times x z a e = scale-elements F a x
 linear-elements F i key Mul x z a e = false-no e
 linear-elements F i key Out x z a e = false-no e
 linear-elements F i key Sq x z a e = false-no e
+linear-elements F i key Give x z a e = false-no e
 
 -- and it looks at its second number only where that names a gate
 pub linear-second : (O : Ops) (i key : ℕ) (k : Kind) (x z z′ : Part) (a : ℕ)
@@ -55,6 +56,7 @@ linear-second O i key Times x z z′ a h = refl
 linear-second O i key Mul x z z′ a h = refl
 linear-second O i key Out x z z′ a h = refl
 linear-second O i key Sq x z z′ a h = refl
+linear-second O i key Give x z z′ a h = refl
 
 -- what a linear gate leaves
 pub linear-written : {O : Ops} (F : Field O) (i key : ℕ) (y : Layout) (l : List ℕ) (j : ℕ) (g : Gate)

@@ -19,7 +19,7 @@ use Rattle.protocol.specs.Send.{masked}
 use Rattle.protocol.specs.Receive.{afterInput, putDifferences, afterOpening, afterOpenOutput}
 use Rattle.protocol.specs.Holding.{Held, Worked}
 use Rattle.protocol.proofs.Slots.{length-opened, length-put, opened-twice, opened-either}
-use Rattle.protocol.proofs.Writing.{OpenedTo, worked-put, opened-put, worked-opened, opened-more, wire-elements, minus-elements, shift-elements, product-elements}
+use Rattle.protocol.proofs.Writing.{OpenedTo, Elements, worked-put, opened-put, worked-opened, opened-more, minus-elements, shift-elements, product-elements}
 use Rattle.protocol.proofs.Settling.{Keeps, written-keeps}
 
 module _ {O : Ops} (F : Field O) (c : List ℕ) (y : Layout) (l : List ℕ) (j : ℕ) (room : slotsSize y ≤ length l)
@@ -92,13 +92,13 @@ module _ {O : Ops} (F : Field O) (c : List ℕ) (y : Layout) (l : List ℕ) (j :
       }
 
   -- the shown value is the only entry
-  pub open-output-keeps : (x s : ℕ) → 0 < y .capacity → s < size → Held size y l x → Keeps size c y 1 l j (afterOpenOutput O y l x s)
+  pub open-output-keeps : (x : Part) (s : ℕ) → 0 < y .capacity → s < size → Elements size x → Keeps size c y 1 l j (afterOpenOutput O y l x s)
   unfolding afterOpenOutput
   open-output-keeps x s h ls k =
       record {
         len = length-opened y l 0 s _;
         worked = worked-opened y l 0 s _ h c j worked;
-        opened = opened-more y l 0 s _ h room ls (wire-elements y l x k .mac) (λ t z. absurd (omega arith));
+        opened = opened-more y l 0 s _ h room ls (k .mac) (λ t z. absurd (omega arith));
       }
 
 -- the entries of one opening or two, from what the calls made: the last entry, and then the first, which may be the same

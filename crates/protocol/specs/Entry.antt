@@ -9,11 +9,10 @@ use Rattle.circuit.specs.Verdict.{Verdict, Accepted, Refused}
 use Rattle.circuit.specs.Gate.{gate}
 use Rattle.circuit.specs.Kind.{seenBy, alone}
 use Rattle.circuit.specs.Round.{First, Second, Round, Own, Open, Commit, Reveal}
-use Rattle.protocol.specs.Scratch.{layout}
 use Rattle.protocol.specs.Position.{Position, holding, Receive, start, keep, whenSending, whenReceiving}
-use Rattle.protocol.specs.Party.{Party, recordOf}
+use Rattle.protocol.specs.Party.{Party}
 use Rattle.protocol.specs.Send.{overwrite, sent, holds, noted}
-use Rattle.protocol.specs.Receive.{Blame, Ruling, Passed, Stopped, score, next, finds, left}
+use Rattle.protocol.specs.Receive.{Blame, Ruling, Passed, Stopped, scored, next, finds, left}
 use Rattle.protocol.specs.Ask.{askLent, askSend, askReceive}
 
 -- what an entry answers
@@ -84,8 +83,7 @@ module _ (O : Ops) (P : Party) where
 
   -- what receiving round r of gate j leads to
   unfoldable pub outcome : List ℕ → ℕ → ℕ → List ℕ → Round → Answer
-  outcome l j held heard r =
-      concludes (score O (layout (P .circuit)) l (gate (P .circuit) j) (recordOf P j)) j held r (finds O P l r heard)
+  outcome l j held heard r = concludes (scored O P l j) j held r (finds O P l r heard)
 
   -- Hearing: "a hearing half, which reads all seats' words in seat order"
   unfoldable pub receiveAnswer : List ℕ → Position → List ℕ → Answer

@@ -16,7 +16,7 @@ use Rattle.protocol.specs.Part.{Part, partAt, plus, minus, scale, shift,
 use Rattle.protocol.specs.Scratch.{Layout, layout, Value, read, wire, putWire, putOpened, band, marksOf, putMarks}
 use Rattle.protocol.specs.Position.{Point, aborted, follow}
 use Rattle.protocol.specs.Party.{Party, key, recordOf, maskAt, wholeMaskAt, aAt, bAt, cAt}
-use Rattle.protocol.specs.Send.{mark, masked, shown}
+use Rattle.protocol.specs.Send.{mark, masked, showing}
 
 -- whom a stop names: the party whose reveal does not fit its mark, or nobody
 pub data Blame : Type 0 where
@@ -82,13 +82,14 @@ module _ (O : Ops) where
       putWire y (putDifferences y l x z m k u e d) j
       (product O i key (partAt m aAt) (partAt m (bAt k)) (partAt m (cAt k)) e d)
 
-  -- "hearing makes the sum and its MAC share the only opened entry, at index 0": output g shows s, and its record starts m
-  unfoldable pub afterOpenOutput : Layout → List ℕ → Gate → List ℕ → ℕ → List ℕ
-  afterOpenOutput y l g m s = putOpened y l 0 s (shown O y l g m .mac)
+  -- "hearing makes the sum and its MAC share the only opened entry, at index 0": x is the party's part of what is shown
+  unfoldable pub afterOpenOutput : Layout → List ℕ → Part → ℕ → List ℕ
+  afterOpenOutput y l x s = putOpened y l 0 s (x .mac)
 
-  -- "Passing the second check releases the sum as the score"; of a give "The receiver's answer is the shown sum plus the whole mask"
-  unfoldable pub score : Layout → List ℕ → Gate → List ℕ → ℕ
-  score y l g m = cond (isGive g) (add (read y l (Value 0)) (getD m wholeMaskAt 0)) (read y l (Value 0))
+  -- "Passing the second check releases the sum as the score"; of a give, whose record starts m, "The receiver's answer is the shown sum plus the
+  -- whole mask"
+  unfoldable pub score : Layout → List ℕ → Bool → List ℕ → ℕ
+  score y l give m = cond give (add (read y l (Value 0)) (getD m wholeMaskAt 0)) (read y l (Value 0))
 
   -- a gate that needs no round, of gates x and z and a constant k. "add; sub: first and second name earlier lines"; "plus; times: .. the
   -- constant is added or multiplied"
@@ -151,10 +152,14 @@ module _ (O : Ops) where
     unfoldable pub received : List ℕ → ℕ → Round → List ℕ → List ℕ
     received l j Own heard = ownReceived l j heard (shape (gate (P .circuit) j) .class)
     received l j Open heard =
-        afterOpenOutput (layout (P .circuit)) l (gate (P .circuit) j) (recordOf P j)
+        afterOpenOutput (layout (P .circuit)) l (showing O P l j)
         (heardSum (P .parties) (words (gate (P .circuit) j) Open) 0 heard)
     received l j (Commit k) heard = putMarks (layout (P .circuit)) l heard
     received l j (Reveal k) heard = checkPassed l j k
+
+    -- the score of gate j, an output
+    unfoldable pub scored : List ℕ → ℕ → ℕ
+    scored l j = score (layout (P .circuit)) l (isGive (gate (P .circuit) j)) (recordOf P j)
 
     -- how this party's hearing ends, and the scratch by that. "A hearing that stops a run .. writes nothing in the scratch"
     unfoldable pub finds : List ℕ → Round → List ℕ → Ruling

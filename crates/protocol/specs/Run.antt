@@ -9,11 +9,10 @@ use Rattle.circuit.specs.Gate.{gate, gates}
 use Rattle.circuit.specs.Kind.{receiver}
 use Rattle.circuit.specs.Count.{unchecked}
 use Rattle.circuit.specs.Round.{Round, coefficientsIn, commitsIn}
-use Rattle.protocol.specs.Scratch.{layout, scratchSize, band}
-use Rattle.protocol.specs.Party.{recordOf}
+use Rattle.protocol.specs.Scratch.{scratchSize, band}
 use Rattle.protocol.specs.Position.{Point, start, keep, whenSending}
 use Rattle.protocol.specs.Send.{sent, holds, noted}
-use Rattle.protocol.specs.Receive.{Blame, Nobody, Ruling, Passed, Stopped, passed, score, next, finds, left}
+use Rattle.protocol.specs.Receive.{Blame, Nobody, Ruling, Passed, Stopped, passed, scored, next, finds, left}
 use Rattle.protocol.specs.Entry.{releases}
 use Rattle.protocol.specs.Joint.{Joint, joined, party, nonceFor}
 
@@ -100,10 +99,9 @@ module _ (O : Ops) (J : Joint) where
   -- the score that round r releases, if any: that of a give is the receiver's, "listed by the joint run at the line's turn"
   unfoldable pub released : State → Round → List ℕ
   released s r =
-      let g = gate (J .circuit) (s .point .gate) in
-      let i = receiver g in
+      let i = receiver (gate (J .circuit) (s .point .gate)) in
       cond (releases r && passed (ends s r))
-      (score O (layout (J .circuit)) (s .scratch i) g (recordOf (party J i) (s .point .gate)) ∷ []) []
+      (scored O (party J i) (s .scratch i) (s .point .gate) ∷ []) []
 
   -- no round
   unfoldable pub still : State → Run

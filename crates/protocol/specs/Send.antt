@@ -1,13 +1,13 @@
 -- What a party sends in each round, the check share that it holds and the nonce that it notes.
 -- Assumes nothing.
 use Prim.Native.Nat.{ℕ}
-use mathlib.Core.Bool.{cond}
+use mathlib.Core.Bool.{Bool, cond}
 use mathlib.Core.List.{List, [], _∷_, _++_}
 use lib.ListN.{length, drop, getD}
 use lib.Dec.{eqb}
 use Rattle.algebra.specs.Ops.{Ops}
 use Rattle.algebra.specs.Sum.{sum}
-use Rattle.circuit.specs.Gate.{Gate, gate}
+use Rattle.circuit.specs.Gate.{gate}
 use Rattle.circuit.specs.Kind.{Class, Local, Owned, Opens, Output, shape, isGive, factor}
 use Rattle.circuit.specs.Count.{unchecked}
 use Rattle.circuit.specs.Round.{Round, Own, Open, Commit, Reveal, isCommit, openedIn}
@@ -48,10 +48,10 @@ module _ (O : Ops) where
       (masked y l x m aAt .share ∷ masked y l z m (bAt k) .share ∷ [])
       (masked y l x m aAt .share ∷ [])
 
-  -- the party's part of what output g shows: "show, one word, the seat's share of first"; a give "shows and checks the line less the mask", which
-  -- starts its record m
-  unfoldable pub shown : Layout → List ℕ → Gate → List ℕ → Part
-  shown y l g m = cond (isGive g) (masked y l (g .first) m maskAt) (wire y l (g .first))
+  -- the party's part of what an output of gate x shows: of an out "show, one word, the seat's share of first"; a give, whose record starts m, "shows
+  -- and checks the line less the mask"
+  unfoldable pub shown : Layout → List ℕ → Bool → ℕ → List ℕ → Part
+  shown y l give x m = cond give (masked y l x m maskAt) (wire y l x)
 
   -- "v is the sum of draw × opened value; the check word is the sum of draw × MAC share, less key share × v", over the first k entries
   unfoldable pub checkShare : Layout → List ℕ → ℕ → ℕ → List ℕ → ℕ
@@ -72,6 +72,12 @@ module _ (O : Ops) where
     ownWords l j Opens = opening l j (shape (gate (P .circuit) j) .openings)
     ownWords l j Output = []
 
+    -- what gate j shows, an output
+    unfoldable pub showing : List ℕ → ℕ → Part
+    showing l j =
+        let g = gate (P .circuit) j in
+        shown (layout (P .circuit)) l (isGive g) (g .first) (recordOf P j)
+
     -- the check share held once round r of gate j is sent: made when a commitment is sent, from the coefficients then handed over
     unfoldable pub holds : List ℕ → ℕ → Round → List ℕ → ℕ
     holds l j r coefficients =
@@ -82,7 +88,7 @@ module _ (O : Ops) where
     -- the nonce that stands in the scratch
     unfoldable pub sent : List ℕ → ℕ → ℕ → List ℕ → List ℕ → Round → List ℕ
     sent l j held coefficients nonce Own = ownWords l j (shape (gate (P .circuit) j) .class)
-    sent l j held coefficients nonce Open = shown (layout (P .circuit)) l (gate (P .circuit) j) (recordOf P j) .share ∷ []
+    sent l j held coefficients nonce Open = showing l j .share ∷ []
     sent l j held coefficients nonce (Commit k) = mark (revealed (holds l j (Commit k) coefficients) (wordsOf nonce))
     sent l j held coefficients nonce (Reveal k) = revealed held (nonceOf (layout (P .circuit)) l)
 
