@@ -58,9 +58,10 @@ module _ (O : Ops) (J : Joint) (scratch : List ℕ) where
         ≡ mul theKey (read (layout (J .circuit)) (scratchAfter k 0) (Value t))
     -- no check stops the run: it finishes
     pub finishes : whole O J scratch .last .point ≡ finished (J .circuit)
-    -- "each score is the circuit's value on the plain inputs"
+    -- "each score is the circuit's value on the plain inputs", of out gates and of gives, whose receivers' scores are listed
     pub outputs : whole O J scratch .outputs ≡ scores O J (gates (J .circuit))
-    -- "A run takes I + M + 5 × outs − 2 × (outs with nothing unchecked) rounds, at most 766", and one more for each sq gate
+    -- "A run takes I + M + 5 × outs − 2 × (outs with nothing unchecked) rounds, at most 766", and one more for each sq gate; a give counts as an
+    -- out
     pub rounds : whole O J scratch .rounds ≡ roundFormula (J .circuit)
     pub at-most : whole O J scratch .rounds ≤ mostRoundsOfAll
     -- the transcript's length

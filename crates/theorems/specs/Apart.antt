@@ -3,13 +3,14 @@
 -- Assumes nothing.
 use Prim.Native.Nat.{ℕ, zero, suc, _*_, _<_, _≤_}
 use mathlib.Core.Path.{_≡_}
-use mathlib.Core.Bool.{cond}
+use mathlib.Core.Bool.{Bool, cond}
 use mathlib.Core.List.{List, [], _∷_, _++_}
 use lib.ListN.{length, take, drop}
 use lib.Dec.{eqb}
 use Rattle.algebra.specs.Ops.{Ops}
 use Rattle.circuit.specs.Verdict.{Accepted, ask, _then_, elements}
 use Rattle.circuit.specs.Gate.{gate}
+use Rattle.circuit.specs.Kind.{seenBy, alone, everyone}
 use Rattle.circuit.specs.Round.{Round, isCommit, nonceSize, words, coefficientCount, checkCount}
 use Rattle.protocol.specs.Scratch.{scratchSize}
 use Rattle.protocol.specs.Position.{Stage, Send, Receive, Finished, Aborted, Position, holding, aborted, whenSending, whenReceiving}
@@ -19,7 +20,7 @@ use Rattle.protocol.specs.Receive.{Nobody}
 use Rattle.protocol.specs.Ask.{askLent}
 use Rattle.protocol.specs.Entry.{Answer, Refusal, Next, Output, Abort, openAnswer, sendAnswer, sendOut, sendScratch, receiveAnswer, receiveScratch}
 use Rattle.protocol.specs.Joint.{Joint, joined, nonceFor}
-use Rattle.protocol.specs.Run.{begun, taken, released, run}
+use Rattle.protocol.specs.Run.{State, begun, taken, released, run}
 use Rattle.theorems.specs.Premises.{after}
 
 -- what the parties bring: the lists of party i; and in round k the coefficients and the nonce that it is handed and the list that it lends for
@@ -167,6 +168,17 @@ toldAt Aborted outputs x = Abort Nobody x
 unfoldable pub told : List ℕ → Position → Answer
 told outputs x = toldAt (x .stage) outputs x
 
+-- the score that the joint run releases in round r, if a party of A sees it
+unfoldable pub releasedTo : Ops → Joint → (ℕ → Bool) → State → Round → List ℕ
+releasedTo O J A s r = cond (seenBy A (gate (J .circuit) (s .point .gate))) (released O J s r) []
+
+-- those of the first k rounds
+unfoldable pub outputsTo : Ops → Joint → List ℕ → (ℕ → Bool) → ℕ → List ℕ
+outputsTo O J scratch A zero = []
+outputsTo O J scratch A (suc k) =
+    let s = after O J scratch k in
+    outputsTo O J scratch A k ++ whenSending (s .point .stage) [] (releasedTo O J A s)
+
 module _ (O : Ops) (D : Apart) (coefficients nonces : List ℕ) where
   open Ops O using (size)
 
@@ -220,7 +232,7 @@ module _ (O : Ops) (D : Apart) (coefficients nonces : List ℕ) where
     -- all together they write the joint run's transcript
     pub transcript : (k : ℕ) → spoken O D k ≡ run O theJoint k (begun O theJoint (bands D)) .transcript
     -- a round of the joint run is two answers at every party: the position to receive at; and then the output exactly where the joint run
-    -- releases it, the abort exactly where the joint run is aborted, and else the next position
+    -- releases one that the party sees, the abort exactly where the joint run is aborted, and else the next position
     pub answers : (k i : ℕ) (r : Round)
         → i < D .parties
         → after O theJoint (bands D) k .point .stage ≡ Send r
@@ -233,14 +245,15 @@ module _ (O : Ops) (D : Apart) (coefficients nonces : List ℕ) where
               holds O (partyIn D i) (after O theJoint (bands D) k .scratch i) (after O theJoint (bands D) k .point .gate) r
               (D .coefficients k i);
         })
-        ∷ told (released O theJoint (after O theJoint (bands D) k) r) (placeOf (suc k) i)
+        ∷ told (releasedTo O theJoint (alone i) (after O theJoint (bands D) k) r) (placeOf (suc k) i)
         ∷ [])
     -- and where the joint run has ended nothing is called
     pub over : (k i : ℕ)
         → i < D .parties
         → ((r : Round) → after O theJoint (bands D) k .point .stage ≡ Send r → ⊥)
         → apart O D (suc k) i ≡ apart O D k i
-    -- so the outputs of every party are those of the joint run
+    -- so the outputs of every party are those of the joint run that it sees, which lists all
     pub outputs : (k i : ℕ)
         → i < D .parties
-        → outputsIn (apart O D k i .answers) ≡ run O theJoint k (begun O theJoint (bands D)) .outputs
+        → outputsIn (apart O D k i .answers) ≡ outputsTo O theJoint (bands D) (alone i) k
+    pub listed : (k : ℕ) → outputsTo O theJoint (bands D) everyone k ≡ run O theJoint k (begun O theJoint (bands D)) .outputs

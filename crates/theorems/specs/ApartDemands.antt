@@ -7,23 +7,25 @@ use mathlib.Core.List.{List}
 use lib.ListN.{length}
 use Rattle.algebra.specs.Ops.{Ops}
 use Rattle.circuit.specs.Gate.{gates}
+use Rattle.circuit.specs.Kind.{alone}
 use Rattle.circuit.specs.Count.{prepSize, inputCount}
 use Rattle.protocol.specs.Position.{holding, finished}
 use Rattle.protocol.specs.Scratch.{band}
 use Rattle.protocol.specs.Joint.{joined}
-use Rattle.protocol.specs.Plain.{scores}
+use Rattle.protocol.specs.Plain.{scoresSeen}
 use Rattle.protocol.specs.Good.{Good}
 use Rattle.protocol.specs.Formula.{roundFormula}
 use Rattle.theorems.specs.Matching.{rule}
 use Rattle.theorems.specs.Secrecy.{Compared}
 use Rattle.theorems.specs.Apart.{Apart, partyIn, outputsIn, apart, heardIn, jointly, Meets}
 
--- "each score is the circuit's value on the plain inputs": after the rounds of the formula every party is finished and has released the scores
+-- "each score is the circuit's value on the plain inputs": after the rounds of the formula every party is finished and has released the scores that
+-- it sees, those of out gates and of the gives whose receiver it is
 pub record Scored (O : Ops) (D : Apart) (coefficients nonces : List ℕ) : Type 0 where
   pub finishes : (i : ℕ) → i < D .parties → apart O D (roundFormula (D .circuit)) i .position ≡ holding (finished (D .circuit)) 0
   pub outputs : (i : ℕ)
       → i < D .parties
-      → outputsIn (apart O D (roundFormula (D .circuit)) i .answers) ≡ scores O (jointly D coefficients nonces) (gates (D .circuit))
+      → outputsIn (apart O D (roundFormula (D .circuit)) i .answers) ≡ scoresSeen O (jointly D coefficients nonces) (alone i) (gates (D .circuit))
 
 -- the good preprocessing of all parties
 abbrev pub GoodApart : Ops → Apart → Type 0

@@ -5,18 +5,21 @@
 use Prim.Native.Nat.{ℕ, _^_, _<_, _≤_}
 use mathlib.Core.Path.{_≡_}
 use mathlib.Core.Logic.{_≢_, _↔_, _⊎_}
+use mathlib.Core.Bool.{cond}
 use mathlib.Core.List.{List, [], _++_}
 use lib.ListN.{length, getD, take}
 use Rattle.algebra.specs.Ops.{Ops}
 use Rattle.sha256.specs.Sha256.{bytesOf, wordsOf, sha256}
 use Rattle.sha256.specs.Digest.{bytes}
 use Rattle.circuit.specs.Verdict.{Accepted}
+use Rattle.circuit.specs.Gate.{gate}
+use Rattle.circuit.specs.Kind.{seenBy, alone}
 use Rattle.circuit.specs.Round.{Check, First, Second, Round, Commit, Reveal, commitWords, nonceSize, revealWords}
-use Rattle.protocol.specs.Scratch.{layout, read, Value, band, marksOf}
+use Rattle.protocol.specs.Scratch.{layout, band, marksOf}
 use Rattle.protocol.specs.Position.{Position, Send, Receive, Aborted, holding, follow}
 use Rattle.protocol.specs.Party.{Party}
 use Rattle.protocol.specs.Send.{revealed, mark, holds}
-use Rattle.protocol.specs.Receive.{Nobody, Blames, heardSum}
+use Rattle.protocol.specs.Receive.{Nobody, Blames, heardSum, scored}
 use Rattle.protocol.specs.Ask.{askSend, askReceive}
 use Rattle.protocol.specs.Entry.{Answer, Next, Output, Abort, sendAnswer, sendOut, sendScratch, receiveAnswer, receiveScratch}
 
@@ -56,10 +59,13 @@ module _ (O : Ops) (n : ℕ) (marks heard : List ℕ) where
     pub unnamed : (a ≡ Abort Nobody stopped) ↔ (AllFit × (checkSum ≡ 0 → ⊥))
     pub passed : (a ≡ on) ↔ (AllFit × (checkSum ≡ 0))
 
--- the answer of a check of gate j that passes: the second releases the number at opened index 0
-abbrev pub goesOn : Party → List ℕ → ℕ → Check → Answer
-goesOn P l j First = Next (holding (follow (P .circuit) j (Reveal First)) 0)
-goesOn P l j Second = Output (read (layout (P .circuit)) l (Value 0)) (holding (follow (P .circuit) j (Reveal Second)) 0)
+-- the answer of a check of gate j that passes: the second releases the score, where this party sees it
+abbrev pub goesOn : Ops → Party → List ℕ → ℕ → Check → Answer
+goesOn O P l j First = Next (holding (follow (P .circuit) j (Reveal First)) 0)
+goesOn O P l j Second =
+    cond (seenBy (alone (P .me)) (gate (P .circuit) j))
+    (Output (scored O P l j) (holding (follow (P .circuit) j (Reveal Second)) 0))
+    (Next (holding (follow (P .circuit) j (Reveal Second)) 0))
 
 -- a party that hears a reveal: whatever its scratch l holds, and whatever words it hears that no question refuses, it is answered by the marks in
 -- its scratch
@@ -67,7 +73,7 @@ abbrev pub RevealDecides : Ops → Type 0
 RevealDecides O =
     (P : Party) (l : List ℕ) (j held : ℕ) (k : Check) (heard : List ℕ)
     → askReceive (O .size) P l (receivingAt j (Reveal k) held) heard ≡ Accepted
-    → Decides O (P .parties) (marksOf (P .parties) (layout (P .circuit)) l) heard (stoppedAt j) (goesOn P l j k)
+    → Decides O (P .parties) (marksOf (P .parties) (layout (P .circuit)) l) heard (stoppedAt j) (goesOn O P l j k)
     (receiveAnswer O P l (receivingAt j (Reveal k) held) heard)
 
 -- three calls of party P, whatever it hears between them: it sends a commitment, hears the words ms of all, and sends its reveal
@@ -153,7 +159,7 @@ module _ (O : Ops) (P : Party) (l : List ℕ) (j held : ℕ) (k : Check) (room :
   pub record Altered : Type 0 where
     pub heard-commit : receiveAnswer O P l (receivingAt j (Commit k) held) ms ≡ Next (sendingAt j (Reveal k) held)
     pub sent-reveal : sendAnswer O P marked (sendingAt j (Reveal k) held) [] [] room ≡ Next (receivingAt j (Reveal k) 0)
-    pub heard-reveal : Decides O (P .parties) ms ws (stoppedAt j) (goesOn P l j k) lastAnswer
+    pub heard-reveal : Decides O (P .parties) ms ws (stoppedAt j) (goesOn O P l j k) lastAnswer
 
 abbrev pub Alterable : Ops → Type 0
 Alterable O =

@@ -6,6 +6,7 @@ pub mod Matching
 pub mod Secrecy
 pub mod Example
 pub mod Squares
+pub mod Gives
 pub mod Apart
 pub mod ApartDemands
 pub mod Binding

@@ -6,7 +6,7 @@ use mathlib.Core.List.{List, [], _∷_, _++_}
 use lib.Dec.{eqb}
 use Rattle.algebra.specs.Ops.{Ops}
 use Rattle.circuit.specs.Gate.{Gate, gate, gates}
-use Rattle.circuit.specs.Kind.{Class, Local, Owned, Opens, Output, shape, factor}
+use Rattle.circuit.specs.Kind.{Class, Local, Owned, Opens, Output, shape, isGive, factor}
 use Rattle.protocol.specs.Party.{aAt, bAt}
 use Rattle.protocol.specs.Joint.{Joint, joined}
 use Rattle.protocol.specs.Plain.{plainInput, value}
@@ -57,15 +57,19 @@ module _ (O : Ops) (n : ℕ) (c : List ℕ) (h : ℕ) (x x′ : List ℕ) where
     unfoldable pub maskMove : ℕ → ℕ → ℕ → ℕ → List ℕ
     maskMove i y z k = cond (eqb k 2) (moved i (valueMove y) ++ moved i (valueMove z)) (moved i (valueMove y))
 
+    -- the differences in a mask's record, where the mask differs by d: party o knows it whole
+    unfoldable pub maskRecordMove : ℕ → ℕ → ℕ → List ℕ
+    maskRecordMove i o d = moved i d ++ (only o d i ∷ [])
+
     -- the differences in party i's record of gate j, which is g: a mask, and its owner's whole mask, move with the input that they hide, a and b
-    -- with the values that they hide
+    -- with the values that they hide, the mask of a give and its receiver's whole mask with the value that they hide
     unfoldable pub recordMove : ℕ → ℕ → Gate → Class → List ℕ
     recordMove i j g Local = []
-    recordMove i j g Owned = moved i (inputMove j) ++ (only (g .first) (inputMove j) i ∷ [])
+    recordMove i j g Owned = maskRecordMove i (g .first) (inputMove j)
     recordMove i j g Opens =
         maskMove i (g .first) (factor g) (shape g .openings)
         ++ moved i (productMove j (shape g .openings) (valueMove (g .first)) (valueMove (factor g)))
-    recordMove i j g Output = []
+    recordMove i j g Output = cond (isGive g) (maskRecordMove i (g .second) (valueMove (g .first))) []
 
     -- party i's differences: none in the key share, then record by record up to gate j
     unfoldable pub prepMove : ℕ → ℕ → List ℕ

@@ -13,7 +13,7 @@ use Rattle.protocol.specs.Scratch.{scratchSize, band}
 use Rattle.protocol.specs.Joint.{Joint, party}
 use Rattle.protocol.specs.Run.{whole}
 use Rattle.protocol.specs.JointEntry.{verdict, jointAnswer, jointScratch}
-use Rattle.protocol.specs.Plain.{scores}
+use Rattle.protocol.specs.Plain.{scores, scoresSeen}
 use Rattle.protocol.specs.Good.{Good}
 use Rattle.theorems.specs.Premises.{Accepts, InputsPass}
 use Rattle.theorems.specs.Matching.{plainly, rule}
@@ -27,14 +27,15 @@ module _ (O : Ops) (n : ℕ) (c : List ℕ) (A : ℕ → Bool) where
   abbrev pub bandOf : List ℕ → ℕ → List ℕ
   bandOf l i = band (scratchSize n c) l i
 
-  -- what is asked: A leaves out at least one party, and the two sets of inputs agree at A's parties and give equal scores
+  -- what is asked: A leaves out at least one party, and the two sets of inputs agree at A's parties and give equal scores. "equal scores now means
+  -- at out lines and at give lines whose receiver is in A"
   pub record Compared (x x′ : List ℕ) : Type 0 where
     pub accepts : Accepts O n c
     pub outside : (i : ℕ) × (i < n) × (A i ≡ false)
     pub first : InputsPass O c x
     pub second : InputsPass O c x′
     pub agree : (i : ℕ) → i < n → A i ≡ true → party (plainly n c x′) i .inputs ≡ party (plainly n c x) i .inputs
-    pub equal-scores : scores O (plainly n c x′) (gates c) ≡ scores O (plainly n c x) (gates c)
+    pub equal-scores : scoresSeen O (plainly n c x′) A (gates c) ≡ scoresSeen O (plainly n c x) A (gates c)
 
   -- two calls of the joint run, alike in coefficients, nonces and starting scratch; t, o and t′, o′ are their transcript and output lists before
   pub record Alike (J J′ : Joint) (scratch t o t′ o′ : List ℕ) : Type 0 where
@@ -88,6 +89,19 @@ module _ (O : Ops) (n : ℕ) (c : List ℕ) (A : ℕ → Bool) where
     pub back-there : (m : List ℕ) → Good O n c m → back (there m) ≡ m
     pub there-back : (m : List ℕ) → Good O n c m → there (back m) ≡ m
 
+  -- what A sees tells nothing of a score that is given to a party outside A, "unread by others": where the first inputs have some scores and the
+  -- second others, a view goes with the ones as often as with the others
+  pub record Unread (x x′ : List ℕ) (there back : List ℕ → List ℕ) (coefficients nonces scratch t o words : List ℕ) (preps bands : ℕ → List ℕ) : Type 0 where
+    pub blind : Blind x x′ there back coefficients nonces scratch t o words preps bands
+    pub first-scores : (m : List ℕ)
+        → Good O n c m
+        → Shows (runOf m x coefficients nonces) scratch t o words preps bands
+        → whole O (runOf m x coefficients nonces) scratch .outputs ≡ scores O (plainly n c x) (gates c)
+    pub second-scores : (m : List ℕ)
+        → Good O n c m
+        → Shows (runOf m x′ coefficients nonces) scratch t o words preps bands
+        → whole O (runOf m x′ coefficients nonces) scratch .outputs ≡ scores O (plainly n c x′) (gates c)
+
 -- demand 3, of a field O
 abbrev pub Secrecy : Ops → Type 0
 Secrecy O =
@@ -102,3 +116,11 @@ Blindness O =
     → Compared O n c A x x′
     → (coefficients nonces scratch t o words : List ℕ) (preps bands : ℕ → List ℕ)
     → Blind O n c A x x′ (rule O n c A x x′) (rule O n c A x′ x) coefficients nonces scratch t o words preps bands
+
+-- and of a score that is given to a party outside A
+abbrev pub UnreadByOthers : Ops → Type 0
+UnreadByOthers O =
+    (n : ℕ) (c : List ℕ) (A : ℕ → Bool) (x x′ : List ℕ)
+    → Compared O n c A x x′
+    → (coefficients nonces scratch t o words : List ℕ) (preps bands : ℕ → List ℕ)
+    → Unread O n c A x x′ (rule O n c A x x′) (rule O n c A x′ x) coefficients nonces scratch t o words preps bands

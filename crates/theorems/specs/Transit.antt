@@ -42,7 +42,7 @@ module _ (O : Ops) (D : Apart) (way : ℕ → ℕ → List ℕ → List ℕ) whe
         ∷ a
         ∷ [])
     -- the marks heard in round k and the words heard in the round after decide ..
-    pub decides : Decides O (D .parties) (hearsIn k i) (hearsIn (suc k) i) (stoppedAt j) (goesOn (partyIn D i) (transit k i .scratch) j c) a
+    pub decides : Decides O (D .parties) (hearsIn k i) (hearsIn (suc k) i) (stoppedAt j) (goesOn O (partyIn D i) (transit k i .scratch) j c) a
     -- .. and whoever is heard to reveal something else than it committed to is found out
     pub binds : (t share : ℕ) (nonce : List ℕ)
         → Changes (D .parties) (hearsIn k i) (hearsIn (suc k) i) t share nonce
