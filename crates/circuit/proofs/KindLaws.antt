@@ -2,7 +2,7 @@
 -- Assumes nothing.
 use Prim.Native.Nat.{ℕ, zero, suc, _+_, _*_, _≤_}
 use mathlib.Core.Path.{_≡_, refl, ap, sym, subst, _∙_}
-use mathlib.Core.Bool.{Bool, true, false, cond}
+use mathlib.Core.Bool.{Bool, true, false, cond, _&&_}
 use native.Mathlib.Omega.{arith}
 use lib.Dec.{eqb}
 use borrow.Author.Tests.{eqb-true, eq-eqb}
@@ -216,3 +216,8 @@ module _ (r : code.Shape) (k : Kind) (e : shapeOf r ≡ kindShape k) where
 
   pub shape-small : (r .prep ≤ 6) × (r .openings ≤ 2) × (r .words ≤ 2)
   shape-small = (rw shape-prep (kind-low k .prep), rw shape-openings (kind-low k .openings), rw shape-words (kind-low k .words))
+
+-- and of a gate that it is a give
+pub shape-gives : (r : code.Shape) (g : Gate) → shapeOf r ≡ shape g → {b : Bool} → b ≡ (isClass Output (classOf (r .class)) && eqb (r .prep) maskSize) → b ≡ isGive g
+unfolding isGive
+shape-gives r g e h = h ∙ rw (shape-class r (g .kind) e, shape-prep r (g .kind) e)

@@ -4,9 +4,10 @@ use crate::Kind;
 use crate::Role;
 use crate::Shape;
 ghost use mathlib.Core.Path.{_≡_};
-ghost use mathlib.Core.Bool.{true, not};
+ghost use mathlib.Core.Bool.{true, not, _&&_};
+ghost use lib.Dec.{eqb};
 ghost use Rattle.circuit.specs.Gate.{decode};
-ghost use Rattle.circuit.specs.Kind.{Local, Owned, Opens, Output, Wire, kindShape, classNumber, isClass, role};
+ghost use Rattle.circuit.specs.Kind.{Local, Owned, Opens, Output, Wire, maskSize, kindShape, classNumber, isClass, role};
 ghost use Rattle.circuit.specs.Accept.{isKind};
 ghost use Rattle.circuit.specs.Code.{kindOf, classOf, roleOf, shapeOf};
 
@@ -192,6 +193,17 @@ pub fn is_out(class: Class) -> bool
 {
     let number = class_number(class);
     number == OUTPUT
+}
+
+// A give is an output with a mask.
+pub fn is_give(s: Shape) -> bool
+    ensures { λ r. ⌜ r ≡ (isClass Output (classOf (s .class)) && eqb (s .prep) maskSize) ⌝ }
+{
+    let class = s.class;
+    if is_out(class) {
+        return s.prep == MASK_SIZE;
+    }
+    false
 }
 
 // What number k of a gate is for: 1 its first, 2 its second, 3 its constant.

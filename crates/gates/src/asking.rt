@@ -190,7 +190,15 @@ fn gate_well(parties: usize, size: usize, me: usize, c: &[Word], j: usize) -> us
             }
             counting::weight_of(c, me, j, s)
         }
-        Role::Party => counting::UNSURE,
+        Role::Party => {
+            if parties <= second {
+                return counting::UNSURE;
+            }
+            if !ends_well(parties, size, c, j, s) {
+                return counting::UNSURE;
+            }
+            counting::weight_of(c, me, j, s)
+        }
         Role::Wire => {
             if !may_name(c, j, second) {
                 return counting::UNSURE;

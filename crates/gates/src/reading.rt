@@ -8,7 +8,7 @@ ghost use mathlib.Core.Path.{_≡_};
 ghost use Prim.Native.Nat.{_+_, _*_, _≤_};
 ghost use lib.ListN.{length};
 ghost use Rattle.circuit.specs.Gate.{gateSize, gate};
-ghost use Rattle.circuit.specs.Kind.{shape, factor};
+ghost use Rattle.circuit.specs.Kind.{shape, isGive, factor};
 ghost use Rattle.circuit.specs.Accept.{isKind};
 ghost use Rattle.circuit.specs.Code.{kindOf, classOf, shapeOf};
 
@@ -49,6 +49,14 @@ pub fn class_at(c: &[Word], j: usize) -> Class
 {
     let s = shape_at(c, j);
     s.class
+}
+
+// Is gate j a give?
+pub fn is_give_at(c: &[Word], j: usize) -> bool
+    requires { ⌜ gateSize * j + gateSize ≤ length (now c) ⌝ }
+    ensures { λ r. ⌜ r ≡ isGive (gate (now (c .entry)) j) ⌝ }
+{
+    shapes::is_give(shape_at(c, j))
 }
 
 pub fn first_at(c: &[Word], j: usize) -> usize

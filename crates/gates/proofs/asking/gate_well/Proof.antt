@@ -29,21 +29,27 @@ returns-5 : tie.Need-returns-5
 returns-5 c = (λ h. absurd (h refl), λ h. absurd (h refl))
 
 returns-6 : tie.Need-returns-6
-returns-6 c = (λ h. valid-gate _ _ _ _ _ (c .before .before .before .before .before .before .before .before .before .before .before .shape-at .ensures) (c .before .before .before .before .before .before .before .before .before .index .ensures) (said-yes (c .before .before .before .before .before .before .before .before .kind-well .ensures) (c .before .before .before .before .before .before .before .if1 .left)) (c .before .before .ends-well .ensures .0 (not-false _ (c .before .if3 .left))) (c .before .before .before .before .before .before .second-at .ensures) (rw (c .before .before .before .before .enum-told .given .1) (omega (arith, c .before .before .before .if2 .left))) (c .before .before .ends-well .ensures .1 (not-false _ (c .before .if3 .left))), λ h. c .weight-of .ensures)
+returns-6 c = (λ h. absurd (h refl), λ h. absurd (h refl))
 
 returns-7 : tie.Need-returns-7
 returns-7 c = (λ h. absurd (h refl), λ h. absurd (h refl))
 
 returns-8 : tie.Need-returns-8
-returns-8 c = (λ h. valid-gate _ _ _ _ _ (c .before .before .before .before .before .before .before .before .before .before .before .before .shape-at .ensures) (c .before .before .before .before .before .before .before .before .before .before .index .ensures) (said-yes (c .before .before .before .before .before .before .before .before .before .kind-well .ensures) (c .before .before .before .before .before .before .before .before .if1 .left)) (c .before .before .ends-well2 .ensures .0 (not-false _ (c .before .if5 .left))) (c .before .before .before .before .before .before .before .second-at .ensures) (rw (c .before .before .before .before .before .enum-told3 .given .1) (ref _ _ _ (said-yes (c .before .before .before .before .may-name .ensures) (c .before .before .before .if4 .left)))) (c .before .before .ends-well2 .ensures .1 (not-false _ (c .before .if5 .left))), λ h. c .weight-of2 .ensures)
+returns-8 c = (λ h. valid-gate _ _ _ _ _ (c .before .before .before .before .before .before .before .before .before .before .before .shape-at .ensures) (c .before .before .before .before .before .before .before .before .before .index .ensures) (said-yes (c .before .before .before .before .before .before .before .before .kind-well .ensures) (c .before .before .before .before .before .before .before .if1 .left)) (c .before .before .ends-well .ensures .0 (not-false _ (c .before .if3 .left))) (c .before .before .before .before .before .before .second-at .ensures) (rw (c .before .before .before .before .enum-told .given .1) (omega (arith, c .before .before .before .if2 .left))) (c .before .before .ends-well .ensures .1 (not-false _ (c .before .if3 .left))), λ h. c .weight-of .ensures)
 
 returns-9 : tie.Need-returns-9
-returns-9 c = (λ h. absurd (h refl), λ h. absurd (h refl))
+returns-9 c = (λ h. valid-gate _ _ _ _ _ (c .before .before .before .before .before .before .before .before .before .before .before .shape-at .ensures) (c .before .before .before .before .before .before .before .before .before .index .ensures) (said-yes (c .before .before .before .before .before .before .before .before .kind-well .ensures) (c .before .before .before .before .before .before .before .if1 .left)) (c .before .before .ends-well2 .ensures .0 (not-false _ (c .before .if5 .left))) (c .before .before .before .before .before .before .second-at .ensures) (rw (c .before .before .before .before .enum-told2 .given .1) (omega (arith, c .before .before .before .if4 .left))) (c .before .before .ends-well2 .ensures .1 (not-false _ (c .before .if5 .left))), λ h. c .weight-of2 .ensures)
+
+returns-10 : tie.Need-returns-10
+returns-10 c = (λ h. valid-gate _ _ _ _ _ (c .before .before .before .before .before .before .before .before .before .before .before .before .shape-at .ensures) (c .before .before .before .before .before .before .before .before .before .before .index .ensures) (said-yes (c .before .before .before .before .before .before .before .before .before .kind-well .ensures) (c .before .before .before .before .before .before .before .before .if1 .left)) (c .before .before .ends-well3 .ensures .0 (not-false _ (c .before .if7 .left))) (c .before .before .before .before .before .before .before .second-at .ensures) (rw (c .before .before .before .before .before .enum-told3 .given .1) (ref _ _ _ (said-yes (c .before .before .before .before .may-name .ensures) (c .before .before .before .if6 .left)))) (c .before .before .ends-well3 .ensures .1 (not-false _ (c .before .if7 .left))), λ h. c .weight-of3 .ensures)
+
+returns-11 : tie.Need-returns-11
+returns-11 c = (λ h. absurd (h refl), λ h. absurd (h refl))
 
 pub gate-well-spec : {M : Type 1} → statement M
 gate-well-spec =
     tie.close
     (tie.spec (λ c. search needs) (λ c κs. search needs) (λ c. search needs) (λ c. search needs) (λ c κs. search needs) kind-well-requires
-    returns (λ c κs. search needs) (λ c. search needs) returns-2 (λ c κs. search needs) returns-3 (λ c κs. search needs) (λ c. search needs)
-    (λ c. search needs) (λ c κs. search needs) returns-4 (λ c κs. search needs) returns-5 (λ c κs. search needs) (λ c. search needs)
-    returns-6 returns-7 returns-8 returns-9)
+    returns (λ c κs. search needs) (λ c. search needs) returns-2 (λ c κs. search needs) returns-3 (λ c κs. search needs) (λ c. search needs) returns-4 (λ c κs. search needs) returns-5 (λ c κs. search needs) (λ c. search needs)
+    (λ c κs. search needs) returns-6 (λ c κs. search needs) returns-7 (λ c κs. search needs) (λ c. search needs)
+    returns-8 returns-9 returns-10 returns-11)

@@ -26,6 +26,9 @@ add-t14 c = omega (arith, tally-low (c .before .before .before .before .before .
 add-t15 : tie.Need-add-t15
 add-t15 c = omega (arith, tally-low (c .before .before .before .before .before .before .before .before .before .before .pre .2), shape-small _ _ (c .before .before .before .before .before .before .before .before .shape-at .ensures))
 
+add-t16 : tie.Need-add-t16
+add-t16 c = omega (arith, tally-low (c .before .before .before .before .before .before .pre .2), shape-small _ _ (c .before .before .before .before .shape-at .ensures))
+
 returns : tie.Need-returns
 returns c = tally-local (c .before .before .before .before .pre .2) _ (c .before .before .shape-at .ensures) (ap classOf (c .enum-told .given .1))
 
@@ -36,10 +39,10 @@ returns-3 : tie.Need-returns-3
 returns-3 c = tally-opens (c .before .before .before .before .before .before .before .before .before .before .pre .2) _ (c .before .before .before .before .before .before .before .before .shape-at .ensures) (ap classOf (c .before .before .before .before .before .before .enum-told3 .given .1))
 
 returns-4 : tie.Need-returns-4
-returns-4 c = tally-output (c .before .before .before .before .pre .2) _ (c .before .before .shape-at .ensures) (ap classOf (c .enum-told4 .given .1))
+returns-4 c = tally-output (c .before .before .before .before .before .before .pre .2) _ (c .before .before .before .before .shape-at .ensures) (ap classOf (c .before .before .enum-told4 .given .1))
 
 pub tally-gate-spec : {M : Type 1} → statement M
 tally-gate-spec =
     tie.close
     (tie.spec (λ c κs. search needs) (λ c. search needs) (λ c. search needs) add-t8 (λ c κs. search needs) (λ c κs. search needs) add-t12
-    (λ c. search needs) add-t13 add-t14 add-t15 (λ c. search needs) returns returns-2 returns-3 returns-4)
+    (λ c. search needs) add-t13 add-t14 add-t15 (λ c. search needs) add-t16 returns returns-2 returns-3 returns-4)
