@@ -8,7 +8,7 @@ ghost use mathlib.Core.Path.{_≡_};
 ghost use Prim.Native.Nat.{_+_, _*_, _≤_};
 ghost use lib.ListN.{length};
 ghost use Rattle.circuit.specs.Gate.{gateSize, gate};
-ghost use Rattle.circuit.specs.Kind.{shape, isGive, factor};
+ghost use Rattle.circuit.specs.Kind.{shape, isGive, seenBy, alone, factor};
 ghost use Rattle.circuit.specs.Accept.{isKind};
 ghost use Rattle.circuit.specs.Code.{kindOf, classOf, shapeOf};
 
@@ -81,6 +81,17 @@ pub fn constant_at(c: &[Word], j: usize) -> Word
 {
     let at = GATE_SIZE * j + 3;
     c[at]
+}
+
+// Is the score of gate j, an output, for party i?
+pub fn is_seen_by(c: &[Word], j: usize, i: usize) -> bool
+    requires { ⌜ gateSize * j + gateSize ≤ length (now c) ⌝ }
+    ensures { λ r. ⌜ r ≡ seenBy (alone i) (gate (now (c .entry)) j) ⌝ }
+{
+    if is_give_at(c, j) {
+        return second_at(c, j) == i;
+    }
+    true
 }
 
 // The gate that gives the second factor of a product, where gate j opens that many values.

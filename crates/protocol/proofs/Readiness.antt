@@ -12,11 +12,11 @@ use lib.Seq.{getD-drop, take-all}
 use Rattle.algebra.specs.Ops.{Ops}
 use Rattle.algebra.specs.Field.{Field}
 use Rattle.circuit.specs.Gate.{Gate, gateSize, gate, gates}
-use Rattle.circuit.specs.Kind.{Class, Owned, Opens, Output, Shape, shape, isClass, factor}
+use Rattle.circuit.specs.Kind.{Class, Owned, Opens, Output, Shape, shape, isClass, isGive, factor}
 use Rattle.circuit.specs.Count.{capacity, unchecked, uncheckedAfter}
 use Rattle.circuit.specs.Round.{Second, Round, Own, Open, Reveal, shapeWords, words, openedIn, commitWords}
 use Rattle.circuit.proofs.Counts.{prep-within, prep-positive, unchecked-within}
-use Rattle.circuit.proofs.KindLaws.{is-class, class-is, owned-facts, opens-facts, output-facts}
+use Rattle.circuit.proofs.KindLaws.{is-class, class-is, owned-facts, opens-facts, output-facts, give-prep}
 use Rattle.circuit.proofs.Gates.{opens-named, factor-named, output-named}
 use Rattle.circuit.proofs.RoundLaws.{RoundClass, class-at-round}
 use Rattle.circuit.proofs.Tests.{false-no}
@@ -80,6 +80,10 @@ module _ {q : ℕ} (P : Party) (l : List ℕ) (y : Layout) (at : Site) where
     pub record-fits : at .prep + shape (gate (P .circuit) (at .gate)) .prep ≤ length (P .prep)
     record-fits = omega (arith, k .sited .prep, k .prep-long, prep-within (P .circuit) (at .gate) (k .sited .within))
 
+    -- and so does the mask of a give
+    pub mask-there : (at .prep ≤ length (P .prep)) × (isGive (gate (P .circuit) (at .gate)) ≡ true → at .prep + 2 < length (P .prep))
+    mask-there = (omega (arith, record-fits), λ e. omega (arith, record-fits, give-prep (gate (P .circuit) (at .gate)) e))
+
     pub room-there : S.slotsSize (layoutOf y) ≤ length l
     room-there = rw (k .lay) (slots-room (P .parties) (P .circuit) (k .room))
 
@@ -109,6 +113,9 @@ module _ {q : ℕ} (P : Party) (l : List ℕ) (y : Layout) (at : Site) where
     -- the part of the preprocessing that starts at the gate's record
     pub part-long : {m : List ℕ} → m ≡ drop (at .prep) (P .prep) → shape (gate (P .circuit) (at .gate)) .prep ≤ length m
     part-long e = part-longer (at .prep) _ (P .prep) e record-fits
+
+    pub mask-long : {m : List ℕ} → m ≡ drop (at .prep) (P .prep) → isGive (gate (P .circuit) (at .gate)) ≡ true → 2 < length m
+    mask-long e g = omega (arith, part-long e, give-prep (gate (P .circuit) (at .gate)) g)
 
     pub part-low : {m : List ℕ} → m ≡ drop (at .prep) (P .prep) → Below q m
     part-low e = part-below (at .prep) (P .prep) e (k .prep-low)

@@ -1,22 +1,21 @@
 -- Receiving: what the steps of each round ask, and that they leave what is defined.
 -- Assumes nothing.
 use Prim.Native.Nat.{ℕ, _+_, _-_, _*_, _<_, _≤_}
-use mathlib.Core.Path.{_≡_, refl, ap, _∙_}
-use mathlib.Core.Bool.{true, false}
+use mathlib.Core.Path.{_≡_, refl, sym, ap, _∙_}
+use mathlib.Core.Bool.{Bool, true, false}
 use mathlib.Core.List.{List}
 use native.Mathlib.Numerals.{add-one}
 use native.Mathlib.Omega.{arith}
 use lib.ListN.{length, getD, drop}
 use Rattle.algebra.specs.Ops.{Ops}
 use Rattle.circuit.specs.Gate.{gateSize, gate}
-use Rattle.circuit.specs.Kind.{Owned, Opens, shape}
+use Rattle.circuit.specs.Kind.{Owned, Opens, shape, isGive}
 use Rattle.circuit.specs.Round.{Check, First, Second, Round, Own, Open, Commit, Reveal}
 use Rattle.circuit.proofs.KindLaws.{owned-facts}
-use Rattle.protocol.specs.Part.{Part}
 use Rattle.protocol.specs.Scratch as S
 use Rattle.protocol.specs.Party.{Party, key, recordIn, recordOf}
 use Rattle.protocol.specs.Position.{reach}
-use Rattle.protocol.specs.Send.{showing}
+use Rattle.protocol.specs.Send.{shown, showing}
 use Rattle.protocol.specs.Receive.{afterInput, afterOpening, afterOpenOutput, Ruling, passed, settle, onward, ownReceived, checkPassed, received, left}
 use Rattle.protocol.specs.declared.Layout.{Layout}
 use Rattle.protocol.specs.declared.Site.{Site}
@@ -24,7 +23,7 @@ use Rattle.protocol.specs.Holding.{Below, Held}
 use Rattle.protocol.specs.Code.{layoutOf}
 use Rattle.protocol.specs.Ready.{Ready, Stands, Receives, heardFirst, Named, Hears, Summed}
 use Rattle.protocol.proofs.HeardWords.{owner-heard, first-heard, second-heard, output-heard}
-use Rattle.protocol.proofs.Readiness.{lay-gates, room-there, within-there, capacity-some, part-long, part-low, class-of, output-held}
+use Rattle.protocol.proofs.Readiness.{lay-gates, room-there, within-there, capacity-some, part-long, part-low, mask-long, class-of, output-held}
 
 module _ {q : ℕ} (P : Party) (l : List ℕ) (y : Layout) (at : Site) where
   -- what summing the words asks, where all are elements
@@ -55,10 +54,18 @@ module _ {q : ℕ} (P : Party) (l : List ℕ) (y : Layout) (at : Site) where
       (k .prep-low 0, h, omega (arith, part-long P l y at Own k e, owned-facts (gate (P .circuit) (at .gate)) c .prep), part-low P l y at Own k e, room-there P l y at Own k, within-there P l y at Own k)
 
   pub output-asks : Ready q P l y at Open
-      → {x : ℕ}
+      → {x : ℕ} {give : Bool} {m : List ℕ}
       → x ≡ gate (P .circuit) (at .gate) .first
-      → (S.slotsSize (layoutOf y) ≤ length l) × (0 < y .capacity) × Held q (layoutOf y) l x
-  output-asks k e = (room-there P l y at Open k, capacity-some P l y at Open k, rw e (output-held P l y at k))
+      → give ≡ isGive (gate (P .circuit) (at .gate))
+      → m ≡ drop (at .prep) (P .prep)
+      → (S.slotsSize (layoutOf y) ≤ length l) × (0 < y .capacity) × Held q (layoutOf y) l x × (give ≡ true → 1 < length m) × Below q m
+  output-asks k ex eg em = (
+    room-there P l y at Open k,
+    capacity-some P l y at Open k,
+    rw ex (output-held P l y at k),
+    (λ e. omega (arith, mask-long P l y at Open k em (sym eg ∙ e))),
+    part-low P l y at Open k em,
+  )
 
 module _ (O : Ops) (P : Party) (l : List ℕ) (y : Layout) (at : Site) (heard : List ℕ) where
   -- the linear gates that the code went on with
@@ -106,15 +113,17 @@ module _ (O : Ops) (P : Party) (l : List ℕ) (y : Layout) (at : Site) (heard : 
       (e₁ ∙ rw (w .first .is, w .second .is, first-heard O (P .parties) heard Own g c, second-heard O (P .parties) heard Own g c, em, n .first, n .second, n .openings, k .lay, k .sited .prep, k .sited .unchecked)))
 
   pub output-received : Ready (O .size) P l y at Open
-      → {x : Part} {e : ℕ}
-      → x ≡ showing O P l (at .gate)
+      → {x : ℕ} {give : Bool} {m : List ℕ} {e : ℕ}
+      → x ≡ gate (P .circuit) (at .gate) .first
+      → give ≡ isGive (gate (P .circuit) (at .gate))
+      → m ≡ drop (at .prep) (P .prep)
       → e ≡ heardFirst O (P .parties) (gate (P .circuit) (at .gate)) Open heard
       → {l₁ : List ℕ}
-      → l₁ ≡ afterOpenOutput O (layoutOf y) l x e
+      → l₁ ≡ afterOpenOutput O (layoutOf y) l (shown O (layoutOf y) l give x m) e
       → l₁ ≡ received O P l (at .gate) Open heard
-  unfolding received
-  output-received k ex ee e =
-      e ∙ rw (ee, ex, output-heard O (P .parties) heard Open (gate (P .circuit) (at .gate)) (class-of P l y at Open k), k .lay)
+  unfolding received showing recordOf recordIn
+  output-received k ex eg em ee e =
+      e ∙ rw (ee, ex, eg, em, k .sited .prep, output-heard O (P .parties) heard Open (gate (P .circuit) (at .gate)) (class-of P l y at Open k), k .lay)
 
   pub reveal-received : Ready (O .size) P l y at (Reveal Second)
       → {l₁ : List ℕ}

@@ -10,20 +10,20 @@ use borrow.Author.Tests.{eq-eqb, ne-eqb}
 use Rattle.algebra.specs.Ops.{Ops}
 use Rattle.algebra.specs.Element.{Is}
 use Rattle.circuit.specs.Gate.{gateSize, gate}
-use Rattle.circuit.specs.Kind.{Owned, Opens, shape}
+use Rattle.circuit.specs.Kind.{Owned, Opens, shape, isGive}
 use Rattle.circuit.specs.Count.{unchecked}
 use Rattle.circuit.specs.Round.{Round, Own, Open, isCommit, words, openedIn, coefficientsIn, nonceIn}
 use Rattle.circuit.proofs.KindLaws.{owned-facts, opens-facts}
 use Rattle.protocol.specs.Scratch as S
 use Rattle.protocol.specs.Party.{Party, key, recordIn, recordOf, inputOf, aAt, bAt}
-use Rattle.protocol.specs.Send.{inputWord, masked, checkShare, opening, ownWords, showing, sent, holds, overwrite, openingWords}
+use Rattle.protocol.specs.Send.{inputWord, masked, shown, checkShare, opening, ownWords, showing, sent, holds, overwrite, openingWords}
 use Rattle.protocol.specs.declared.Layout.{Layout}
 use Rattle.protocol.specs.declared.Site.{Site}
 use Rattle.protocol.specs.Holding.{Below, Held}
 use Rattle.protocol.specs.Code.{layoutOf}
 use Rattle.protocol.specs.Ready.{Ready, Sends, Named}
 use Rattle.protocol.proofs.Writing.{OpenedTo}
-use Rattle.protocol.proofs.Readiness.{gate-there, record-fits, room-there, opened-there, class-of, input-words, opening-words, opening-held, output-words, output-held}
+use Rattle.protocol.proofs.Readiness.{gate-there, record-fits, mask-there, room-there, opened-there, class-of, input-words, opening-words, opening-held, output-words, output-held}
 
 pub overwrite-one : (w : ℕ) (out : List ℕ) → 0 < length out → set out 0 w ≡ overwrite (w ∷ []) out
 unfolding overwrite
@@ -92,12 +92,16 @@ module _ {q : ℕ} (P : Party) (l : List ℕ) (y : Layout) (at : Site) (held : �
 
   pub sends-output : Sends q P l y at Open held coefficients nonce room
       → (gateSize * (at .gate) + gateSize ≤ length (P .circuit))
+      × (at .prep ≤ length (P .prep))
+      × (isGive (gate (P .circuit) (at .gate)) ≡ true → at .prep + 1 < length (P .prep))
+      × Below q (P .prep)
       × (S.slotsSize (layoutOf y) ≤ length l)
       × Held q (layoutOf y) l (gate (P .circuit) (at .gate) .first)
       × (0 < room)
   sends-output s =
       let k = s .ready in
-      (gate-there P l y at Open k, room-there P l y at Open k, output-held P l y at k, omega (arith, s .space, output-words (gate (P .circuit) (at .gate)) (class-of P l y at Open k)))
+      let record-there = mask-there P l y at Open k in
+      (gate-there P l y at Open k, record-there .0, (λ e. omega (arith, record-there .1 e)), k .prep-low, room-there P l y at Open k, output-held P l y at k, omega (arith, s .space, output-words (gate (P .circuit) (at .gate)) (class-of P l y at Open k)))
 
   module _ (r : Round) (s : Sends q P l y at r held coefficients nonce room) where
     -- a commitment has a coefficient for each entry that it checks
@@ -141,7 +145,7 @@ module _ (O : Ops) (P : Party) (l : List ℕ) (y : Layout) (at : Site) (held : �
   sent-opening k c n e = e ∙ rw (c, n .first, n .second, n .openings, k .sited .prep, k .lay)
 
   pub sent-output : Ready (O .size) P l y at Open
-      → ws ≡ overwrite (showing O P l (at .gate) .share ∷ []) out
+      → ws ≡ overwrite (shown O (layoutOf y) l (isGive (gate (P .circuit) (at .gate))) (gate (P .circuit) (at .gate) .first) (drop (at .prep) (P .prep)) .share ∷ []) out
       → ws ≡ overwrite (sent O P l (at .gate) held coefficients nonce Open) out
-  unfolding sent
-  sent-output k e = e
+  unfolding sent showing recordOf recordIn
+  sent-output k e = e ∙ rw (k .lay, k .sited .prep)

@@ -2,7 +2,7 @@
 -- Assumes nothing.
 use Prim.Native.Nat.{ℕ, _+_, _-_, _*_, _<_, _≤_}
 use mathlib.Core.Path.{_≡_, sym, ap, _∙_}
-use mathlib.Core.Bool.{true, false}
+use mathlib.Core.Bool.{Bool, true, false}
 use mathlib.Core.List.{List}
 use native.Mathlib.Omega.{arith}
 use lib.ListN.{length, getD, take, drop}
@@ -11,10 +11,12 @@ use borrow.Rule.Slice.PartMut.{mid-len}
 use Rattle.algebra.specs.Element.{Is}
 use Rattle.field.specs.Words.{size, ops}
 use Rattle.circuit.specs.Gate.{gate}
+use Rattle.circuit.specs.Kind.{isGive}
 use Rattle.circuit.specs.Round.{Check, Round, Open, Commit, Reveal, isReveal, commitWords, revealWords, shapeWords, words, rounds, among}
 use Rattle.protocol.specs.Scratch.{marksAt, marksOf}
 use Rattle.protocol.specs.Position.{aborted}
 use Rattle.protocol.specs.Party.{Party}
+use Rattle.protocol.specs.Send.{shown}
 use Rattle.protocol.specs.Receive as R
 use Rattle.protocol.specs.Receive.{passed, heardSum, afterOpenOutput, misfit, weighs, ruling, received, finds}
 use Rattle.protocol.specs.Code.{layoutOf, pointOf, rulingOf}
@@ -26,7 +28,8 @@ use Rattle.protocol.specs.declared.Ruling.{Ruling}
 use Rattle.protocol.specs.declared.Ruling.the-variants.{Passed, Stopped}
 use Rattle.protocol.proofs.Following.{followed, ruling-other, next-follows, next-stops}
 use Rattle.protocol.proofs.Readiness.{class-of, output-words, tail-there}
-use Rattle.protocol.proofs.Received.{left-passed, left-stopped}
+use Rattle.protocol.proofs.HeardWords.{output-heard}
+use Rattle.protocol.proofs.Received.{output-received, left-passed, left-stopped}
 use Rattle.steps.specs.declared.Conclusion.{Conclusion}
 use Rattle.steps.specs.Code.{Concludes}
 
@@ -40,13 +43,16 @@ module _ (P : Party) (l : List ℕ) (y : Layout) (at : Site) {heard : List ℕ} 
       let e : length heard ≡ P .parties * 1 = s .whole ∙ rw shown-words in
       (omega arith, omega arith, λ i h. s .heard-low (i * 1 + 0))
 
-  pub shown-received : {x e : ℕ} {l₁ : List ℕ}
+  pub shown-received : {x : ℕ} {give : Bool} {m : List ℕ} {e : ℕ} {l₁ : List ℕ}
       → x ≡ gate (P .circuit) (at .gate) .first
+      → give ≡ isGive (gate (P .circuit) (at .gate))
+      → m ≡ drop (at .prep) (P .prep)
       → Is size (heardSum ops (P .parties) 1 0 heard) e
-      → l₁ ≡ afterOpenOutput ops (layoutOf y) l x e
+      → l₁ ≡ afterOpenOutput ops (layoutOf y) l (shown ops (layoutOf y) l give x m) e
       → l₁ ≡ received ops P l (at .gate) Open heard
-  unfolding received
-  shown-received ex ee e = e ∙ rw (ex, ee .is, shown-words, s .ready .lay)
+  shown-received ex eg em ee e =
+      output-received ops P l y at heard (s .ready) ex eg em
+      (ee .is ∙ sym (output-heard ops (P .parties) heard Open (gate (P .circuit) (at .gate)) (class-of P l y at Open (s .ready)) ∙ rw shown-words)) e
 
 -- a commitment's marks fit the scratch
 pub marks-ask : (P : Party) (l : List ℕ) (y : Layout) (at : Site) (t : Check) {heard : List ℕ} → Receives size P l y at (Commit t) heard

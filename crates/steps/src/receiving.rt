@@ -18,16 +18,17 @@ use protocol::Layout;
 use protocol::Point;
 use protocol::Ruling;
 use protocol::Site;
+use protocol::Slot;
 use protocol::Stage;
 ghost use mathlib.Core.Path.{_≡_};
 ghost use mathlib.Core.Bool.{true, cond};
 ghost use Prim.Native.Nat.{ℕ, suc, _+_, _-_, _*_, _<_, _≤_};
-ghost use lib.ListN.{length, getD};
+ghost use lib.ListN.{length, getD, drop};
 ghost use lib.Dec.{eqb};
 ghost use Rattle.algebra.specs.Element.{Is};
 ghost use Rattle.field.specs.Words.{size, ops, sumSize, sumRoom, termSize};
 ghost use Rattle.circuit.specs.Gate.{gateSize, gate, gates, gateOf};
-ghost use Rattle.circuit.specs.Kind.{Local, Owned, Opens, kindShape, shape, isClass};
+ghost use Rattle.circuit.specs.Kind.{Local, Owned, Opens, kindShape, shape, isClass, isGive};
 ghost use Rattle.circuit.specs.Count.{unchecked};
 ghost use Rattle.circuit.specs.Round.{Second, Own, Open, Reveal, commitWords, revealWords};
 ghost use Rattle.circuit.specs.Code.{kindOf, classOf, checkOf, roundOf};
@@ -35,8 +36,9 @@ ghost use Rattle.protocol.specs.Part.{partAt, product};
 ghost use Rattle.protocol.specs.Scratch.{slotsSize};
 ghost use Rattle.protocol.specs.Party.{partyOf, aAt, bAt, cAt};
 ghost use Rattle.protocol.specs.Position.{reach, enter, resume};
-ghost use Rattle.protocol.specs.Receive.{heardSum, afterInput, putDifferences, afterOpening, afterOpenOutput, afterLinear, settle, onward, received, fits, misfit, weighs};
-ghost use Rattle.protocol.specs.Holding.{Below, Held, Reads};
+ghost use Rattle.protocol.specs.Send.{shown};
+ghost use Rattle.protocol.specs.Receive.{heardSum, afterInput, putDifferences, afterOpening, afterOpenOutput, score, afterLinear, settle, onward, received, fits, misfit, weighs};
+ghost use Rattle.protocol.specs.Holding.{Below, Held, Opened, Reads};
 ghost use Rattle.protocol.specs.Code.{layoutOf, pointOf, blameOf, rulingOf};
 ghost use Rattle.protocol.specs.Ready.{Opening, Settles, Stands, Ready, Receives, Named, Summed};
 ghost use Rattle.steps.specs.Code.{IsPart, Concludes};
@@ -184,13 +186,46 @@ pub fn after_opening(
     scratch::put_wire(l, y, j, product);
 }
 
-// The sum of the shown shares is the only opened entry.
-pub fn after_open_output(y: Layout, l: &mut [Word], x: usize, s: Word)
-    requires { ⌜ (slotsSize (layoutOf y) ≤ length (now l)) × (0 < y .capacity) × Held size (layoutOf y) (now l) x ⌝ }
-    ensures { λ r. ⌜ now (l .exit) ≡ afterOpenOutput ops (layoutOf y) (now (l .entry)) x s ⌝ }
+// The sum of the shown shares of an output of gate x is the only opened entry; m starts at the record of a give.
+pub fn after_open_output(y: Layout, l: &mut [Word], x: usize, give: bool, m: &[Word], s: Word)
+    requires { ⌜ (slotsSize (layoutOf y) ≤ length (now l))
+        × (0 < y .capacity)
+        × Held size (layoutOf y) (now l) x
+        × (give ≡ true → 1 < length (now m))
+        × Below size (now m) ⌝ }
+    ensures { λ r. ⌜ now (l .exit) ≡ afterOpenOutput ops (layoutOf y) (now (l .entry)) (shown ops (layoutOf y) (now (l .entry)) give x (now (m .entry))) s ⌝ }
 {
-    let shown = scratch::wire_at(l, y, x);
+    let shown = sending::shown_part(l, y, x, give, m);
     scratch::put_opened(l, y, 0, s, shown.mac);
+}
+
+// The score of an output whose second check passes: the number at opened index 0, and of a give that number with the whole mask of its record m.
+pub fn score_of(l: &[Word], y: Layout, give: bool, m: &[Word]) -> Word
+    requires { ⌜ (slotsSize (layoutOf y) ≤ length (now l))
+        × Opened size (layoutOf y) (now l) 0
+        × (give ≡ true → 2 < length (now m))
+        × Below size (now m) ⌝ }
+    ensures { λ r. ⌜ r ≡ score ops (layoutOf y) (now (l .entry)) give (now (m .entry)) ⌝ }
+{
+    let shown = scratch::read_slot(l, y, Slot::Value(0));
+    if give {
+        return field::add(shown, m[sending::WHOLE_MASK_AT]);
+    }
+    shown
+}
+
+// The score of gate j, whose record stands at number start of the preprocessing.
+pub fn score_at(c: &[Word], prep: &[Word], l: &[Word], y: Layout, j: usize, start: usize) -> Word
+    requires { ⌜ (gateSize * j + gateSize ≤ length (now c))
+        × (start ≤ length (now prep))
+        × (isGive (gate (now c) j) ≡ true → start + 2 < length (now prep))
+        × Below size (now prep)
+        × (slotsSize (layoutOf y) ≤ length (now l))
+        × Opened size (layoutOf y) (now l) 0 ⌝ }
+    ensures { λ r. ⌜ r ≡ score ops (layoutOf y) (now (l .entry)) (isGive (gate (now (c .entry)) j)) (drop start (now (prep .entry))) ⌝ }
+{
+    let give = gates::reading::is_give_at(c, j);
+    score_of(l, y, give, &prep[start..])
 }
 
 // Gate j, of a local kind, which names x and z and has the constant k.
@@ -233,6 +268,7 @@ pub fn after_linear(
         Kind::Mul => {}
         Kind::Out => {}
         Kind::Sq => {}
+        Kind::Give => {}
     }
 }
 
@@ -423,9 +459,11 @@ fn receive_output(
         ≡ received ops (partyOf parties me (now (c .entry)) (now (prep .entry)) (now (inputs .entry)))
         (now (l .entry)) (at .gate) Open (now (heard .entry)) ⌝ }
 {
+    let start = at.prep;
     let x = gates::reading::first_at(c, at.gate);
+    let give = gates::reading::is_give_at(c, at.gate);
     let shown = heard_sum(parties, 1, 0, heard);
-    after_open_output(y, l, x, shown);
+    after_open_output(y, l, x, give, &prep[start..], shown);
 }
 
 // Does what party i reveals fit its mark?

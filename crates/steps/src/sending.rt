@@ -12,18 +12,19 @@ use protocol::Layout;
 use protocol::Site;
 use protocol::Slot;
 ghost use mathlib.Core.Path.{_≡_};
+ghost use mathlib.Core.Bool.{true};
 ghost use mathlib.Core.List.{[], _∷_};
 ghost use Prim.Native.Nat.{ℕ, _+_, _*_, _<_, _≤_};
-ghost use lib.ListN.{length, getD};
+ghost use lib.ListN.{length, getD, drop};
 ghost use Rattle.algebra.specs.Element.{Is};
 ghost use Rattle.field.specs.Words.{size, ops};
 ghost use Rattle.circuit.specs.Gate.{gateSize, gate};
-ghost use Rattle.circuit.specs.Kind.{shape};
+ghost use Rattle.circuit.specs.Kind.{shape, isGive};
 ghost use Rattle.circuit.specs.Round.{Own, commitWords, revealWords, words};
 ghost use Rattle.circuit.specs.Code.{roundOf};
-ghost use Rattle.protocol.specs.Scratch.{slotsSize, marksAt, nonceOf, wire};
+ghost use Rattle.protocol.specs.Scratch.{slotsSize, marksAt, nonceOf};
 ghost use Rattle.protocol.specs.Party.{partyOf};
-ghost use Rattle.protocol.specs.Send.{inputWord, masked, openingWords, checkShare, revealed, mark, ownWords, sent, holds, noted, overwrite};
+ghost use Rattle.protocol.specs.Send.{inputWord, masked, shown, openingWords, checkShare, revealed, mark, ownWords, sent, holds, noted, overwrite};
 ghost use Rattle.protocol.specs.Holding.{Below, Held, Opened};
 ghost use Rattle.protocol.specs.Code.{layoutOf};
 ghost use Rattle.protocol.specs.Ready.{Ready, Sends};
@@ -32,7 +33,7 @@ ghost use Rattle.steps.specs.Code.{passSize, valueSum, weighed, Weighed,
 // Where numbers stand in a record of the preprocessing.
 pub const MASK_AT: usize = 0;
 
-const WHOLE_MASK_AT: usize = 2;
+pub const WHOLE_MASK_AT: usize = 2;
 
 pub const A_AT: usize = 0;
 
@@ -64,6 +65,20 @@ pub fn masked(l: &[Word], y: Layout, x: usize, m: &[Word], k: usize) -> Part
     ensures { λ r. ⌜ IsPart (masked ops (layoutOf y) (now (l .entry)) x (now (m .entry)) k) r ⌝ }
 {
     parts::sub(scratch::wire_at(l, y, x), parts::part_at(m, k))
+}
+
+// The party's part of what an output of gate x shows; a give shows it less its mask, and m starts at its record.
+pub fn shown_part(l: &[Word], y: Layout, x: usize, give: bool, m: &[Word]) -> Part
+    requires { ⌜ (slotsSize (layoutOf y) ≤ length (now l))
+        × Held size (layoutOf y) (now l) x
+        × (give ≡ true → 1 < length (now m))
+        × Below size (now m) ⌝ }
+    ensures { λ r. ⌜ IsPart (shown ops (layoutOf y) (now (l .entry)) give x (now (m .entry))) r ⌝ }
+{
+    if give {
+        return masked(l, y, x, m, MASK_AT);
+    }
+    scratch::wire_at(l, y, x)
 }
 
 // How many products are added up at most before the running sum is folded.
@@ -249,16 +264,30 @@ fn send_own(
     opening_words(l, y, x, z, &prep[start..], k, out);
 }
 
-fn send_output(c: &[Word], l: &[Word], y: Layout, j: usize, out: &mut [Word])
+// The opening of output j, whose record stands at number start of the preprocessing.
+fn send_output(
+    c: &[Word],
+    prep: &[Word],
+    l: &[Word],
+    y: Layout,
+    j: usize,
+    start: usize,
+    out: &mut [Word],
+)
     requires { ⌜ (gateSize * j + gateSize ≤ length (now c))
+        × (start ≤ length (now prep))
+        × (isGive (gate (now c) j) ≡ true → start + 1 < length (now prep))
+        × Below size (now prep)
         × (slotsSize (layoutOf y) ≤ length (now l))
         × Held size (layoutOf y) (now l) (gate (now c) j .first)
         × (0 < length (now out)) ⌝ }
     ensures { λ r. ⌜ now (out .exit)
-        ≡ overwrite (wire (layoutOf y) (now (l .entry)) (gate (now (c .entry)) j .first) .share ∷ []) (now (out .entry)) ⌝ }
+        ≡ overwrite (shown ops (layoutOf y) (now (l .entry)) (isGive (gate (now (c .entry)) j)) (gate (now (c .entry)) j .first) (drop start (now (prep .entry))) .share ∷ [])
+        (now (out .entry)) ⌝ }
 {
     let x = gates::reading::first_at(c, j);
-    let shown = scratch::wire_at(l, y, x);
+    let give = gates::reading::is_give_at(c, j);
+    let shown = shown_part(l, y, x, give, &prep[start..]);
     out[0] = shown.share;
 }
 
@@ -315,7 +344,7 @@ pub fn send_step(
             0
         }
         Round::Open => {
-            send_output(c, l, y, at.gate, out);
+            send_output(c, prep, l, y, at.gate, at.prep, out);
             0
         }
         Round::Commit(_) => {

@@ -89,11 +89,15 @@ returns-8 : tie.Need-returns-8
 unfolding kindShape isClass
 returns-8 c = false-no (rw (c .enum-told8 .given .1) at (c .before .before .before .pre .3))
 
+returns-9 : tie.Need-returns-9
+unfolding kindShape isClass
+returns-9 c = false-no (rw (c .enum-told9 .given .1) at (c .before .before .before .pre .3))
+
 pub after-linear-spec : {M : Type 1} → statement M
 after-linear-spec =
     tie.close
     (tie.spec (λ c. search needs) (λ c. search needs) wire-at-requires wire-at-requires-2 add-requires put-wire-requires (λ c. search needs)
     wire-at-requires-3 wire-at-requires-4 sub-requires put-wire-requires-2 (λ c. search needs) wire-at-requires-5 shifted-requires
-    put-wire-requires-3 (λ c. search needs) wire-at-requires-6 times-requires put-wire-requires-4 (λ c. search needs) (λ c. search needs) (λ c. search needs)
+    put-wire-requires-3 (λ c. search needs) wire-at-requires-6 times-requires put-wire-requires-4 (λ c. search needs) (λ c. search needs) (λ c. search needs) (λ c. search needs)
     returns (λ c. search needs) returns-2 (λ c. search needs) returns-3 (λ c. search needs) returns-4 (λ c. search needs) returns-5 returns-6
-    returns-7 returns-8)
+    returns-7 returns-8 returns-9)
