@@ -52,7 +52,7 @@ use Rattle.forms.proofs.Moves.{
   closes-number,
   closes-one,
   wants-second,
-  wants-constant,
+  wants-number-after,
   closes-two,
   feeds,
   step-move,
@@ -115,7 +115,7 @@ move-opens (more-digits {b = b} p) = omega (arith, plain-opening b p, plain-clos
 move-opens closes-number = omega arith
 move-opens closes-one = omega arith
 move-opens wants-second = omega arith
-move-opens wants-constant = omega arith
+move-opens wants-number-after = omega arith
 move-opens closes-two = omega arith
 move-opens feeds = omega arith
 
@@ -152,7 +152,7 @@ move-flag (more-digits {b = b} p) = sym (not-true (eqb b opening) (both-left (no
 move-flag closes-number = refl
 move-flag closes-one = refl
 move-flag wants-second = refl
-move-flag wants-constant = refl
+move-flag wants-number-after = refl
 move-flag closes-two = refl
 move-flag feeds = refl
 
@@ -178,7 +178,7 @@ move-names (more-digits {b = b} p) = omega (arith, plain-closing b p)
 move-names (closes-number {p = p} {v = v}) = omega (arith, closed-here p v)
 move-names closes-one = unfold gatesIn in omega arith
 move-names wants-second = omega arith
-move-names wants-constant = omega arith
+move-names wants-number-after = omega arith
 move-names closes-two = unfold gatesIn in omega arith
 move-names {rows} (feeds {f = f}) = omega (arith, gates-snoc rows f)
 
@@ -195,7 +195,7 @@ move-closes (more-digits p) = (omega arith, omega arith)
 move-closes (closes-number {p = p} {v = v}) = (omega (arith, pending-most p, closed-here p v), omega (arith, closed-here p v))
 move-closes closes-one = unfold gatesIn in (omega arith, omega arith)
 move-closes wants-second = (omega arith, omega arith)
-move-closes wants-constant = (omega arith, omega arith)
+move-closes wants-number-after = (omega arith, omega arith)
 move-closes closes-two = unfold gatesIn in (omega arith, omega arith)
 move-closes {rows} (feeds {f = f}) = (omega (arith, gates-snoc rows f), omega (arith, gates-snoc rows f))
 
@@ -212,7 +212,7 @@ move-ends (more-digits {b = b} p) e = absurd (omega (arith, plain-closing b p))
 move-ends closes-number e = refl
 move-ends closes-one e = refl
 move-ends wants-second e = absurd (omega arith)
-move-ends wants-constant e = absurd (omega arith)
+move-ends wants-number-after e = absurd (omega arith)
 move-ends closes-two e = refl
 move-ends feeds e = absurd (omega arith)
 

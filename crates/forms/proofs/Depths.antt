@@ -39,7 +39,7 @@ use Rattle.forms.proofs.Moves.{
   closes-number,
   closes-one,
   wants-second,
-  wants-constant,
+  wants-number-after,
   closes-two,
   feeds,
 }
@@ -148,7 +148,7 @@ move-within d (more-digits p) o w = within (w .rows-within) (w .frames-within) (
 move-within d (closes-number {p = p} {v = v}) o w = within (w .rows-within) (w .frames-within) (omega (arith, w .hole-within, closed-depth p v))
 move-within d closes-one o w = within (w .rows-within) (w .frames-within) (omega (arith, w .hole-within))
 move-within d wants-second o w = within (w .rows-within) (omega (arith, w .hole-within), w .frames-within) o
-move-within d wants-constant o w = within (w .rows-within) (w .frames-within) (omega (arith, w .hole-within))
+move-within d wants-number-after o w = within (w .rows-within) (w .frames-within) (omega (arith, w .hole-within))
 move-within d (closes-two {stack = stack} {f = f} {g = g}) o w =
     within (w .rows-within) (w .frames-within .1)
     (omega (arith, larger-most (length stack + 1) (depth f) (depth g) d (w .frames-within .0) (omega (arith, w .hole-within))))
@@ -167,7 +167,7 @@ move-was-within d (more-digits p) w = within (w .rows-within) (w .frames-within)
 move-was-within d (closes-number {p = p} {v = v}) w = within (w .rows-within) (w .frames-within) (omega (arith, w .hole-within, closed-depth p v))
 move-was-within d closes-one w = within (w .rows-within) (w .frames-within) (omega (arith, w .hole-within))
 move-was-within d wants-second w = within (w .rows-within) (w .frames-within .1) (omega (arith, w .frames-within .0))
-move-was-within d wants-constant w = within (w .rows-within) (w .frames-within) (omega (arith, w .hole-within))
+move-was-within d wants-number-after w = within (w .rows-within) (w .frames-within) (omega (arith, w .hole-within))
 move-was-within d (closes-two {f = f} {g = g}) w =
     within (w .rows-within) (omega (arith, w .hole-within, larger-left (depth f) (depth g)), w .frames-within)
     (omega (arith, w .hole-within, larger-right (depth f) (depth g)))

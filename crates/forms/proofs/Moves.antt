@@ -127,7 +127,7 @@ pub data Move (rows : List Form) : List Frame → Focus → ℕ → State → Ty
   closes-number : {stack : List Frame} {p : Numbered} {v : ℕ} → Move rows stack (digit p v) closing (at rows stack (made (closed p v)))
   closes-one : {stack : List Frame} {h : Head} {f : Form} → Move rows (first h ∷ stack) (made f) closing (at rows stack (made (one h f)))
   wants-second : {stack : List Frame} {h : Head} {f : Form} → Move rows (first h ∷ stack) (made f) space (at rows (second h f ∷ stack) start)
-  wants-constant : {stack : List Frame} {h : Head} {f : Form} → Move rows (first h ∷ stack) (made f) space (at rows stack (number (after h f)))
+  wants-number-after : {stack : List Frame} {h : Head} {f : Form} → Move rows (first h ∷ stack) (made f) space (at rows stack (number (after h f)))
   closes-two : {stack : List Frame} {h : Head} {f g : Form} → Move rows (second h f ∷ stack) (made g) closing (at rows stack (made (two h f g)))
   feeds : {f : Form} → Move rows [] (made f) feed (at (rows ++ (f ∷ [])) [] start)
 
@@ -164,7 +164,7 @@ module _ (rows : List Form) (stack : List Frame) where
   at-operand h f Leaf b t e = none-no e
   at-operand h f One b t e = when-elim (eqb b closing) e (Move rows (first h ∷ stack) (made f) b) (λ ok. rw (eqb-true b closing ok) closes-one)
   at-operand h f Two b t e = when-elim (eqb b space) e (Move rows (first h ∷ stack) (made f) b) (λ ok. rw (eqb-true b space ok) wants-second)
-  at-operand h f Scaled b t e = when-elim (eqb b space) e (Move rows (first h ∷ stack) (made f) b) (λ ok. rw (eqb-true b space ok) wants-constant)
+  at-operand h f Scaled b t e = when-elim (eqb b space) e (Move rows (first h ∷ stack) (made f) b) (λ ok. rw (eqb-true b space ok) wants-number-after)
 
 at-made : (rows : List Form) (stack : List Frame) (f : Form) (b : ℕ) (t : State) → handed rows stack f b ≡ some t → Move rows stack (made f) b t
 unfolding handed

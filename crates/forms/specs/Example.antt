@@ -77,6 +77,12 @@ short = bytes "(in 0)\n(out (line 0))\n"
 abbrev shortCircuit : List ℕ
 shortCircuit = 1 ∷ 0 ∷ 0 ∷ 0 ∷ 7 ∷ 0 ∷ 0 ∷ 0 ∷ []
 
+abbrev given : List ℕ
+given = bytes "(in 0)\n(give (line 0) 1)\n"
+
+abbrev givenCircuit : List ℕ
+givenCircuit = 1 ∷ 0 ∷ 0 ∷ 0 ∷ 9 ∷ 0 ∷ 1 ∷ 0 ∷ []
+
 unfoldable pub table : List Case
 table =
     -- the empty text does not end within a line: a circuit of no gates
@@ -125,7 +131,7 @@ table =
     ∷ refused 2 (bytes "(in 9)\n(plus (line 0) 4294967295)\nx") 22 34
     -- gate 1 before gate 2
     ∷ refused 2 (bytes "(in 0)\n(in 9)\n(times (line 0) 2147483647)\n") 5 1
-    -- the last gate is no out
+    -- the last gate is no output
     ∷ refused 2 (bytes "(in 0)\n(in 1)\n") 7 0
     -- room for the circuit, for a number less, and for one more
     ∷ reads 2 short (replicate 8 blank) (Done 2) shortCircuit
@@ -137,9 +143,19 @@ table =
     ∷ becomes 2 (bytes "(sq (sq (in 0)))\n(out (line 0))\n") (1 ∷ 0 ∷ 0 ∷ 0 ∷ 8 ∷ 0 ∷ 0 ∷ 0 ∷ 8 ∷ 1 ∷ 0 ∷ 0 ∷ 7 ∷ 2 ∷ 0 ∷ 0 ∷ [])
     ∷ refused 2 (bytes "(so (in 0))\n") 22 2
     ∷ refused 2 (bytes "(sq(in 0))\n") 22 3
+    -- a give may be last; its number is its gate's second
+    ∷ becomes 2 given givenCircuit
+    -- a give inside: the "g"
+    ∷ refused 2 (bytes "(add (give (in 0) 1) (in 0))\n") 22 6
+    -- a give has no value: row 1 cannot be named
+    ∷ refused 2 (bytes "(in 0)\n(give (in 0) 1)\n(out (line 1))\n") 22 34
+    -- a receiver that no number may be, and one that is no party
+    ∷ refused 2 (bytes "(in 0)\n(give (line 0) 4294967296)\n") 22 31
+    ∷ refused 2 (bytes "(in 0)\n(give (line 0) 2)\n") 5 1
     -- the sheet of a circuit, and room for a byte less
     ∷ writes shortCircuit (replicate 22 blank) (Done 22) short
     ∷ writes shortCircuit (replicate 21 blank) (Refusal 18 0) (replicate 21 blank)
+    ∷ writes givenCircuit (replicate 25 blank) (Done 25) given
     ∷ []
 
 -- long texts, as far as they are read

@@ -4,10 +4,10 @@ use Prim.Native.Nat.{ℕ}
 use mathlib.Core.Bool.{Bool, cond, not, _||_}
 use mathlib.Core.List.{List, [], _∷_}
 use lib.Dec.{eqb}
-use Rattle.circuit.specs.Gate.{kindIn, kindAdd, kindSub, kindPlus, kindTimes, kindMul, kindOut, kindSq, decode}
+use Rattle.circuit.specs.Gate.{kindIn, kindAdd, kindSub, kindPlus, kindTimes, kindMul, kindOut, kindSq, kindGive, decode}
 use Rattle.circuit.specs.Kind.{Shape, kindShape, Output, isClass, Role, Unused, Party, Wire, Constant}
 pub use Rattle.forms.specs.declared.Head.{Head}
-pub use Rattle.forms.specs.declared.Head.the-variants.{In, Add, Sub, Plus, Times, Mul, Out, Line, Sq}
+pub use Rattle.forms.specs.declared.Head.the-variants.{In, Add, Sub, Plus, Times, Mul, Out, Line, Sq, Give}
 pub use Rattle.forms.specs.declared.Sort.{Sort}
 pub use Rattle.forms.specs.declared.Sort.the-variants.{Leaf, One, Two, Scaled}
 
@@ -25,7 +25,7 @@ abbrev row : List ℕ → Sort → ℕ → Word
 row letters sort kind = record { letters = letters; sort = sort; kind = kind }
 
 -- "A form is (in S), (add F F), (sub F F), (plus F K), (times F K), (mul F F), or inside another form (line J) .. An (out F)"; "The sheet gains
--- (sq F)". A byte is its number in ASCII
+-- (sq F)"; "The sheet gains (give F S)". What a number is for, a constant or a party, is told by the kind. A byte is its number in ASCII
 abbrev pub word : Head → Word
 word In = row (105 ∷ 110 ∷ []) Leaf kindIn
 word Add = row (97 ∷ 100 ∷ 100 ∷ []) Two kindAdd
@@ -36,9 +36,10 @@ word Mul = row (109 ∷ 117 ∷ 108 ∷ []) Two kindMul
 word Out = row (111 ∷ 117 ∷ 116 ∷ []) One kindOut
 word Line = row (108 ∷ 105 ∷ 110 ∷ 101 ∷ []) Leaf noKind
 word Sq = row (115 ∷ 113 ∷ []) One kindSq
+word Give = row (103 ∷ 105 ∷ 118 ∷ 101 ∷ []) Scaled kindGive
 
 abbrev pub heads : List Head
-heads = In ∷ Add ∷ Sub ∷ Plus ∷ Times ∷ Mul ∷ Out ∷ Line ∷ Sq ∷ []
+heads = In ∷ Add ∷ Sub ∷ Plus ∷ Times ∷ Mul ∷ Out ∷ Line ∷ Sq ∷ Give ∷ []
 
 abbrev pub letters : Head → List ℕ
 letters h = word h .letters
@@ -57,7 +58,7 @@ names h = eqb (kind h) noKind
 abbrev pub shapeOf : Head → Shape
 shapeOf h = kindShape (decode (kind h))
 
--- "An out line has no value and cannot be named."
+-- "An out line has no value and cannot be named."; "A give has no value"
 unfoldable pub valued : Head → Bool
 valued h = not (isClass Output (shapeOf h .class))
 
@@ -65,7 +66,7 @@ valued h = not (isClass Output (shapeOf h .class))
 unfoldable pub outer : Head → Bool
 outer h = not (names h)
 
--- "An (out F) stands only outermost."
+-- "An (out F) stands only outermost."; "(give F S), outermost only"
 unfoldable pub inner : Head → Bool
 inner h = names h || valued h
 

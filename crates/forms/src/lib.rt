@@ -12,6 +12,7 @@ pub enum Head {
     Out,
     Line,
     Sq,
+    Give,
 }
 
 // What follows a word: a number; a form; two forms; a form and a number.
