@@ -58,14 +58,24 @@ pub fn row(h: Head) -> Row
             constant: Role::Unused,
         },
         Head::Sq => valued(2, Sort::One, 8, Role::Wire, Role::Unused, Role::Unused),
+        Head::Give => Row {
+            length: 4,
+            sort: Sort::Scaled,
+            kind: 9,
+            naming: false,
+            valued: false,
+            first: Role::Wire,
+            second: Role::Party,
+            constant: Role::Unused,
+        },
     }
 }
 
 // How many words there are.
-pub const HEADS: usize = 9;
+pub const HEADS: usize = 10;
 
 pub fn head_at(k: usize) -> Head
-    requires { ⌜ k < 9 ⌝ }
+    requires { ⌜ k < 10 ⌝ }
     ensures { λ r. ⌜ drop k heads ≡ r ∷ drop (k + 1) heads ⌝ }
 {
     if k == 0 {
@@ -92,5 +102,8 @@ pub fn head_at(k: usize) -> Head
     if k == 7 {
         return Head::Line;
     }
-    Head::Sq
+    if k == 8 {
+        return Head::Sq;
+    }
+    Head::Give
 }

@@ -49,6 +49,7 @@ fn starts_head(text: &[u8], from: usize, to: usize, h: Head) -> bool
         Head::Out => starts_word(text, from, to, b"out"),
         Head::Line => starts_word(text, from, to, b"line"),
         Head::Sq => starts_word(text, from, to, b"sq"),
+        Head::Give => starts_word(text, from, to, b"give"),
     }
 }
 
@@ -85,6 +86,7 @@ fn word_stands(text: &[u8], from: usize, h: Head) -> bool
         Head::Out => bytes_stand(text, from, b"out "),
         Head::Line => bytes_stand(text, from, b"line "),
         Head::Sq => bytes_stand(text, from, b"sq "),
+        Head::Give => bytes_stand(text, from, b"give "),
     }
 }
 
@@ -213,6 +215,9 @@ fn suggested(b: u8, next: u8) -> Head {
     }
     if b == b't' {
         return Head::Times;
+    }
+    if b == b'g' {
+        return Head::Give;
     }
     Head::Out
 }

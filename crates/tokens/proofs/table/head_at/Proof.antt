@@ -1,4 +1,4 @@
--- `tokens::table::head_at` meets its contract: the numbers 0 to 8 go through the list of words.
+-- `tokens::table::head_at` meets its contract: the numbers 0 to 9 go through the list of words.
 -- Assumes nothing.
 use mathlib.Core.Path.{_≡_}
 use native.Mathlib.Omega.{arith}
@@ -32,15 +32,18 @@ returns-8 : tie.Need-returns-8
 returns-8 c = rw (c .if8 .taken)
 
 returns-9 : tie.Need-returns-9
-returns-9 c =
-    let at-3 = c .before .before .before .before .before in
-    let at-2 = at-3 .before in
-    let e : at-2 .before .before .args .k ≡ 8 =
+returns-9 c = rw (c .if9 .taken)
+
+returns-10 : tie.Need-returns-10
+returns-10 c =
+    let at-5 = c .before .before .before .before in
+    let at-2 = at-5 .before .before .before in
+    let e : at-2 .before .before .args .k ≡ 9 =
     le-antisymm (le-pred-of-lt (at-2 .before .before .pre))
-    (past 7 _ (past 6 _ (past 5 _ (past 4 _ (past 3 _ (past 2 _ (past 1 _ (past 0 _ (omega arith) (at-2 .before .if1 .left)) (at-2 .if2 .left))
-    (at-3 .if3 .left)) (c .before .before .before .before .if4 .left)) (c .before .before .before .if5 .left))
-    (c .before .before .if6 .left)) (c .before .if7 .left)) (c .if8 .left)) in
+    (past 8 _ (past 7 _ (past 6 _ (past 5 _ (past 4 _ (past 3 _ (past 2 _ (past 1 _ (past 0 _ (omega arith) (at-2 .before .if1 .left)) (at-2 .if2 .left))
+    (at-5 .before .before .if3 .left)) (at-5 .before .if4 .left)) (at-5 .if5 .left)) (c .before .before .before .if6 .left))
+    (c .before .before .if7 .left)) (c .before .if8 .left)) (c .if9 .left)) in
     rw e
 
 pub head-at-spec : {M : Type 1} → statement M
-head-at-spec = tie.close (tie.spec returns returns-2 returns-3 returns-4 returns-5 returns-6 returns-7 returns-8 returns-9)
+head-at-spec = tie.close (tie.spec returns returns-2 returns-3 returns-4 returns-5 returns-6 returns-7 returns-8 returns-9 returns-10)

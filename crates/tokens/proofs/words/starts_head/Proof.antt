@@ -31,6 +31,9 @@ returns-8 c = rw (c .before .before .enum-told8 .given .1) (c .starts-word8 .ens
 returns-9 : tie.Need-returns-9
 returns-9 c = rw (c .before .before .enum-told9 .given .1) (c .starts-word9 .ensures)
 
+returns-10 : tie.Need-returns-10
+returns-10 c = rw (c .before .before .enum-told10 .given .1) (c .starts-word10 .ensures)
+
 pub starts-head-spec : {M : Type 1} → statement M
 starts-head-spec =
     tie.close
@@ -38,5 +41,5 @@ starts-head-spec =
     (λ c. search needs) (λ c. search needs) (λ c κs. search needs) (λ c. search needs) (λ c. search needs) (λ c κs. search needs)
     (λ c. search needs) (λ c. search needs) (λ c κs. search needs) (λ c. search needs) (λ c. search needs) (λ c κs. search needs)
     (λ c. search needs) (λ c. search needs) (λ c κs. search needs) (λ c. search needs) (λ c. search needs) (λ c κs. search needs)
-    (λ c. search needs) (λ c. search needs) (λ c κs. search needs) returns returns-2 returns-3 returns-4 returns-5 returns-6
-    returns-7 returns-8 returns-9)
+    (λ c. search needs) (λ c. search needs) (λ c κs. search needs) (λ c. search needs) (λ c. search needs) (λ c κs. search needs) returns
+    returns-2 returns-3 returns-4 returns-5 returns-6 returns-7 returns-8 returns-9 returns-10)
