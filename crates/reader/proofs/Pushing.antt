@@ -13,7 +13,7 @@ use Rattle.circuit.specs.Kind.{Role, Unused, Party, Wire, Constant, kindShape}
 use Rattle.circuit.specs.Code.{roleOf}
 use Rattle.circuit.specs.declared.Role as C
 use Rattle.forms.specs.declared.Head.{Head}
-use Rattle.forms.specs.declared.Head.the-variants.{In, Add, Sub, Plus, Times, Mul, Out, Line, Sq}
+use Rattle.forms.specs.declared.Head.the-variants.{In, Add, Sub, Plus, Times, Mul, Out, Line, Sq, Give}
 use Rattle.forms.specs.declared.Sort.{Sort}
 use Rattle.forms.specs.declared.Sort.the-variants.{Leaf, One, Two, Scaled}
 use Rattle.forms.specs.Words.{sort, kind, names, shapeOf, placed, line}
@@ -86,6 +86,7 @@ module _ (h : Head) (x y n : ℕ) where
   line-by Out e = refl
   line-by Line e = absurd (true≢false e)
   line-by Sq e = refl
+  line-by Give e = refl
 
   pub line-as : (k : Sort) → sort h ≡ k → names h ≡ false → line h x y n ≡ kind h ∷ numbersBy (isConstant (shapeOf h .constant)) k x y n
   line-as k s e = line-by h e ∙ ap (λ (q : Sort). kind h ∷ numbersBy (isConstant (shapeOf h .constant)) q x y n) s
