@@ -30,6 +30,8 @@ const KIND_OUT: Word = 7;
 
 const KIND_SQ: Word = 8;
 
+const KIND_GIVE: Word = 9;
+
 // The word whose form makes a gate of this kind.
 fn head_of(kind: Word) -> Head
     ensures { λ r. ⌜ r ≡ headOf kind ⌝ }
@@ -43,6 +45,7 @@ fn head_of(kind: Word) -> Head
         KIND_MUL => Head::Mul,
         KIND_OUT => Head::Out,
         KIND_SQ => Head::Sq,
+        KIND_GIVE => Head::Give,
         _ => Head::Line,
     }
 }

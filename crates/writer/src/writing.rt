@@ -51,6 +51,7 @@ fn put_begin(text: &mut [u8], at: usize, h: Head) -> usize
         Head::Out => put_bytes(text, at, b"(out "),
         Head::Line => put_bytes(text, at, b"(line "),
         Head::Sq => put_bytes(text, at, b"(sq "),
+        Head::Give => put_bytes(text, at, b"(give "),
     }
 }
 
