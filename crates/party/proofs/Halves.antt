@@ -1,21 +1,23 @@
 -- The questions of a whole call, one after another: what they come to, what their acceptance gives, and what an accepted call leaves.
 -- Assumes nothing.
-use Prim.Native.Nat.{ℕ, _*_, _<_, _≤_}
+use Prim.Native.Nat.{ℕ, _+_, _*_, _<_, _≤_}
 use mathlib.Core.Path.{_≡_, refl, sym, ap, subst, _∙_}
-use mathlib.Core.Bool.{true, false}
+use mathlib.Core.Bool.{Bool, true, false, _&&_}
 use mathlib.Core.List.{List}
 use native.Mathlib.Omega.{arith}
-use lib.ListN.{length}
+use lib.ListN.{length, drop}
 use Rattle.field.specs.Words.{size, ops}
 use Rattle.circuit.specs.Verdict.{Verdict, Accepted, Refused, ask, _then_}
-use Rattle.circuit.specs.Gate.{gateSize, gates}
-use Rattle.circuit.specs.Count.{capacity, unchecked}
+use Rattle.circuit.specs.Gate.{gateSize, gate, gates}
+use Rattle.circuit.specs.Kind.{isGive, seenBy, alone}
+use Rattle.circuit.specs.Count.{unchecked}
 use Rattle.circuit.specs.Round.{Round, rounds, among}
-use Rattle.protocol.specs.Scratch.{slotsSize, read, Value}
+use Rattle.protocol.specs.Scratch.{slotsSize}
 use Rattle.protocol.specs.Position as At
 use Rattle.protocol.specs.Party.{Party}
 use Rattle.protocol.specs.Send.{overwrite, sent, holds, noted}
-use Rattle.protocol.specs.Receive.{Ruling, Passed, Stopped, next, finds, left}
+use Rattle.protocol.specs.Receive.{Ruling, Passed, Stopped, score, next, finds, left}
+use Rattle.protocol.specs.Holding.{Below, Opened}
 use Rattle.protocol.specs.Code.{layoutOf, stageOf, Sited}
 use Rattle.protocol.specs.Ready.{Ready}
 use Rattle.protocol.specs.declared.Layout.{Layout}
@@ -25,9 +27,11 @@ use Rattle.protocol.specs.Entry as E
 use Rattle.party.specs.Code.{positionOf, leadsTo, Posed, lentOf, LentOk, placeOf, PlaceOk, LentTo, RoundAt, Sendable, Receivable}
 use Rattle.party.specs.declared.Position.{Position}
 use Rattle.party.specs.declared.Lent as D
-use Rattle.circuit.proofs.Counts.{unchecked-fits}
+use Rattle.circuit.proofs.Tests.{by-cases, both-left}
+use Rattle.protocol.proofs.Answers.{release-second}
+use Rattle.protocol.proofs.Scoring.{score-asks, score-made}
 use Rattle.protocol.proofs.Accepted.{Lends, parties-few, gate-occurs, stage-occurs, entries-fit, sends, receives}
-use Rattle.protocol.proofs.Readiness.{lay-gates, lay-capacity, room-there}
+use Rattle.protocol.proofs.Readiness.{lay-gates}
 use Rattle.protocol.proofs.Tails.{slots-room}
 use Rattle.party.proofs.Accepted.{positive, lends-here}
 use Rattle.protocol.proofs.Entries.{asked, half-decides, sending-at, receiving-at, Sending, send-done, Receiving, receive-done}
@@ -68,10 +72,13 @@ pub round-at : (P : Party) (l : List ℕ) (at : Position) {x : D.Lent} {y : Layo
 round-at P l at h g = rw g at h
 
 -- what the code makes of a round's end is what is defined
-leads-is : (P : Party) (j held : ℕ) (r : Round) (output : ℕ) (v : Ruling) → leadsTo r held output v (next (P .circuit) j r v) ≡ E.concludes ops P output j held r v
+leads-is : (P : Party) (j held : ℕ) (r : Round) {told : Bool} {output w : ℕ} (v : Ruling)
+    → told ≡ (E.releases r && seenBy (alone (P .me)) (gate (P .circuit) j))
+    → (told ≡ true → output ≡ w)
+    → leadsTo r held told output v (next (P .circuit) j r v) ≡ E.concludes ops P w j held r v
 unfolding leadsTo E.concludes E.nextPosition
-leads-is P j held r output Passed = refl
-leads-is P j held r output (Stopped b) = refl
+leads-is P j held r {told} Passed e h = rw (← e) (by-cases told (λ b. rw (b, h b)) (λ b. rw b))
+leads-is P j held r (Stopped b) e h = refl
 
 module _ (P : Party) (l : List ℕ) (y : Layout) (site : Site) where
   -- what question 13 asks
@@ -89,9 +96,16 @@ module _ (P : Party) (l : List ℕ) (y : Layout) (site : Site) where
   pub few-parties : (j : ℕ) → LentTo P l y site j → P .parties ≤ mostParties
   few-parties j h = parties-few size P l (h .accepted)
 
-  -- the first opened entry can be read
-  pub output-slot : {r : Round} → Ready size P l y site r → (slotsSize (layoutOf y) ≤ length l) × (0 < y .capacity)
-  output-slot {r} h = (room-there P l y site r h, rw (lay-capacity (P .circuit) y (h .lay)) (omega (arith, unchecked-fits (P .circuit) 0 (omega arith))))
+  -- where a score is told, the round is the second check's reveal, and the score can be read
+  pub told-asks : {r : Round} {told : Bool} → Ready size P l y site r → told ≡ (E.releases r && seenBy (alone (P .me)) (gate (P .circuit) (site .gate)))
+      → told ≡ true
+      → (gateSize * (site .gate) + gateSize ≤ length (P .circuit))
+      × (site .prep ≤ length (P .prep))
+      × (isGive (gate (P .circuit) (site .gate)) ≡ true → site .prep + 2 < length (P .prep))
+      × Below size (P .prep)
+      × (slotsSize (layoutOf y) ≤ length l)
+      × Opened size (layoutOf y) l 0
+  told-asks {r} h e t = score-asks P l y site (rw (release-second r (both-left (E.releases r) _ (sym e ∙ t))) at h)
 
   module _ (at : Position) (h : RoundAt P l y site at) where
     lent : Lends size P l
@@ -170,15 +184,16 @@ module _ (P : Party) (l : List ℕ) (y : Layout) (site : Site) where
           (j ∙ ap (λ (k : ℕ). overwrite (sent ops P l k (at .held) coefficients nonce r) out) (s .here)) k
 
     module _ (heard : List ℕ) (s : Receivable P l at heard y site r) where
-      pub received-done : {output : ℕ} {v : Ruling} {x : At.Point} {a : E.Answer} {later : List ℕ} → askReceive size P l (positionOf at) heard ≡ Accepted
-          → output ≡ read (layoutOf y) l (Value 0)
+      pub received-done : {told : Bool} {output : ℕ} {v : Ruling} {x : At.Point} {a : E.Answer} {later : List ℕ} → askReceive size P l (positionOf at) heard ≡ Accepted
+          → told ≡ (E.releases r && seenBy (alone (P .me)) (gate (P .circuit) (site .gate)))
+          → (told ≡ true → output ≡ score ops (layoutOf y) l (isGive (gate (P .circuit) (site .gate))) (drop (site .prep) (P .prep)))
           → v ≡ finds ops P l r heard
           → x ≡ next (P .circuit) (site .gate) r (finds ops P l r heard)
-          → a ≡ leadsTo r (at .held) output v x
+          → a ≡ leadsTo r (at .held) told output v x
           → later ≡ left ops P (finds ops P l r heard) l (site .gate) r heard
           → Receiving ops P l (positionOf at) heard a later
       unfolding positionOf E.outcome
-      received-done e o w x a j =
+      received-done e t o w x a j =
           receive-done ops P l (positionOf at) heard r e (s .half)
-          (a ∙ rw (o, w, x, s .receives .ready .lay, s .here) (leads-is P (at .gate) (at .held) r _ (finds ops P l r heard)))
+          (a ∙ rw (w, x, ← s .here) (leads-is P (site .gate) (at .held) r (finds ops P l r heard) t (λ b. score-made ops P l y site r (s .receives .ready) refl refl (o b))))
           (j ∙ ap (λ (k : ℕ). left ops P (finds ops P l r heard) l k r heard) (s .here))

@@ -57,10 +57,10 @@ answerOf (Next at) = E.Next (positionOf at)
 answerOf (Output v at) = E.Output v (positionOf at)
 answerOf (Abort b at) = E.Abort (blameOf b) (positionOf at)
 
--- the answer by how round r ended and the point that follows: an abort, or else that point, with the output where r releases one
-unfoldable pub leadsTo : Round → ℕ → ℕ → R.Ruling → At.Point → E.Answer
-leadsTo r held output R.Passed x = cond (E.releases r) (E.Output output (At.holding x (At.keep r held))) (E.Next (At.holding x (At.keep r held)))
-leadsTo r held output (R.Stopped b) x = E.Abort b (At.holding x (At.keep r held))
+-- the answer by how round r ended and the point that follows: an abort, or else that point, with the output where one is told
+unfoldable pub leadsTo : Round → ℕ → Bool → ℕ → R.Ruling → At.Point → E.Answer
+leadsTo r held told output R.Passed x = cond told (E.Output output (At.holding x (At.keep r held))) (E.Next (At.holding x (At.keep r held)))
+leadsTo r held told output (R.Stopped b) x = E.Abort b (At.holding x (At.keep r held))
 
 -- what a question about the scratch asks: the layout is the circuit's, and the scratch holds it
 pub record Laid (c l : List ℕ) (y : Layout) : Type 0 where

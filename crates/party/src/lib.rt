@@ -7,20 +7,24 @@ use protocol::Blame;
 use protocol::Layout;
 use protocol::Ruling;
 use protocol::Site;
-use protocol::Slot;
 use protocol::Stage;
 use steps::Conclusion;
 use steps::receiving;
-use steps::scratch;
 use steps::sending;
 ghost use mathlib.Core.Path.{_≡_};
-ghost use mathlib.Core.Bool.{cond};
-ghost use lib.ListN.{length};
-ghost use Rattle.field.specs.Words.{ops};
+ghost use mathlib.Core.Bool.{true, cond, _&&_};
+ghost use Prim.Native.Nat.{_+_, _*_, _<_, _≤_};
+ghost use lib.ListN.{length, drop};
+ghost use Rattle.field.specs.Words.{size, ops};
+ghost use Rattle.circuit.specs.Gate.{gateSize, gate};
+ghost use Rattle.circuit.specs.Kind.{isGive, seenBy, alone};
 ghost use Rattle.circuit.specs.Code.{roundOf};
 ghost use Rattle.protocol.specs.Position.{keep};
 ghost use Rattle.protocol.specs.Party.{partyOf};
-ghost use Rattle.protocol.specs.Code.{pointOf, rulingOf};
+ghost use Rattle.protocol.specs.Scratch.{slotsSize};
+ghost use Rattle.protocol.specs.Receive.{score};
+ghost use Rattle.protocol.specs.Holding.{Below, Opened};
+ghost use Rattle.protocol.specs.Code.{layoutOf, pointOf, rulingOf};
 ghost use Rattle.protocol.specs.Entry.{Next, Output, releases, openAnswer, sendAnswer, sendOut, sendScratch, receiveAnswer, receiveScratch};
 ghost use Rattle.party.specs.Code.{positionOf, answerOf, leadsTo};
 
@@ -163,16 +167,52 @@ pub fn receive(
     match asking::ask_receive(parties, me, c, prep, inputs, l, at, heard) {
         Asked::Refused { number, index } => Answer::Refusal { number, index },
         Asked::Accepted(y, site, r) => {
-            let output = scratch::read_slot(l, y, Slot::Value(0));
+            let told = is_told(me, c, site.gate, r);
+            let output = output_at(told, c, prep, l, y, site.gate, site.prep);
             let x = receiving::receive_step(parties, me, c, prep, inputs, l, y, site, r, heard);
-            outcome_of(r, at.held, output, x)
+            outcome_of(r, at.held, told, output, x)
         }
     }
 }
 
+// Does round r of gate j release a score to this party, once it passes?
+fn is_told(me: usize, c: &[Word], j: usize, r: Round) -> bool
+    requires { ⌜ gateSize * j + gateSize ≤ length (now c) ⌝ }
+    ensures { λ b. ⌜ b ≡ (releases (roundOf r) && seenBy (alone me) (gate (now (c .entry)) j)) ⌝ }
+{
+    if protocol::releases(r) {
+        return gates::reading::is_seen_by(c, j, me);
+    }
+    false
+}
+
+// The score of gate j where it is told, which then is an output whose record stands at number start of the preprocessing.
+fn output_at(
+    told: bool,
+    c: &[Word],
+    prep: &[Word],
+    l: &[Word],
+    y: Layout,
+    j: usize,
+    start: usize,
+) -> Word
+    requires { ⌜ (told ≡ true → (gateSize * j + gateSize ≤ length (now c))
+        × (start ≤ length (now prep))
+        × (isGive (gate (now c) j) ≡ true → start + 2 < length (now prep))
+        × Below size (now prep)
+        × (slotsSize (layoutOf y) ≤ length (now l))
+        × Opened size (layoutOf y) (now l) 0) ⌝ }
+    ensures { λ v. ⌜ (told ≡ true → v ≡ score ops (layoutOf y) (now (l .entry)) (isGive (gate (now (c .entry)) j)) (drop start (now (prep .entry)))) ⌝ }
+{
+    if told {
+        return receiving::score_at(c, prep, l, y, j, start);
+    }
+    0
+}
+
 // What a round that is received leads to.
-fn outcome_of(r: Round, held: Word, output: Word, x: Conclusion) -> Answer
-    ensures { λ a. ⌜ answerOf a ≡ leadsTo (roundOf r) held output (rulingOf (x .ruling)) (pointOf (x .point)) ⌝ }
+fn outcome_of(r: Round, held: Word, told: bool, output: Word, x: Conclusion) -> Answer
+    ensures { λ a. ⌜ answerOf a ≡ leadsTo (roundOf r) held told output (rulingOf (x .ruling)) (pointOf (x .point)) ⌝ }
 {
     let next = x.point;
     let stage = next.stage;
@@ -184,7 +224,7 @@ fn outcome_of(r: Round, held: Word, output: Word, x: Conclusion) -> Answer
     let ruling = x.ruling;
     match ruling {
         Ruling::Stopped(blame) => Answer::Abort(blame, at),
-        Ruling::Passed => released(r, output, at),
+        Ruling::Passed => released(told, output, at),
     }
 }
 
@@ -199,11 +239,11 @@ fn keep_held(r: Round, held: Word) -> Word
     }
 }
 
-// The position that follows, with the output where the round releases one.
-fn released(r: Round, output: Word, at: Position) -> Answer
-    ensures { λ x. ⌜ answerOf x ≡ cond (releases (roundOf r)) (Output output (positionOf at)) (Next (positionOf at)) ⌝ }
+// The position that follows, with the output where one is told.
+fn released(told: bool, output: Word, at: Position) -> Answer
+    ensures { λ x. ⌜ answerOf x ≡ cond told (Output output (positionOf at)) (Next (positionOf at)) ⌝ }
 {
-    if protocol::releases(r) {
+    if told {
         return Answer::Output(output, at);
     }
     Answer::Next(at)

@@ -82,7 +82,7 @@ abort-only O P w j held r (Stopped a) {b} {x} h =
     (ap Stopped same, ap (λ (z : Blame). nextPosition O P j held r (Stopped z)) (sym same) ∙ (let e : nextPosition O P j held r (Stopped a) ≡ x = cc in e))
 
 -- only the second check's reveal releases
-release-second : (r : Round) → releases r ≡ true → r ≡ (Reveal Second)
+pub release-second : (r : Round) → releases r ≡ true → r ≡ (Reveal Second)
 release-second Own e = false-no e
 release-second Open e = false-no e
 release-second (Commit k) e = false-no e

@@ -24,6 +24,7 @@ pub mod Readiness
 pub mod Sent
 pub mod Squares
 pub mod Received
+pub mod Scoring
 pub mod Keeping
 pub mod Front
 pub mod Said
