@@ -9,11 +9,11 @@ use native.Mathlib.Omega.{arith}
 use lib.Dec.{eqb, leb}
 use borrow.Author.Tests.{eqb-true, ne-eqb, leb-true}
 use Rattle.circuit.specs.Gate.{Kind, kindOut, kindSq, kindGive, firstKind, lastKind, decode, Out, Gate, gateOf, gate, gates}
-use Rattle.circuit.specs.Kind.{Class, Local, Owned, Opens, Output, Role, kindShape, isClass, shape, factor}
+use Rattle.circuit.specs.Kind.{Class, Local, Owned, Opens, Output, Role, kindShape, isClass, shape, isGive, receiver, factor}
 use Rattle.circuit.specs.Accept.{isKind}
 use Rattle.circuit.specs.Valid.{Ref, Fits, Valid}
 use Rattle.circuit.proofs.Tests.{by-cases, both-right, false-no}
-use Rattle.circuit.proofs.KindLaws.{gate-facts}
+use Rattle.circuit.proofs.KindLaws.{gate-facts, give-second}
 
 -- below sq are the kinds before it, and above the last kind is none
 pub other-kinds : (k : ℕ) → k < kindSq → (eqb k kindSq ≡ false) × (eqb k kindGive ≡ false)
@@ -72,6 +72,12 @@ module _ {n q : ℕ} {c : List ℕ} (v : Valid n q c) where
       by-cases (eqb (shape (gate c j) .openings) 2)
       (λ z. rw z (second-fits j h (gate-facts (gate c j) e .second (eqb-true (shape (gate c j) .openings) 2 z))))
       (λ z. rw z (opens-named j h e))
+
+  -- the party whose score of an output is listed is one of the parties
+  pub receiver-named : (j : ℕ) → j < gates c → 0 < n → receiver (gate c j) < n
+  unfolding receiver
+  receiver-named j h some =
+      by-cases (isGive (gate c j)) (λ e. rw e (second-fits j h (give-second (gate c j) e))) (λ e. rw e some)
 
   -- a circuit starts with an input
   pub gate-zero : shape (gate c 0) .class ≡ Owned
