@@ -3,7 +3,7 @@
 use Prim.Native.Nat.{ℕ, zero, suc, _+_, _*_, _<_}
 use mathlib.Core.Path.{_≡_, refl, sym, ap, ap₂, subst, _∙_}
 use mathlib.Core.Logic.{inl, inr}
-use mathlib.Core.Bool.{true, false}
+use mathlib.Core.Bool.{Bool, true, false}
 use mathlib.Core.List.{List, [], _∷_, _++_, append-nil}
 use native.Mathlib.Omega.{arith}
 use lib.ListN.{length, getD, length-append}
@@ -14,28 +14,32 @@ use Rattle.field.specs.Words.{ops}
 use Rattle.field.proofs.Laws.{laws}
 use Rattle.algebra.proofs.Sums.{sum-ext}
 use Rattle.circuit.specs.Gate.{gate, gates}
-use Rattle.circuit.specs.Kind.{Local, Output, shape, isOut, hasValue, isLinear}
+use Rattle.circuit.specs.Kind.{Local, Output, shape, isOut, seenBy, everyone, receiver, hasValue, isLinear}
 use Rattle.circuit.specs.Count.{unchecked}
 use Rattle.circuit.specs.Round.{First, Second, Round, Own, Open, Commit, Reveal, rounds, following, words, openedIn, overRun, wordCount}
+use Rattle.circuit.proofs.Tests.{by-cases}
 use Rattle.circuit.proofs.KindLaws.{is-class, class-is, local-no-out, owned-no-out, opens-no-out}
+use Rattle.circuit.proofs.Gates.{receiver-named}
 use Rattle.circuit.proofs.RoundLaws as Order
 use Rattle.protocol.specs.Part.{Part}
 use Rattle.protocol.specs.Scratch.{layout, wire, read, Value, ValueMac}
 use Rattle.protocol.specs.Position.{Point, Stage, Send, Receive, Finished, Aborted, finished, follow, whenSending}
 use Rattle.protocol.specs.Party.{key}
+use Rattle.protocol.specs.Receive.{score, scored}
 use Rattle.protocol.specs.Entry.{releases}
 use Rattle.protocol.specs.Joint.{Joint, party}
 use Rattle.protocol.specs.Run.{State, Run, begun, said, released, still, run, whole, mostRounds}
-use Rattle.protocol.specs.Plain.{value, scoreOf, scores}
+use Rattle.protocol.specs.Plain.{value, scoreOf, scoresSeen, scores}
 use Rattle.protocol.specs.Good.{wholeKey}
 use Rattle.theorems.specs.Premises.{Honest, after}
 use Rattle.theorems.specs.Accuracy.{Accurate, theKey, openAfter}
 use Rattle.theorems.specs.Abort.{Fails}
+use Rattle.theorems.specs.Apart.{releasedTo, outputsTo}
 use Rattle.protocol.proofs.Said.{length-said}
 use Rattle.protocol.proofs.Tails.{nonce-room}
 use Rattle.theorems.proofs.Given.{Given, given-honest}
-use Rattle.theorems.proofs.Closed.{Opening, Shown, every-at, keys, sumOf, wires, opened, openedValue, accurate, CarriesOpened}
-use Rattle.theorems.proofs.Closed.{carries-shown}
+use Rattle.theorems.proofs.Closed.{Opening, Shown, shows, every-at, keys, sumOf, wires, opened, openedValue, accurate, CarriesOpened}
+use Rattle.theorems.proofs.Closed.{carries-shown, shown-score}
 use Rattle.theorems.proofs.Holds.{Holds}
 use Rattle.protocol.proofs.Points.{FitsStage, sending, spentStage, spent, doneStage, done, goes-start, goes-resume, follow-stays}
 use Rattle.protocol.proofs.Points.{follow-leaves, spent-follow}
@@ -43,19 +47,20 @@ use Rattle.theorems.proofs.Sent.{revealed-sum}
 use Rattle.theorems.proofs.Sealing.{Kept, kept-room, kept-after}
 use Rattle.theorems.proofs.Honest.{underCheck, pending, length-pending, Inv, HoldsAt, fits-at, holds-at, checks-at}
 use Rattle.theorems.proofs.Honest.{carries-pending, passing, point-step, inv-step, inv-begun}
-use Rattle.theorems.proofs.Runs.{Idle, longer, first as firstly, last-first, first-longer, first-idle, after-step, after-idle}
+use Rattle.theorems.proofs.Runs.{Idle, longer, first as firstly, last-first, first-longer, first-idle, after-step, after-idle, outputs-step, outputs-idle, listed}
 use Rattle.theorems.proofs.Abort.{aborts, finished-rounds, most-rounds}
 
-module _ (O : Ops) (J : Joint) (x : ℕ) where
+-- A is those who see the scores
+module _ (O : Ops) (J : Joint) (A : ℕ → Bool) (x : ℕ) where
   -- A gate that is no output has no score ..
-  no-score : isOut (gate (J .circuit) x) ≡ false → scoreOf O J (gate (J .circuit) x) ≡ []
+  no-score : isOut (gate (J .circuit) x) ≡ false → scoreOf O J A (gate (J .circuit) x) ≡ []
   unfolding scoreOf
   no-score e = rw e
 
   -- .. and a linear gate is none.
-  scores-linear : isLinear (gate (J .circuit) x) ≡ true → scores O J (suc x) ≡ scores O J x
-  unfolding scores
-  scores-linear e = ap (λ (l : List ℕ). scores O J x ++ l) (no-score (local-no-out (is-class Local e))) ∙ append-nil (scores O J x)
+  scores-linear : isLinear (gate (J .circuit) x) ≡ true → scoresSeen O J A (suc x) ≡ scoresSeen O J A x
+  unfolding scoresSeen
+  scores-linear e = ap (λ (l : List ℕ). scoresSeen O J A x ++ l) (no-score (local-no-out (is-class Local e))) ∙ append-nil (scoresSeen O J A x)
 
 module _ {O : Ops} (F : Field O) (J : Joint) (scratch : List ℕ) (honest : Honest O J scratch) where
   -- The run has all that an honest run is given.
@@ -181,77 +186,82 @@ module _ {O : Ops} (F : Field O) (J : Joint) (scratch : List ℕ) (honest : Hone
     -- What the last check of an output releases is the output's value on plain inputs.
     releases-value : s .point .stage ≡ Send (Reveal Second) → shape (gate (J .circuit) at) .class ≡ Output
         → released O J s (Reveal Second) ≡ value O J (gate (J .circuit) at .first) ∷ []
-    unfolding released
+    unfolding released scored score party
     releases-value e k =
-        rw (passing F J has s (Reveal Second) e keeps inv) (ap (λ (v : ℕ). v ∷ []) (stored ∙ shown))
+        rw (passing F J has s (Reveal Second) e keeps inv, stored) (ap (λ (v : ℕ). v ∷ []) (shown-score F J has at below k))
       where
-        held : Holds O J 0 at (Shown (gate (J .circuit) at .first) ∷ []) (s .scratch 0)
-        held = unfold pending underCheck in holds-at O J s (Reveal Second) e inv 0 (has .some)
+        below : at < gates (J .circuit)
+        below = fits-at O J s (Reveal Second) e inv .0
 
-        stored : read (layout (J .circuit)) (s .scratch 0) (Value 0) ≡ sumOf O J (opened O J (Shown (gate (J .circuit) at .first)))
-        stored = held .values 0 (omega arith)
+        i : ℕ
+        i = receiver (gate (J .circuit) at)
 
-        shown : sumOf O J (opened O J (Shown (gate (J .circuit) at .first))) ≡ value O J (gate (J .circuit) at .first)
-        shown = unfold sumOf openedValue in carries-shown F J has at (fits-at O J s (Reveal Second) e inv .0) k .shares
+        held : Holds O J i at (shows at (gate (J .circuit) at) ∷ []) (s .scratch i)
+        held = unfold pending underCheck in holds-at O J s (Reveal Second) e inv i (receiver-named (has .valid) at below (has .some))
+
+        stored : read (layout (J .circuit)) (s .scratch i) (Value 0) ≡ openedValue O J (shows at (gate (J .circuit) at))
+        stored = held .values 0 (omega arith) ∙ (unfold sumOf in carries-shown F J has at below k .shares)
+
+    -- To A it is released where a party of A sees it.
+    releases-score : (A : ℕ → Bool) → s .point .stage ≡ Send (Reveal Second) → shape (gate (J .circuit) at) .class ≡ Output
+        → releasedTo O J A s (Reveal Second) ≡ scoreOf O J A (gate (J .circuit) at)
+    unfolding releasedTo scoreOf
+    releases-score A e k = let o : isOut (gate (J .circuit) at) ≡ true = class-is k in rw (releases-value e k, o)
 
     -- Other rounds release nothing.
-    releases-none : (r : Round) → releases r ≡ false → released O J s r ≡ []
-    unfolding released
-    releases-none r e = rw e
+    releases-none : (A : ℕ → Bool) (r : Round) → releases r ≡ false → releasedTo O J A s r ≡ []
+    unfolding releasedTo released
+    releases-none A r e = by-cases (seenBy A (gate (J .circuit) at)) (λ z. rw (z, e)) (λ z. rw z)
 
-    -- A round within an out gate adds no score.
-    score-stays : (r r′ : Round) (rest : List Round) → following r (rounds (J .circuit) at) ≡ r′ ∷ rest
+    -- A round within an output adds no score.
+    score-stays : (A : ℕ → Bool) (r r′ : Round) (rest : List Round) → following r (rounds (J .circuit) at) ≡ r′ ∷ rest
         → releases r ≡ false
-        → scores O J (done (J .circuit) (follow (J .circuit) at r)) ≡ scores O J at ++ released O J s r
+        → scoresSeen O J A (done (J .circuit) (follow (J .circuit) at r)) ≡ scoresSeen O J A at ++ releasedTo O J A s r
     unfolding doneStage
-    score-stays r r′ rest f none = rw (releases-none r none, follow-stays (J .circuit) at r r′ rest f) (sym (append-nil (scores O J at)))
+    score-stays A r r′ rest f none = rw (releases-none A r none, follow-stays (J .circuit) at r r′ rest f) (sym (append-nil (scoresSeen O J A at)))
 
     -- The last round of a gate adds the gate's score.
-    score-leaves : (r : Round) → s .point .stage ≡ Send r → following r (rounds (J .circuit) at) ≡ []
-        → released O J s r ≡ scoreOf O J (gate (J .circuit) at)
-        → scores O J (done (J .circuit) (follow (J .circuit) at r)) ≡ scores O J at ++ released O J s r
-    unfolding scores
-    score-leaves r e f score =
-        ap (λ (p : Point). scores O J (done (J .circuit) p)) (follow-leaves (J .circuit) at r f)
-        ∙ goes-resume (J .circuit) (suc at) (fits-at O J s r e inv .0) .done-is (scores O J) (scores-linear O J)
-        ∙ ap (λ (l : List ℕ). scores O J at ++ l) (sym score)
+    score-leaves : (A : ℕ → Bool) (r : Round) → s .point .stage ≡ Send r → following r (rounds (J .circuit) at) ≡ []
+        → releasedTo O J A s r ≡ scoreOf O J A (gate (J .circuit) at)
+        → scoresSeen O J A (done (J .circuit) (follow (J .circuit) at r)) ≡ scoresSeen O J A at ++ releasedTo O J A s r
+    unfolding scoresSeen
+    score-leaves A r e f score =
+        ap (λ (p : Point). scoresSeen O J A (done (J .circuit) p)) (follow-leaves (J .circuit) at r f)
+        ∙ goes-resume (J .circuit) (suc at) (fits-at O J s r e inv .0) .done-is (scoresSeen O J A) (scores-linear O J A)
+        ∙ ap (λ (l : List ℕ). scoresSeen O J A at ++ l) (sym score)
 
     -- A round releases the scores that it completes.
-    score-step : (r : Round) → s .point .stage ≡ Send r
-        → scores O J (done (J .circuit) (follow (J .circuit) at r)) ≡ scores O J at ++ released O J s r
-    unfolding scoreOf
-    score-step r e = go r e (Order.class-at-round (J .circuit) at r (fits-at O J s r e inv .1)) (Order.after-round (J .circuit) at r (fits-at O J s r e inv .1))
+    score-step : (A : ℕ → Bool) (r : Round) → s .point .stage ≡ Send r
+        → scoresSeen O J A (done (J .circuit) (follow (J .circuit) at r)) ≡ scoresSeen O J A at ++ releasedTo O J A s r
+    score-step A r e = go r e (Order.class-at-round (J .circuit) at r (fits-at O J s r e inv .1)) (Order.after-round (J .circuit) at r (fits-at O J s r e inv .1))
       where
-        score : shape (gate (J .circuit) at) .class ≡ Output → scoreOf O J (gate (J .circuit) at) ≡ value O J (gate (J .circuit) at .first) ∷ []
-        score k = let o : isOut (gate (J .circuit) at) ≡ true = class-is k in rw o
-
         go : (r : Round) → s .point .stage ≡ Send r → Order.RoundClass r (shape (gate (J .circuit) at) .class)
             → following r (rounds (J .circuit) at) ≡ Order.after r
-            → scores O J (done (J .circuit) (follow (J .circuit) at r)) ≡ scores O J at ++ released O J s r
-        go Own e (inl k) f = score-leaves Own e f (releases-none Own refl ∙ sym (no-score O J at (owned-no-out k)))
-        go Own e (inr k) f = score-leaves Own e f (releases-none Own refl ∙ sym (no-score O J at (opens-no-out k)))
-        go Open e k f = score-stays Open (Commit Second) _ f refl
-        go (Commit h) e k f = score-stays (Commit h) (Reveal h) _ f refl
-        go (Reveal First) e k f = score-stays (Reveal First) Open _ f refl
-        go (Reveal Second) e k f = score-leaves (Reveal Second) e f (releases-value e k ∙ sym (score k))
+            → scoresSeen O J A (done (J .circuit) (follow (J .circuit) at r)) ≡ scoresSeen O J A at ++ releasedTo O J A s r
+        go Own e (inl k) f = score-leaves A Own e f (releases-none A Own refl ∙ sym (no-score O J A at (owned-no-out k)))
+        go Own e (inr k) f = score-leaves A Own e f (releases-none A Own refl ∙ sym (no-score O J A at (opens-no-out k)))
+        go Open e k f = score-stays A Open (Commit Second) _ f refl
+        go (Commit h) e k f = score-stays A (Commit h) (Reveal h) _ f refl
+        go (Reveal First) e k f = score-stays A (Reveal First) Open _ f refl
+        go (Reveal Second) e k f = score-leaves A (Reveal Second) e f (releases-score A e k)
 
   -- the words of a round
   abbrev wordsOf : ℕ → Round → ℕ
   wordsOf j r = words (gate (J .circuit) j) r
 
-  -- what a run of k rounds has told: as many words as lie behind the point, and the scores of the gates that are done
+  -- what a run of k rounds has told: as many words as lie behind the point, and to those who see them the scores of the gates that are done
   record Told (k : ℕ) : Type 0 where
     said-so-far : length (firstly O J scratch k .transcript) ≡ J .parties * spent (J .circuit) wordsOf (state k .point)
-    given-out : firstly O J scratch k .outputs ≡ scores O J (done (J .circuit) (state k .point))
+    given-out : (A : ℕ → Bool) → outputsTo O J scratch A k ≡ scoresSeen O J A (done (J .circuit) (state k .point))
 
   -- Nothing is told before the first round.
   told-begun : Told 0
-  unfolding run still begun after overRun scores
+  unfolding run still begun after overRun scoresSeen outputsTo
   told-begun =
       let start = goes-start (J .circuit) (has .valid) in
       record {
         said-so-far = omega (arith, ap (λ (m : ℕ). J .parties * m) (start .spent-is wordsOf));
-        given-out = sym (start .done-is (scores O J) (scores-linear O J));
+        given-out = λ A. sym (start .done-is (scoresSeen O J A) (scores-linear O J A));
       }
 
   -- A round tells what is its own.
@@ -268,11 +278,11 @@ module _ {O : Ops} (F : Field O) (J : Joint) (scratch : List ℕ) (honest : Hone
               longer-by,
             );
         given-out =
-            ap (λ (R : Run). R .outputs) (first-longer O J scratch k r e)
-            ∙ ap (λ (s : State). firstly O J scratch k .outputs ++ released O J s r) (last-first O J scratch k)
-            ∙ ap (λ (l : List ℕ). l ++ released O J (state k) r) (t .given-out ∙ ap (λ (g : Stage). scores O J (doneStage (J .circuit) at-k g)) e)
-            ∙ sym (score-step (state k) (kept k) (inv-after k) r e)
-            ∙ ap (λ (p : Point). scores O J (done (J .circuit) p)) (sym place);
+            λ A. outputs-step O J scratch A k r e
+            ∙ ap (λ (l : List ℕ). l ++ releasedTo O J A (state k) r)
+            (t .given-out A ∙ ap (λ (g : Stage). scoresSeen O J A (doneStage (J .circuit) at-k g)) e)
+            ∙ sym (score-step (state k) (kept k) (inv-after k) A r e)
+            ∙ ap (λ (p : Point). scoresSeen O J A (done (J .circuit) p)) (sym place);
       }
     where
       at-k : ℕ
@@ -302,7 +312,7 @@ module _ {O : Ops} (F : Field O) (J : Joint) (scratch : List ℕ) (honest : Hone
   told-idle k h t =
       record {
         said-so-far = rw (first-idle O J scratch k h, after-idle O J scratch k h) (t .said-so-far);
-        given-out = rw (first-idle O J scratch k h, after-idle O J scratch k h) (t .given-out);
+        given-out = λ A. rw (outputs-idle O J scratch A k h, after-idle O J scratch k h) (t .given-out A);
       }
 
   -- So it is after any number of rounds.
@@ -330,10 +340,15 @@ module _ {O : Ops} (F : Field O) (J : Joint) (scratch : List ℕ) (honest : Hone
   unfolding spentStage finished wordCount
   spent-all = ap (spent (J .circuit) wordsOf) at-end
 
-  -- The run releases the scores on plain inputs ..
+  -- Where it is finished, those who see scores have got them ..
+  pub seen-are : (A : ℕ → Bool) (k : ℕ) → state k .point ≡ finished (J .circuit) → outputsTo O J scratch A k ≡ scoresSeen O J A (gates (J .circuit))
+  unfolding finished doneStage
+  seen-are A k e = told k .given-out A ∙ ap (λ (p : Point). scoresSeen O J A (done (J .circuit) p)) e
+
+  -- .. and the run releases the scores on plain inputs ..
   outputs-are : whole O J scratch .outputs ≡ scores O J (gates (J .circuit))
-  unfolding whole finished doneStage
-  outputs-are = told all .given-out ∙ ap (λ (p : Point). scores O J (done (J .circuit) p)) at-end
+  unfolding whole
+  outputs-are = sym (listed O J scratch all) ∙ seen-are everyone all at-end
 
   -- .. and each party sends the circuit's words.
   words-are : length (whole O J scratch .transcript) ≡ J .parties * wordCount (J .circuit)

@@ -13,9 +13,9 @@ use Rattle.algebra.specs.Ops.{Ops}
 use Rattle.algebra.specs.Field.{Field}
 use Rattle.algebra.specs.Sum.{sum}
 use Rattle.algebra.proofs.Ring.{sub-add, sub-self, mul-left-comm}
-use Rattle.algebra.proofs.Sums.{sum-ext, sum-sub, sum-mul, mul-sum, sum-swap}
+use Rattle.algebra.proofs.Sums.{norm-sum, sum-ext, sum-sub, sum-mul, mul-sum, sum-swap}
 use Rattle.circuit.specs.Gate.{Gate, gate, gates}
-use Rattle.circuit.specs.Kind.{Class, Local, Owned, Opens, Output, shape, isOut, hasValue, factor}
+use Rattle.circuit.specs.Kind.{Class, Local, Owned, Opens, Output, shape, isOut, isGive, receiver, hasValue, factor}
 use Rattle.circuit.specs.Count.{unchecked, uncheckedAfter}
 use Rattle.circuit.specs.Valid.{Ref, Valid}
 use Rattle.circuit.proofs.Tests.{by-cases, false-no}
@@ -38,6 +38,10 @@ use Rattle.theorems.proofs.Values.{value-is}
 pub data Opening : Type 0 where
   Masked : ℕ → ℕ → ℕ → Opening
   Shown : ℕ → Opening
+
+-- what output j shows, which is g: the wire that it names, less its mask where it is a give
+unfoldable pub shows : ℕ → Gate → Opening
+shows j g = cond (isGive g) (Masked j (g .first) maskAt) (Shown (g .first))
 
 -- the differences that gate j opens, where it names x and z and opens k values
 unfoldable pub differences : ℕ → ℕ → ℕ → ℕ → List Opening
@@ -266,16 +270,15 @@ module _ {O : Ops} (F : Field O) (J : Joint) (has : Given O J) where
         product : sumOf O J (prepared O J j (cAt k)) ≡ mul (sumOf O J (prepared O J j aAt)) (sumOf O J (prepared O J j (bAt k)))
         product = unfold prepared sumOf shareSum recordAt party recordOf in good .product
 
-    -- The mask of an in gate carries the owner's whole mask.
-    pub mask : shape (gate (J .circuit) j) .class ≡ Owned
-        → Carrying (prepared O J j maskAt) (getD (recordOf (party J (gate (J .circuit) j .first)) j) wholeMaskAt 0)
-    mask e = rw whole (carries-prepared j maskAt (good .mask))
-      where
-        good : GoodMask O (J .parties) (J .circuit) (J .preps) j (gate (J .circuit) j .first)
-        good = good-class e
+    -- A good mask carries its sum ..
+    mask : {i : ℕ} → GoodMask O (J .parties) (J .circuit) (J .preps) j i → Carrying (prepared O J j maskAt) (sumOf O J (prepared O J j maskAt))
+    mask g = carries-prepared j maskAt (g .mask)
 
-        whole : getD (recordOf (party J (gate (J .circuit) j .first)) j) wholeMaskAt 0 ≡ sumOf O J (prepared O J j maskAt)
-        whole = unfold prepared sumOf shareSum recordAt party recordOf in good .whole
+    -- .. which is the whole mask of the party that knows it.
+    whole-mask : {i : ℕ} → GoodMask O (J .parties) (J .circuit) (J .preps) j i
+        → getD (recordOf (party J i) j) wholeMaskAt 0 ≡ sumOf O J (prepared O J j maskAt)
+    unfolding prepared sumOf shareSum recordAt party recordOf
+    whole-mask g = g .whole
 
   -- A wire less a part of a good record carries the difference.
   pub carries-masked : (w : ℕ → Part) (v j k : ℕ) → Carrying w v → Carrying (prepared O J j k) (sumOf O J (prepared O J j k))
@@ -314,10 +317,15 @@ module _ {O : Ops} (F : Field O) (J : Joint) (has : Given O J) where
       (earlier (g .second) (local-second F (has .valid) j l e))
   accurate-gate j l Owned e h earlier =
       rw (owned-value F (gate (J .circuit) j) e, ← input)
-      (carries-shift F (J .parties) (keys O J) (has .some) _ _ (ownerWord O J j (gate (J .circuit) j .first)) (mask j l e))
+      (carries-shift F (J .parties) (keys O J) (has .some) _ _ (ownerWord O J j (gate (J .circuit) j .first)) (mask j l good))
     where
-      input : add (getD (recordOf (party J (gate (J .circuit) j .first)) j) wholeMaskAt 0) (ownerWord O J j (gate (J .circuit) j .first)) ≡ plainInput O J j
-      input = unfold ownerWord plainInput in add-comm _ _ ∙ sub-add F _ _ ∙ has .inputs j
+      good : GoodMask O (J .parties) (J .circuit) (J .preps) j (gate (J .circuit) j .first)
+      good = good-class j l e
+
+      input : add (sumOf O J (prepared O J j maskAt)) (ownerWord O J j (gate (J .circuit) j .first)) ≡ plainInput O J j
+      input =
+          unfold ownerWord plainInput in
+          ap (λ (w : ℕ). add w (ownerWord O J j (gate (J .circuit) j .first))) (sym (whole-mask j l good)) ∙ add-comm _ _ ∙ sub-add F _ _ ∙ has .inputs j
   accurate-gate j l Opens e h earlier =
       let g = gate (J .circuit) j in
       rw (opens-value F g e (plainInput O J j) (value O J))
@@ -349,10 +357,35 @@ module _ {O : Ops} (F : Field O) (J : Joint) (has : Given O J) where
     carries-masked _ _ j (bAt (shape (gate (J .circuit) j) .openings)) (carries-named l (factor-named (has .valid) j l e)) (triple j l e .b),
   )
 
-  -- What an out gate shows carries its value on plain inputs.
-  pub carries-shown : (j : ℕ) → j < gates (J .circuit) → shape (gate (J .circuit) j) .class ≡ Output → CarriesOpened (Shown (gate (J .circuit) j .first))
-  unfolding opened openedValue
-  carries-shown j l e = carries-named l (output-named (has .valid) j l e)
+  module _ (j : ℕ) (l : j < gates (J .circuit)) (e : shape (gate (J .circuit) j) .class ≡ Output) where
+    -- The wire that an output names carries its value on plain inputs.
+    named : Carrying (wires O J (gate (J .circuit) j .first)) (value O J (gate (J .circuit) j .first))
+    named = carries-named l (output-named (has .valid) j l e)
+
+    -- What an output shows carries its value on plain inputs.
+    pub carries-shown : CarriesOpened (shows j (gate (J .circuit) j))
+    unfolding shows
+    carries-shown =
+        by-cases (isGive (gate (J .circuit) j))
+        (λ g. rw g (unfold opened openedValue in carries-masked _ _ j maskAt named (mask j l (good-class j l e g))))
+        (λ g. rw g (unfold opened openedValue in named))
+
+    -- The score that the receiver makes of it is the value of the wire.
+    pub shown-score : cond (isGive (gate (J .circuit) j))
+        (add (openedValue O J (shows j (gate (J .circuit) j))) (getD (recordOf (party J (receiver (gate (J .circuit) j))) j) wholeMaskAt 0))
+        (openedValue O J (shows j (gate (J .circuit) j)))
+        ≡ value O J (gate (J .circuit) j .first)
+    unfolding shows receiver
+    shown-score =
+        by-cases (isGive (gate (J .circuit) j))
+        (λ g. rw g
+        (unfold openedValue in
+        ap (add _) (whole-mask j l (good-class j l e g))
+        ∙ sub-add F _ _
+        ∙ ap norm (sym (named .shares))
+        ∙ norm-sum F (J .parties) _
+        ∙ named .shares))
+        (λ g. rw g (unfold openedValue in refl))
 
   -- All that is opened and unchecked carries its value on plain inputs.
   pub carries-openings : (j : ℕ) → j ≤ gates (J .circuit) → Every CarriesOpened (openings (J .circuit) j)

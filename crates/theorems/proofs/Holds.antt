@@ -13,7 +13,7 @@ use borrow.Author.Tests.{eqb-true}
 use Rattle.algebra.specs.Ops.{Ops}
 use Rattle.algebra.specs.Field.{Field}
 use Rattle.circuit.specs.Gate.{gate, gates}
-use Rattle.circuit.specs.Kind.{Local, Owned, Opens, Output, shape, hasValue, isLinear, factor}
+use Rattle.circuit.specs.Kind.{Local, Owned, Opens, Output, shape, isGive, hasValue, isLinear, factor}
 use Rattle.circuit.specs.Count.{capacity, unchecked}
 use Rattle.circuit.specs.Valid.{Ref, Valid}
 use Rattle.circuit.proofs.Tests.{by-cases, false-no}
@@ -32,7 +32,7 @@ use Rattle.protocol.proofs.Slots.{length-put, length-opened, wire-put-same, wir
 use Rattle.protocol.proofs.Slots.{value-mac-put, wire-opened}
 use Rattle.protocol.proofs.Slots.{value-opened-same, value-mac-opened-same, value-opened-other, value-mac-opened-other}
 use Rattle.theorems.proofs.KindValues.{local-second}
-use Rattle.theorems.proofs.Closed.{Opening, Masked, Shown, differences, openings, length-openings, openings-local, openings-owned, openings-opens}
+use Rattle.theorems.proofs.Closed.{Opening, Masked, Shown, shows, differences, openings, length-openings, openings-local, openings-owned, openings-opens}
 use Rattle.theorems.proofs.Closed.{keys, prepared, ownerWord, masked, sumOf, multiplied, wireBy, wires, opened, wires-are}
 
 -- There is room for one opened value.
@@ -164,10 +164,19 @@ module _ (O : Ops) (J : Joint) where
     unfolding Send.masked opened masked prepared
     own-masked k = ap (λ (p : Part). minus O p (partAt (recordOf (party J i) j) k)) (h .worked x (r .earlier) (r .valued))
 
-    -- and of a wire
+    -- of a wire,
     pub own-shown : wire (layout (J .circuit)) l x ≡ opened O J (Shown x) i
     unfolding opened
     own-shown = h .worked x (r .earlier) (r .valued)
+
+  -- and of an output.
+  pub own-showing : {i j : ℕ} {os : List Opening} {l : List ℕ} → Holds i j os l → Ref (J .circuit) j (gate (J .circuit) j .first)
+      → Send.showing O (party J i) l j ≡ opened O J (shows j (gate (J .circuit) j)) i
+  unfolding Send.showing Send.shown shows party
+  own-showing {j = j} h r =
+      by-cases (isGive (gate (J .circuit) j))
+      (λ g. rw g (own-masked (gate (J .circuit) j .first) h r maskAt))
+      (λ g. rw g (own-shown (gate (J .circuit) j .first) h r))
 
   module _ (F : Field O) {n q : ℕ} (ok : Valid n q (J .circuit)) {i j : ℕ} {l : List ℕ} (lt : j < gates (J .circuit)) where
     -- The owner's word is received.
@@ -236,12 +245,12 @@ module _ (O : Ops) (J : Joint) where
 
     -- The shares of an output are received.
     pub holds-shown : (s : ℕ) → Holds i j [] l → shape (gate (J .circuit) j) .class ≡ Output
-        → s ≡ sumOf O J (opened O J (Shown (gate (J .circuit) j .first)))
-        → Holds i j (Shown (gate (J .circuit) j .first) ∷ []) (afterOpenOutput O (layout (J .circuit)) l (gate (J .circuit) j .first) s)
+        → s ≡ sumOf O J (opened O J (shows j (gate (J .circuit) j)))
+        → Holds i j (shows j (gate (J .circuit) j) ∷ []) (afterOpenOutput O (layout (J .circuit)) l (Send.showing O (party J i) l j) s)
     unfolding afterOpenOutput
     holds-shown s h k es =
-        holds-opened (Shown (gate (J .circuit) j .first)) 0 s _ h (room-one (J .circuit)) refl es
-        (ap (λ (p : Part). p .mac) (own-shown _ h (output-named ok j lt k)))
+        holds-opened (shows j (gate (J .circuit) j)) 0 s _ h (room-one (J .circuit)) refl es
+        (ap (λ (p : Part). p .mac) (own-showing h (output-named ok j lt k)))
 
     -- A gate that needs no round is worked out.
     holds-linear : Holds i j (openings (J .circuit) j) l → shape (gate (J .circuit) j) .class ≡ Local

@@ -30,24 +30,24 @@ use Rattle.protocol.specs.Receive.{Nobody, Ruling, Passed, weighs, heardSum, on
 use Rattle.protocol.specs.Joint.{Joint, party, nonceFor}
 use Rattle.protocol.specs.Run.{State, begun, taken, said, notes, ends, step}
 use Rattle.theorems.proofs.Given.{Given}
-use Rattle.theorems.proofs.Closed.{Opening, Masked, Shown, openings, length-openings, openings-output, Every, every-at, keys}
+use Rattle.theorems.proofs.Closed.{Opening, Masked, Shown, shows, openings, length-openings, openings-output, Every, every-at, keys}
 use Rattle.theorems.proofs.Closed.{ownerWord, sumOf, opened, CarriesOpened, carries-shown, carries-openings, check-zero}
 use Rattle.protocol.proofs.Words.{length-band, getD-joined, heard-sum}
 use Rattle.protocol.proofs.Said.{length-sent}
 use Rattle.protocol.proofs.Tails.{slots-room, nonce-room, nonce-length, marks-length}
 use Rattle.protocol.proofs.Marks.{ends-other}
 use Rattle.theorems.proofs.Sealing.{Kept, kept-room, ends-sum, commit-slots}
-use Rattle.theorems.proofs.Holds.{Holds, holds-alike, holds-pass, holds-checked, own-masked, own-shown, holds-input, holds-product}
+use Rattle.theorems.proofs.Holds.{Holds, holds-alike, holds-pass, holds-checked, own-masked, own-showing, holds-input, holds-product}
 use Rattle.theorems.proofs.Holds.{holds-shown, holds-settle}
 use Rattle.protocol.proofs.InOrder.{begins}
 use Rattle.protocol.proofs.Points.{Reached, reached, Entered, ended, begun as beginning, entered, Fits, FitsStage, goes-entered}
 use Rattle.protocol.proofs.Points.{sending, follow-stays, follow-leaves, fits-follow, entered-start}
 use Rattle.theorems.proofs.Sent.{saidBy, sent-class, opening-first, opening-last, revealed-sum}
 
--- what a check of gate j is of: what is opened and unchecked when it is reached, or the shown value
+-- what a check of gate j is of: what is opened and unchecked when it is reached, or what it shows
 unfoldable pub underCheck : List ℕ → ℕ → Check → List Opening
 underCheck c j First = openings c j
-underCheck c j Second = Shown (gate c j .first) ∷ []
+underCheck c j Second = shows j (gate c j) ∷ []
 
 -- what is opened and unchecked in round r of gate j
 unfoldable pub pending : List ℕ → ℕ → Round → List Opening
@@ -341,10 +341,10 @@ module _ {O : Ops} (F : Field O) (J : Joint) (has : Given O J) where
         one : 0 < words (gate (J .circuit) at) Open
         one = unfold shapeWords in omega (arith, output-facts (gate (J .circuit) at) k .words)
 
-        heard-shown : heardSum O (J .parties) (words (gate (J .circuit) at) Open) 0 (heard Open) ≡ sumOf O J (opened O J (Shown (gate (J .circuit) at .first)))
+        heard-shown : heardSum O (J .parties) (words (gate (J .circuit) at) Open) 0 (heard Open) ≡ sumOf O J (opened O J (shows at (gate (J .circuit) at)))
         heard-shown =
             heard-opened Open e 0 _ one
-            (λ i l. unfold sent party in ap (λ (p : Part). p .share) (own-shown O J _ (own i l) (output-named (has .valid) at lt k)))
+            (λ i l. unfold sent party in ap (λ (p : Part). p .share) (own-showing O J (own i l) (output-named (has .valid) at lt k)))
 
     -- After an output's last check the run goes on.
     after-output : s .point .stage ≡ Send (Reveal Second) → shape (gate (J .circuit) at) .class ≡ Output

@@ -10,7 +10,7 @@ use lib.Dec.{eqb}
 use Rattle.algebra.specs.Ops.{Ops}
 use Rattle.algebra.specs.Field.{Field}
 use Rattle.algebra.proofs.Ring.{norm-sub}
-use Rattle.circuit.specs.Gate.{Kind, In, Add, Sub, Plus, Times, Mul, Out, Sq, Gate, gate, gates}
+use Rattle.circuit.specs.Gate.{Kind, In, Add, Sub, Plus, Times, Mul, Out, Sq, Give, Gate, gate, gates}
 use Rattle.circuit.specs.Kind.{Class, Local, Owned, Opens, Output, Wire, Unused, kindShape, shape, factor}
 use Rattle.circuit.specs.Valid.{Ref, Valid}
 use Rattle.circuit.proofs.Tests.{by-cases}
@@ -73,6 +73,7 @@ module _ {O : Ops} (F : Field O) where
   computes Mul = λ input x z k. refl
   computes Out = λ input x z k. refl
   computes Sq = λ input x z k. refl
+  computes Give = λ input x z k. refl
 
   module _ (g : Gate) where
     gate-computes : {k : Class} → shape g .class ≡ k → Computes k (g .kind)

@@ -11,18 +11,18 @@ use borrow.Author.Tests.{eqb-true}
 use Rattle.field.specs.Words.{size}
 use Rattle.circuit.specs.Verdict.{Accepted}
 use Rattle.circuit.specs.Gate.{kindMul, kindSq, Gate, gate, gates}
-use Rattle.circuit.specs.Kind.{Class, Local, Owned, Opens, Output, shape, isClass, isIn, opens, isOut}
+use Rattle.circuit.specs.Kind.{Class, Local, Owned, Opens, Output, shape, isClass, isIn, opens, isOut, isGive}
 use Rattle.circuit.specs.Count.{total, count, prepAt, prepSize, capacity, inCount, outCount, unchecked, uncheckedAfter}
 use Rattle.circuit.specs.Round.{Round, checkRounds, classRounds, rounds, shapeWords, words, coefficientsIn, overRounds, overRun, roundCount, wordCount, coefficientCount, commitsIn, checkCount, commitWords, revealWords}
 use Rattle.circuit.specs.Accept.{fewestGates, mostGates, askCircuit}
 use Rattle.circuit.specs.Valid.{Valid}
 use Rattle.circuit.proofs.Tests.{by-cases}
 use Rattle.circuit.proofs.Counts.{unchecked-valued, unchecked-out}
-use Rattle.circuit.proofs.KindLaws.{class-is, shape-low, local-no-out, owned-no-out, opens-no-out, local-facts, owned-facts, opens-facts, output-facts}
+use Rattle.circuit.proofs.KindLaws.{class-is, shape-low, local-no-out, owned-no-out, opens-no-out, local-facts, owned-facts, opens-facts, output-facts, give-prep, bare-prep, no-give}
 use Rattle.circuit.proofs.RoundLaws.{words-local, words-owned, words-opens, words-first, words-later, coefficients-local, coefficients-owned, coefficients-opens, coefficients-all, checks-first, checks-later, checks-valued}
 use Rattle.circuit.proofs.Gates.{gate-zero}
 use Rattle.protocol.specs.Scratch.{layout, slotsSize, nonceAt, marksAt, scratchSize}
-use Rattle.protocol.specs.Formula.{opensJust, mulCount, squareCount, bareOuts, roundFormula, mostRoundsOfAll}
+use Rattle.protocol.specs.Formula.{opensJust, mulCount, squareCount, giveCount, bareOuts, roundFormula, mostRoundsOfAll}
 use Rattle.protocol.proofs.Computing.{computing}
 
 -- one for each round
@@ -120,7 +120,7 @@ at-most-766 {n} {q} {c} ok = rw formula-is (go (gates c) (ok .two) (ok .few))
     go zero l h = absurd (omega arith)
     go (suc m) l h = omega (arith, rounds-owed ok m)
 
--- the out gates before j with something unchecked
+-- the outputs before j, out and give gates, with something unchecked
 unfoldable pub checkedOuts : List ℕ → ℕ → ℕ
 checkedOuts c zero = 0
 checkedOuts c (suc j) = checkedOuts c j + cond (isOut (gate c j) && not (eqb (unchecked c j) 0)) 1 0
@@ -165,7 +165,7 @@ unfolding overRun unchecked count total rounds
 coefficients-before c zero = refl
 coefficients-before c (suc j) = omega (arith, coefficients-before c j, coefficients-of (unchecked c j) (gate c j) (shape (gate c j) .class) refl)
 
--- An accepted circuit ends with an out gate, after which nothing is unchecked.
+-- An accepted circuit ends with an output, after which nothing is unchecked.
 coefficients-opened : {n q : ℕ} {c : List ℕ} → Valid n q c → coefficientCount c ≡ opened c (gates c) + outCount c
 unfolding coefficientCount outCount unchecked
 coefficients-opened {n} {q} {c} ok = go (gates c) (ok .two) (ok .last)
@@ -178,17 +178,20 @@ coefficients-opened {n} {q} {c} ok = go (gates c) (ok .two) (ok .last)
     go zero l h = absurd (omega arith)
     go (suc m) l h = omega (arith, coefficients-before c (suc m), none m h)
 
--- What a gate takes of the preprocessing: 3 numbers of an input, and of a gate that opens values 2 for each and 2 more.
+-- What a gate takes of the preprocessing: 3 numbers of an input and of a give, and of a gate that opens values 2 for each and 2 more.
 prep-of : (g : Gate) (k : Class) → shape g .class ≡ k
-    → shape g .prep ≡ 3 * cond (isClass Owned k) 1 0 + 2 * shape g .openings + 2 * cond (isClass Opens k) 1 0
+    → shape g .prep ≡ 3 * cond (isClass Owned k) 1 0 + 2 * shape g .openings + 2 * cond (isClass Opens k) 1 0 + 3 * cond (isGive g) 1 0
 unfolding isClass
-prep-of g Local e = let f = local-facts g e in omega (arith, f .prep, f .openings)
-prep-of g Owned e = let f = owned-facts g e in omega (arith, f .prep, f .openings)
-prep-of g Opens e = omega (arith, opens-facts g e .prep)
-prep-of g Output e = let f = output-facts g e in omega (arith, f .prep, f .openings)
+prep-of g Local e = let f = local-facts g e in rw (no-give g (local-no-out e)) (omega (arith, f .prep, f .openings))
+prep-of g Owned e = let f = owned-facts g e in rw (no-give g (owned-no-out e)) (omega (arith, f .prep, f .openings))
+prep-of g Opens e = rw (no-give g (opens-no-out e)) (omega (arith, opens-facts g e .prep))
+prep-of g Output e =
+    let f = output-facts g e in
+    by-cases (isGive g) (λ z. rw z (omega (arith, give-prep g z, f .openings))) (λ z. rw z (omega (arith, bare-prep g e z, f .openings)))
 
 -- The same of the gates before j.
-prep-before : (c : List ℕ) (j : ℕ) → total (λ g. shape g .prep) c j ≡ 3 * count isIn c j + 2 * opened c j + 2 * count opens c j
+prep-before : (c : List ℕ) (j : ℕ)
+    → total (λ g. shape g .prep) c j ≡ 3 * count isIn c j + 2 * opened c j + 2 * count opens c j + 3 * count isGive c j
 unfolding count total
 prep-before c zero = refl
 prep-before c (suc j) = omega (arith, prep-before c j, prep-of (gate c j) (shape (gate c j) .class) refl)
@@ -213,12 +216,12 @@ unfolding overRun checkedOuts count total rounds
 checks-before c zero = refl
 checks-before c (suc j) = omega (arith, checks-before c j, checks-of (unchecked c j) (shape (gate c j) .class))
 
--- The checks of a run: one for each out gate, and one more for each with something unchecked.
+-- The checks of a run: one for each output, and one more for each with something unchecked.
 pub checks-are : (c : List ℕ) → checkCount c ≡ outCount c + checkedOuts c (gates c)
 unfolding checkCount outCount
 checks-are c = checks-before c (gates c)
 
--- The words that a party sends in a run: one for each in gate, two for each mul gate, one for each sq gate, one for each out gate, and for each
+-- The words that a party sends in a run: one for each in gate, two for each mul gate, one for each sq gate, one for each output, and for each
 -- check the eight of a mark and the nine of a reveal.
 pub words-are : (c : List ℕ) → wordCount c ≡ inCount c + 2 * mulCount c + squareCount c + outCount c + (commitWords + revealWords) * checkCount c
 unfolding wordCount inCount mulCount squareCount outCount
@@ -229,9 +232,9 @@ pub coefficients-are : {n q : ℕ} {c : List ℕ} → Valid n q c → coefficien
 unfolding mulCount squareCount
 coefficients-are {n} {q} {c} ok = omega (arith, coefficients-opened ok, opened-before c (gates c))
 
--- "With I in lines and M mul lines, material has 1 + 3 × I + 6 × M numbers", and 4 more for each sq gate
-pub prep-is : (c : List ℕ) → prepSize c ≡ 1 + 3 * inCount c + 6 * mulCount c + 4 * squareCount c
-unfolding prepSize prepAt inCount mulCount squareCount
+-- "With I in lines and M mul lines, material has 1 + 3 × I + 6 × M numbers", and 4 more for each sq gate and 3 for each give
+pub prep-is : (c : List ℕ) → prepSize c ≡ 1 + 3 * inCount c + 6 * mulCount c + 4 * squareCount c + 3 * giveCount c
+unfolding prepSize prepAt inCount mulCount squareCount giveCount
 prep-is c = omega (arith, prep-before c (gates c), opened-before c (gates c), opens-before c (gates c))
 
 -- "Scratch is one list, L being the number of lines: L shares, L MAC shares, 2M + 1 opened values, 2M + 1 MAC shares of those", and one more of

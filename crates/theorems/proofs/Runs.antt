@@ -1,15 +1,20 @@
 -- A run, round after round: what one round more adds to it.
 -- Assumes nothing.
 use Prim.Native.Nat.{ℕ, zero, suc, _+_}
-use mathlib.Core.Path.{_≡_, refl, sym, ap, subst, _∙_}
+use mathlib.Core.Path.{_≡_, refl, sym, ap, ap₂, subst, _∙_}
+use mathlib.Core.Bool.{Bool}
 use mathlib.Core.List.{List, _++_, append-assoc, append-nil}
 use native.Mathlib.Nat.{add-zero, add-suc}
 use Rattle.algebra.specs.Ops.{Ops}
+use Rattle.circuit.specs.Gate.{gate}
+use Rattle.circuit.specs.Kind.{everyone}
 use Rattle.circuit.specs.Round.{Round}
+use Rattle.circuit.proofs.KindLaws.{everyone-sees}
 use Rattle.protocol.specs.Position.{Stage, Send, Receive, Finished, Aborted, whenSending}
 use Rattle.protocol.specs.Joint.{Joint}
 use Rattle.protocol.specs.Run.{State, Run, begun, said, step, released, still, ahead, run}
 use Rattle.theorems.specs.Premises.{after}
+use Rattle.theorems.specs.Apart.{releasedTo, outputsTo}
 
 -- a stage at which nothing is sent
 abbrev pub Idle : Stage → Type 0
@@ -148,6 +153,41 @@ module _ (O : Ops) (J : Joint) where
     pub after-idle : (k : ℕ) → Idle (after O J scratch k .point .stage) → after O J scratch (suc k) ≡ after O J scratch k
     unfolding after
     after-idle k h = when-idle _ _ _ h
+
+    -- Where round r is sent, the outputs that A's parties see grow by what it releases to them ..
+    pub outputs-step : (A : ℕ → Bool) (k : ℕ) (r : Round) → after O J scratch k .point .stage ≡ Send r
+        → outputsTo O J scratch A (suc k) ≡ outputsTo O J scratch A k ++ releasedTo O J A (after O J scratch k) r
+    unfolding outputsTo
+    outputs-step A k r e = ap (λ (l : List ℕ). outputsTo O J scratch A k ++ l) (when-sending _ _ (releasedTo O J A (after O J scratch k)) r e)
+
+    -- .. and where nothing is sent, they stay.
+    pub outputs-idle : (A : ℕ → Bool) (k : ℕ) → Idle (after O J scratch k .point .stage) → outputsTo O J scratch A (suc k) ≡ outputsTo O J scratch A k
+    unfolding outputsTo
+    outputs-idle A k h =
+        ap (λ (l : List ℕ). outputsTo O J scratch A k ++ l) (when-idle _ _ (releasedTo O J A (after O J scratch k)) h)
+        ∙ append-nil (outputsTo O J scratch A k)
+
+    -- The outputs that everyone sees are all.
+    pub listed : (k : ℕ) → outputsTo O J scratch everyone k ≡ first k .outputs
+    listed zero = unfold outputsTo run still in refl
+    listed (suc k) = go (after O J scratch k .point .stage) refl (listed k)
+      where
+        idle : Idle (after O J scratch k .point .stage) → outputsTo O J scratch everyone k ≡ first k .outputs
+            → outputsTo O J scratch everyone (suc k) ≡ first (suc k) .outputs
+        idle h e = outputs-idle everyone k h ∙ e ∙ ap (λ (R : Run). R .outputs) (sym (first-idle k h))
+
+        all : (s : State) (r : Round) → releasedTo O J everyone s r ≡ released O J s r
+        all s r = unfold releasedTo in rw (everyone-sees (gate (J .circuit) (s .point .gate)))
+
+        go : (g : Stage) → after O J scratch k .point .stage ≡ g → outputsTo O J scratch everyone k ≡ first k .outputs
+            → outputsTo O J scratch everyone (suc k) ≡ first (suc k) .outputs
+        go (Send r) q e =
+            outputs-step everyone k r q
+            ∙ ap₂ {C = List ℕ} (λ (x y : List ℕ). x ++ y) e (all _ r ∙ ap (λ (s : State). released O J s r) (sym (last-first k)))
+            ∙ (unfold longer in ap (λ (R : Run). R .outputs) (sym (first-longer k r q)))
+        go (Receive r) q e = idle (subst Idle (sym q) tt) e
+        go Finished q e = idle (subst Idle (sym q) tt) e
+        go Aborted q e = idle (subst Idle (sym q) tt) e
 
     -- A run that is still going after k rounds has made them all.
     pub rounds-first : (k : ℕ) (r : Round) → after O J scratch k .point .stage ≡ Send r → first k .rounds ≡ k
