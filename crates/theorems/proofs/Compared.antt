@@ -1,5 +1,5 @@
--- What the comparison of two runs asks for, and what that gives: a party outside A, equal values at every output, equal inputs at A, and
--- the questions that are left.
+-- What the comparison of two runs asks for, and what that gives: a party outside A, equal values at every output that A's parties see, equal inputs
+-- at A, and the questions that are left.
 -- Assumes nothing.
 use Prim.Native.Nat.{ℕ, zero, suc, _+_, _*_, _<_}
 use mathlib.Core.Path.{_≡_, refl, sym, ap, ap₂, _∙_}
@@ -16,7 +16,7 @@ use Rattle.algebra.specs.Field.{Field}
 use Rattle.algebra.proofs.Ring.{sub-self}
 use Rattle.circuit.specs.Verdict.{Verdict, ask, _then_, elements}
 use Rattle.circuit.specs.Gate.{Gate, gate}
-use Rattle.circuit.specs.Kind.{Output, shape, isOut}
+use Rattle.circuit.specs.Kind.{Output, shape, isOut, seenBy}
 use Rattle.circuit.proofs.Tests.{by-cases}
 use Rattle.circuit.proofs.KindLaws.{class-is}
 use Rattle.circuit.specs.Count.{inputAt, inCount, outCount}
@@ -25,7 +25,7 @@ use Rattle.circuit.proofs.Verdicts.{ask-yes, then-left, then-right, then-passed
 use Rattle.protocol.specs.Party.{inputOf}
 use Rattle.protocol.specs.Scratch.{scratchSize}
 use Rattle.protocol.specs.Joint.{party}
-use Rattle.protocol.specs.Plain.{plainInput, value, scoreOf, scores}
+use Rattle.protocol.specs.Plain.{plainInput, value, scoreOf, scoresSeen}
 use Rattle.protocol.specs.JointAsk.{askJoint}
 use Rattle.protocol.specs.Good.{Good}
 use Rattle.theorems.specs.Premises.{Accepts, InputsPass}
@@ -54,43 +54,52 @@ split xs xs′ ys ys′ l e = (
   sym (drop-at xs′ ys′ (length xs) l) ∙ ap (drop (length xs)) e ∙ drop-at xs ys (length xs) refl,
 )
 
-module _ (O : Ops) (n : ℕ) (c x x′ : List ℕ) where
+module _ (O : Ops) (n : ℕ) (c : List ℕ) (A : ℕ → Bool) (x x′ : List ℕ) where
+  -- the scores that A's parties see on either inputs
+  abbrev seen : ℕ → List ℕ
+  seen r = scoresSeen O (plainly n c x) A r
+
+  abbrev seen′ : ℕ → List ℕ
+  seen′ r = scoresSeen O (plainly n c x′) A r
+
   -- The inputs do not matter to how many scores a gate has ..
-  length-scoreOf : (g : Gate) → length (scoreOf O (plainly n c x′) g) ≡ length (scoreOf O (plainly n c x) g)
+  length-scoreOf : (g : Gate) → length (scoreOf O (plainly n c x′) A g) ≡ length (scoreOf O (plainly n c x) A g)
   unfolding scoreOf
-  length-scoreOf g = by-cases (isOut g) (λ e. rw e) (λ e. rw e)
+  length-scoreOf g = by-cases (isOut g && seenBy A g) (λ e. rw e) (λ e. rw e)
 
   -- .. nor to how many there are before a gate.
-  length-scores : (r : ℕ) → length (scores O (plainly n c x′) r) ≡ length (scores O (plainly n c x) r)
-  unfolding scores plainly
+  length-scores : (r : ℕ) → length (seen′ r) ≡ length (seen r)
+  unfolding scoresSeen plainly
   length-scores zero = refl
   length-scores (suc r) =
-      length-append (scores O (plainly n c x′) r) _
+      length-append (seen′ r) _
       ∙ ap₂ _+_ (length-scores r) (length-scoreOf (gate c r))
-      ∙ sym (length-append (scores O (plainly n c x) r) _)
+      ∙ sym (length-append (seen r) _)
 
-  -- Where the scores are equal, every output names equal values.
-  pub equal-outputs : (r : ℕ) → scores O (plainly n c x′) r ≡ scores O (plainly n c x) r
+  -- Where the scores are equal that A's parties see, every output that they see names equal values.
+  pub equal-outputs : (r : ℕ) → seen′ r ≡ seen r
       → (j : ℕ)
       → j < r
       → shape (gate c j) .class ≡ Output
+      → seenBy A (gate c j) ≡ true
       → value O (plainly n c x′) (gate c j .first) ≡ value O (plainly n c x) (gate c j .first)
-  unfolding scores plainly
-  equal-outputs zero e j l k = absurd (omega arith)
-  equal-outputs (suc r) e j l k = go (ℕ-discrete j r) (λ h. equal-outputs r (parts .0) j h k)
+  unfolding scoresSeen plainly
+  equal-outputs zero e j l k s = absurd (omega arith)
+  equal-outputs (suc r) e j l k s = go (ℕ-discrete j r) (λ h. equal-outputs r (parts .0) j h k s)
     where
-      parts : (scores O (plainly n c x′) r ≡ scores O (plainly n c x) r) × (scoreOf O (plainly n c x′) (gate c r) ≡ scoreOf O (plainly n c x) (gate c r))
-      parts = split (scores O (plainly n c x) r) (scores O (plainly n c x′) r) _ _ (length-scores r) e
+      parts : (seen′ r ≡ seen r) × (scoreOf O (plainly n c x′) A (gate c r) ≡ scoreOf O (plainly n c x) A (gate c r))
+      parts = split (seen r) (seen′ r) _ _ (length-scores r) e
 
-      here : (g : Gate) → isOut g ≡ true → scoreOf O (plainly n c x′) g ≡ scoreOf O (plainly n c x) g
+      here : (g : Gate) → isOut g ≡ true → seenBy A g ≡ true → scoreOf O (plainly n c x′) A g ≡ scoreOf O (plainly n c x) A g
           → value O (plainly n c x′) (g .first) ≡ value O (plainly n c x) (g .first)
-      here g o q = unfold scoreOf in (rw o at (ap (λ (l : List ℕ). getD l 0 0) q))
+      here g o s q = unfold scoreOf in (rw (o, s) at (ap (λ (l : List ℕ). getD l 0 0) q))
 
       go : Dec (j ≡ r) → (j < r → value O (plainly n c x′) (gate c j .first) ≡ value O (plainly n c x) (gate c j .first))
           → value O (plainly n c x′) (gate c j .first) ≡ value O (plainly n c x) (gate c j .first)
-      go (yes q) earlier = here (gate c j) (class-is k) (rw q (parts .1))
+      go (yes q) earlier = here (gate c j) (class-is k) s (rw q (parts .1))
       go (no q) earlier = earlier (omega arith)
 
+module _ (O : Ops) (n : ℕ) (c x x′ : List ℕ) where
   -- Where a party's inputs agree, the input for each of its gates does not differ.
   pub no-move : Field O → (h i : ℕ) → party (plainly n c x′) i .inputs ≡ party (plainly n c x) i .inputs
       → (j : ℕ)

@@ -1,11 +1,11 @@
 -- The matching takes good preprocessing to good preprocessing: the sums of a gate's shares move by the difference of what they hide, and
 -- the sums of its MAC shares by the key times that. With the inputs exchanged it leads back, and at a party whose inputs agree and that
--- does not carry the differences it changes nothing.
+-- does not carry the differences, and to which equal values are given, it changes nothing.
 -- Assumes nothing.
 use Prim.Native.Nat.{ℕ, zero, suc, _+_, _*_, _<_, _≤_}
 use mathlib.Core.Path.{_≡_, refl, sym, ap, ap₂, subst, _∙_}
 use mathlib.Core.Logic.{_≢_}
-use mathlib.Core.Bool.{false}
+use mathlib.Core.Bool.{true, false}
 use mathlib.Core.List.{List, _++_}
 use native.Mathlib.Decide.{ℕ-discrete}
 use native.Mathlib.Omega.{arith}
@@ -19,19 +19,19 @@ use Rattle.algebra.specs.Sum.{sum}
 use Rattle.algebra.proofs.Ring.{norm-zero, mul-zero, sub-add, sub-flip}
 use Rattle.algebra.proofs.Sums.{norm-sum, sum-ext, sum-moved}
 use Rattle.circuit.specs.Gate.{gate, gates}
-use Rattle.circuit.specs.Kind.{Class, Local, Owned, Opens, Output, shape, factor}
+use Rattle.circuit.specs.Kind.{Class, Local, Owned, Opens, Output, maskSize, shape, isGive, factor}
 use Rattle.circuit.specs.Count.{total, prepAt, prepSize}
 use Rattle.circuit.specs.Valid.{Valid}
 use Rattle.circuit.proofs.Tests.{by-cases}
 use Rattle.circuit.proofs.Counts.{total-within}
-use Rattle.circuit.proofs.KindLaws.{local-facts, owned-facts, opens-facts, output-facts}
-use Rattle.circuit.proofs.Gates.{owner-named}
+use Rattle.circuit.proofs.KindLaws.{local-facts, owned-facts, opens-facts, give-output, give-prep, give-second, bare-prep}
+use Rattle.circuit.proofs.Gates.{second-fits, owner-named}
 use Rattle.protocol.specs.Part.{partAt}
 use Rattle.protocol.specs.Party.{recordIn, maskAt, wholeMaskAt, aAt, bAt, cAt}
 use Rattle.protocol.specs.Scratch.{band}
 use Rattle.protocol.specs.Joint.{joined}
 use Rattle.protocol.specs.Good.{Good, GoodRecord, GoodMask, GoodTriple, recordAt, wholeKey, shareSum, macSum}
-use Rattle.theorems.specs.Matching.{only, addLists, inputMove, valueMove, moved, productMove, maskMove, recordMove, prepMove, match}
+use Rattle.theorems.specs.Matching.{only, addLists, inputMove, valueMove, moved, productMove, maskMove, maskRecordMove, recordMove, prepMove, match}
 use Rattle.protocol.proofs.Words.{length-band, length-joined}
 use Rattle.protocol.proofs.Bands.{band-joined}
 use Rattle.theorems.proofs.Bands.{length-addLists, getD-addLists, band-addLists, Elements, elements-of, elements-band, elements-addLists, Zeros, no-more, zero-then, zeros-append, add-zeros, Cancel, cancel-none, cancel-then, cancel-append, cancel-joined, add-cancel}
@@ -118,20 +118,25 @@ module _ {O : Ops} (F : Field O) (n : ℕ) (c : List ℕ) (h : ℕ) (x x′ prep
   abbrev masksBy : ℕ → ℕ → ℕ → ℕ → List ℕ
   masksBy i y z k = maskMove O n c h x x′ preps i y z k
 
+  -- the differences of a mask that party o knows whole
+  abbrev maskBy : ℕ → ℕ → ℕ → List ℕ
+  maskBy i o d = maskRecordMove O n c h x x′ preps i o d
+
   -- The differences in a record are as many as its numbers.
   length-masks : (i y z k : ℕ) → 1 ≤ k → k ≤ 2 → length (masksBy i y z k) ≡ k + k
   unfolding maskMove moved
   length-masks i y z k some few = by-cases (eqb k 2) (λ e. rw e (omega (arith, eqb-true k 2 e))) (λ e. rw e (omega (arith, eqb-false k 2 e)))
 
   length-recordMove : (i j : ℕ) (k : Class) → class j ≡ k → length (recordBy i j k) ≡ shape (gate c j) .prep
-  unfolding recordMove moved
+  unfolding recordMove maskRecordMove moved
   length-recordMove i j Local e = sym (local-facts (gate c j) e .prep)
   length-recordMove i j Owned e = sym (owned-facts (gate c j) e .prep)
   length-recordMove i j Opens e =
       let f = opens-facts (gate c j) e in
       length-append (masksBy i (gate c j .first) (factor (gate c j)) (shape (gate c j) .openings)) _
       ∙ omega (arith, length-masks i (gate c j .first) (factor (gate c j)) (shape (gate c j) .openings) (f .some) (f .few), f .prep)
-  length-recordMove i j Output e = sym (output-facts (gate c j) e .prep)
+  length-recordMove i j Output e =
+      by-cases (isGive (gate c j)) (λ g. rw (g, give-prep (gate c j) g)) (λ g. rw (g, bare-prep (gate c j) e g))
 
   -- A party's differences up to gate j are as many as its numbers.
   length-prepMove : (i j : ℕ) → length (prepBy i j) ≡ prepAt c j
@@ -260,10 +265,10 @@ module _ {O : Ops} (F : Field O) (n : ℕ) (c : List ℕ) (h : ℕ) (x x′ prep
           macs = unfold macSum partAt in two .1;
         }
 
-    -- what the matching does to the records of an in gate of party s ..
-    pub record MovedMask (j s : ℕ) : Type 0 where
-      pub mask : Moved j maskAt (byInput j)
-      pub whole : getD (rec′ s j) wholeMaskAt 0 ≡ add (getD (rec s j) wholeMaskAt 0) (byInput j)
+    -- what the matching does to the records of a mask that party s knows whole and that differs by d ..
+    pub record MovedMask (j s d : ℕ) : Type 0 where
+      pub mask : Moved j maskAt d
+      pub whole : getD (rec′ s j) wholeMaskAt 0 ≡ add (getD (rec s j) wholeMaskAt 0) d
 
     -- .. and of a product of y and z with k openings
     pub record MovedTriple (j k y z : ℕ) : Type 0 where
@@ -271,17 +276,30 @@ module _ {O : Ops} (F : Field O) (n : ℕ) (c : List ℕ) (h : ℕ) (x x′ prep
       pub at-b : Moved j (bAt k) (byValue z)
       pub at-c : Moved j (cAt k) (byProduct j k y z)
 
-    -- The mask and the owner's whole mask of an in gate move with the input.
-    pub moved-mask : (j : ℕ) → class j ≡ Owned → j < gates c → h < n → gate c j .first < n → MovedMask j (gate c j .first)
-    unfolding recordMove moved
-    moved-mask j e lj h-lt s-lt =
+    -- Where the numbers of a mask's record differ as the rule says, the mask and the whole mask move alike.
+    moved-record : (j s d : ℕ) → h < n → s < n
+        → ((t : ℕ) → t < maskSize → (i : ℕ) → i < n → getD (rec′ i j) t 0 ≡ add (getD (rec i j) t 0) (getD (maskBy i s d) t 0))
+        → MovedMask j s d
+    unfolding maskRecordMove moved
+    moved-record j s d h-lt s-lt at =
         record {
-          mask = moved-at j maskAt _ h-lt (matched-at j e lj 0 (omega (arith, three))) (matched-at j e lj 1 (omega (arith, three)));
-          whole = matched-at j e lj 2 (omega (arith, three)) (gate c j .first) s-lt ∙ ap (add _) (only-here (gate c j .first) _ (gate c j .first) refl);
+          mask = moved-at j maskAt d h-lt (at 0 (omega arith)) (at 1 (omega arith));
+          whole = at wholeMaskAt (omega arith) s s-lt ∙ ap (add _) (only-here s d s refl);
         }
-      where
-        three : shape (gate c j) .prep ≡ 3
-        three = owned-facts (gate c j) e .prep
+
+    -- So they do in the records of an in gate, with the input ..
+    pub moved-mask : (j : ℕ) → class j ≡ Owned → j < gates c → h < n → gate c j .first < n → MovedMask j (gate c j .first) (byInput j)
+    unfolding recordMove
+    moved-mask j e lj h-lt s-lt =
+        moved-record j _ _ h-lt s-lt (λ t lt. matched-at j e lj t (omega (arith, owned-facts (gate c j) e .prep)))
+
+    -- .. and in those of a give, with the value that it names.
+    pub moved-give : (j : ℕ) → isGive (gate c j) ≡ true → j < gates c → h < n → gate c j .second < n
+        → MovedMask j (gate c j .second) (byValue (gate c j .first))
+    unfolding recordMove
+    moved-give j g lj h-lt s-lt =
+        moved-record j _ _ h-lt s-lt
+        (λ t lt i l. matched-at j (give-output (gate c j) g) lj t (omega (arith, give-prep (gate c j) g)) i l ∙ rw g)
 
     -- Where the numbers of a record with k openings differ as the rule says, its a and its b move with the values that they hide, and its c with
     -- their product.
@@ -320,12 +338,12 @@ module _ {O : Ops} (F : Field O) (n : ℕ) (c : List ℕ) (h : ℕ) (x x′ prep
         ∙ sym (mul-add _ _ _)
         ∙ ap₂ mul (sym same-whole-key) (sym (m .shares))
 
-    -- The moved mask of an in gate is good.
-    good-mask : (j s : ℕ) → MovedMask j s → GoodMask O n c preps j s → GoodMask O n c matched j s
-    good-mask j s m g =
+    -- A moved mask is good.
+    good-mask : (j s d : ℕ) → MovedMask j s d → GoodMask O n c preps j s → GoodMask O n c matched j s
+    good-mask j s d m g =
         record {
-          mask = moved-authentic j maskAt _ (m .mask) (g .mask);
-          whole = m .whole ∙ ap (λ (w : ℕ). add w (byInput j)) (g .whole) ∙ sym (m .mask .shares);
+          mask = moved-authentic j maskAt d (m .mask) (g .mask);
+          whole = m .whole ∙ ap (λ (w : ℕ). add w d) (g .whole) ∙ sym (m .mask .shares);
         }
 
     -- The moved triple of a product is good: its c is the product of its a and its b.
@@ -349,9 +367,10 @@ module _ {O : Ops} (F : Field O) (n : ℕ) (c : List ℕ) (h : ℕ) (x x′ prep
       -- The moved records of a gate are good.
       good-record : (j : ℕ) (k : Class) → class j ≡ k → j < gates c → GoodRecord O n c preps j (gate c j) k → GoodRecord O n c matched j (gate c j) k
       good-record j Local e lj g = tt
-      good-record j Owned e lj g = good-mask j (gate c j .first) (moved-mask j e lj h-lt (owner-named ok j lj e)) g
+      good-record j Owned e lj g = good-mask j _ _ (moved-mask j e lj h-lt (owner-named ok j lj e)) g
       good-record j Opens e lj g = good-triple j _ _ _ (moved-triple j e lj h-lt) g
-      good-record j Output e lj g = tt
+      good-record j Output e lj g =
+          λ give. good-mask j _ _ (moved-give j give lj h-lt (second-fits ok j lj (give-second (gate c j) give))) (g give)
 
       -- Good preprocessing is matched with good preprocessing.
       pub matched-good : Good O n c matched
@@ -363,8 +382,9 @@ module _ {O : Ops} (F : Field O) (n : ℕ) (c : List ℕ) (h : ℕ) (x x′ prep
             records = λ j lj. good-record j (class j) refl lj (good .records j lj);
           }
 
-    -- a party that does not carry the differences, and whose inputs agree
-    module _ (i : ℕ) (other : i ≢ h) (agree : (j : ℕ) → class j ≡ Owned → gate c j .first ≡ i → byInput j ≡ 0) where
+    -- a party that does not carry the differences, whose inputs agree, and to which equal values are given
+    module _ (i : ℕ) (other : i ≢ h) (agree : (j : ℕ) → class j ≡ Owned → gate c j .first ≡ i → byInput j ≡ 0)
+        (given : (j : ℕ) → j < gates c → isGive (gate c j) ≡ true → gate c j .second ≡ i → byValue (gate c j .first) ≡ 0) where
       -- All its differences of a gate are zero ..
       zeros-moved : (d : ℕ) → Zeros F (movedBy i d)
       unfolding moved
@@ -374,26 +394,30 @@ module _ {O : Ops} (F : Field O) (n : ℕ) (c : List ℕ) (h : ℕ) (x x′ prep
       unfolding maskMove
       zeros-masks y z k = by-cases (eqb k 2) (λ e. rw e (zeros-append F (zeros-moved _) (zeros-moved _))) (λ e. rw e (zeros-moved _))
 
-      zeros-record : (j : ℕ) (k : Class) → class j ≡ k → Zeros F (recordBy i j k)
-      unfolding recordMove
-      zeros-record j Local e = no-more
-      zeros-record j Owned e = zeros-append F (zeros-moved _) (zero-then (own (ℕ-discrete i (gate c j .first))) no-more)
+      zeros-mask : (o d : ℕ) → (o ≡ i → d ≡ 0) → Zeros F (maskBy i o d)
+      unfolding maskRecordMove
+      zeros-mask o d none = zeros-append F (zeros-moved d) (zero-then (own (ℕ-discrete i o)) no-more)
         where
-          own : Dec (i ≡ gate c j .first) → only (gate c j .first) (byInput j) i ≡ 0
-          own (yes q) = only-here (gate c j .first) _ i q ∙ agree j e (sym q)
-          own (no q) = only-elsewhere (gate c j .first) _ i q
-      zeros-record j Opens e = zeros-append F (zeros-masks _ _ _) (zeros-moved _)
-      zeros-record j Output e = no-more
+          own : Dec (i ≡ o) → only o d i ≡ 0
+          own (yes q) = only-here o d i q ∙ none (sym q)
+          own (no q) = only-elsewhere o d i q
+
+      zeros-record : (j : ℕ) (k : Class) → class j ≡ k → j < gates c → Zeros F (recordBy i j k)
+      unfolding recordMove
+      zeros-record j Local e lj = no-more
+      zeros-record j Owned e lj = zeros-mask _ _ (agree j e)
+      zeros-record j Opens e lj = zeros-append F (zeros-masks _ _ _) (zeros-moved _)
+      zeros-record j Output e lj = by-cases (isGive (gate c j)) (λ g. rw g (zeros-mask _ _ (given j lj g))) (λ g. rw g no-more)
 
       -- .. and so are all its differences.
-      zeros-prep : (r : ℕ) → Zeros F (prepBy i r)
+      zeros-prep : (r : ℕ) → r ≤ gates c → Zeros F (prepBy i r)
       unfolding prepMove
-      zeros-prep zero = zero-then refl no-more
-      zeros-prep (suc r) = zeros-append F (zeros-prep r) (zeros-record r (class r) refl)
+      zeros-prep zero l = zero-then refl no-more
+      zeros-prep (suc r) l = zeros-append F (zeros-prep r (omega arith)) (zeros-record r (class r) refl (omega arith))
 
       -- So its numbers are kept.
       pub matched-kept : i < n → part′ i ≡ part i
-      matched-kept l = band-matched i l ∙ add-zeros F (part i) (elements-prep i) (zeros-prep (gates c))
+      matched-kept l = band-matched i l ∙ add-zeros F (part i) (elements-prep i) (zeros-prep (gates c) (omega arith))
 
     module _ (h-lt : h < n) where
       -- the differences with the inputs exchanged
@@ -466,15 +490,20 @@ module _ {O : Ops} (F : Field O) (n : ℕ) (c : List ℕ) (h : ℕ) (x x′ prep
           (λ e. rw e (cancel-append F (cancel-moved i _ _ (cancel-value y)) (cancel-moved i _ _ (cancel-value z))))
           (λ e. rw e (cancel-moved i _ _ (cancel-value y)))
 
+      -- The differences of a mask's record cancel.
+      cancel-mask : (i o d e : ℕ) → add d e ≡ 0 → Cancel F (maskBy i o d) (maskRecordMove O n c h x′ x matched i o e)
+      unfolding maskRecordMove
+      cancel-mask i o d e z = cancel-append F (cancel-moved i d e z) (cancel-then (cancel-only o d e i z) cancel-none)
+
       -- The differences of a gate's record cancel ..
       cancel-record : (i j : ℕ) (k : Class) → class j ≡ k → j < gates c → Cancel F (recordBy i j k) (backRecord i j k)
       unfolding recordMove
       cancel-record i j Local e lj = cancel-none
-      cancel-record i j Owned e lj =
-          cancel-append F (cancel-moved i _ _ (cancel-input j)) (cancel-then (cancel-only (gate c j .first) _ _ i (cancel-input j)) cancel-none)
+      cancel-record i j Owned e lj = cancel-mask i _ _ _ (cancel-input j)
       cancel-record i j Opens e lj =
           cancel-append F (cancel-masks i _ _ _) (cancel-moved i _ _ (cancel-product j _ _ _ (moved-triple j e lj h-lt)))
-      cancel-record i j Output e lj = cancel-none
+      cancel-record i j Output e lj =
+          by-cases (isGive (gate c j)) (λ g. rw g (cancel-mask i _ _ _ (cancel-value (gate c j .first)))) (λ g. rw g cancel-none)
 
       -- .. and so do all of a party's.
       cancel-prep : (i r : ℕ) → r ≤ gates c → Cancel F (prepBy i r) (prepMove O n c h x′ x matched i r)

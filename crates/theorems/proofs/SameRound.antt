@@ -23,7 +23,7 @@ use Rattle.protocol.specs.Party.{key, recordOf, inputOf, wholeMaskAt, aAt, bAt}
 use Rattle.protocol.specs.Send.{inputWord, masked, checkShare, opening, ownWords, sent}
 use Rattle.protocol.specs.Joint.{Joint, party}
 use Rattle.theorems.proofs.Closed.{Opening, Every, keys, ownerWord, opened}
-use Rattle.theorems.proofs.Holds.{Holds, own-masked, own-shown}
+use Rattle.theorems.proofs.Holds.{Holds, own-masked, own-showing}
 use Rattle.theorems.proofs.Sent.{sent-class}
 use Rattle.theorems.proofs.SideBySide.{Pair, J as run, J′ as run′, Agrees, same-owner, same-words, agrees-differences, agrees-shown, sigma, same-check}
 
@@ -99,13 +99,13 @@ module _ {O : Ops} {F : Field O} (P : Pair F) where
             (λ b. rw b (ap₂ {C = List ℕ} (λ (u v : ℕ). u ∷ v ∷ []) first second))
             (λ b. rw b (ap {B = List ℕ} (λ (u : ℕ). u ∷ []) first))
 
-    -- An out gate: every party sends the same share of what is shown.
+    -- An output: every party sends the same share of what is shown.
     pub same-shown : j < gates c → shape (gate c j) .class ≡ Output → (held held′ : ℕ) (co ns : List ℕ)
         → sent O (party J′ i) l′ j held′ co ns Open ≡ sent O (party J i) l j held co ns Open
     unfolding sent party
     same-shown lj e held held′ co ns =
         let ref = output-named (has .valid) j lj e in
-        ap {B = List ℕ} (λ (u : ℕ). u ∷ []) (same-share _ (agrees-shown P j lj e) (own-shown O J _ p ref) (own-shown O J′ _ p′ ref))
+        ap {B = List ℕ} (λ (u : ℕ). u ∷ []) (same-share _ (agrees-shown P j lj e) (own-showing O J p ref) (own-showing O J′ p′ ref))
 
     -- Every party holds the same check share.
     pub same-held : Every (Agrees P) os → (taken : List ℕ) (k : ℕ) → k ≡ length os

@@ -1,5 +1,5 @@
--- Demand 3: two whole runs, on two sets of inputs that agree at A's parties and give equal scores, cannot be told apart by A, whatever
--- good preprocessing the first was given, since one rule matches it one for one with good preprocessing for the second.
+-- Demand 3: two whole runs, on two sets of inputs that agree at A's parties and give equal scores where A's parties see them, cannot be told apart by
+-- A, whatever good preprocessing the first was given, since one rule matches it one for one with good preprocessing for the second.
 -- Assumes nothing.
 use Prim.Native.Nat.{ℕ, _<_}
 use mathlib.Core.Path.{_≡_, refl, sym, ap, ap₂, _∙_}
@@ -10,28 +10,33 @@ use native.Mathlib.Omega.{arith}
 use lib.ListN.{length}
 use Rattle.algebra.specs.Ops.{Ops}
 use Rattle.algebra.specs.Field.{Field}
+use Rattle.algebra.proofs.Ring.{sub-self}
 use Rattle.field.specs.Words.{ops}
 use Rattle.field.proofs.Laws.{laws}
 use Rattle.circuit.specs.Verdict.{Accepted}
-use Rattle.circuit.specs.Gate.{gates}
+use Rattle.circuit.specs.Gate.{gate, gates}
+use Rattle.circuit.specs.Kind.{Output, shape, seenBy, everyone}
 use Rattle.circuit.specs.Count.{prepSize}
 use Rattle.circuit.specs.Valid.{Valid}
 use Rattle.circuit.proofs.Valid.{valid}
+use Rattle.circuit.proofs.KindLaws.{give-output}
 use Rattle.protocol.specs.Scratch.{band}
 use Rattle.protocol.specs.Joint.{Joint, party}
 use Rattle.protocol.specs.Run.{State, begun, run, whole}
 use Rattle.protocol.specs.JointEntry.{verdict, jointAnswer, jointScratch}
+use Rattle.protocol.specs.Plain.{value, scores}
 use Rattle.protocol.specs.Good.{Good}
-use Rattle.theorems.specs.Premises.{Enough, after}
-use Rattle.theorems.specs.Matching.{leftOut, plainly, match, rule}
-use Rattle.theorems.specs.Secrecy.{runOf, bandOf, Compared, Alike, Secret, Shows, Secrecy, Blindness}
+use Rattle.theorems.specs.Premises.{Accepts, InputsPass, Enough, after}
+use Rattle.theorems.specs.Matching.{leftOut, plainly, valueMove, match, rule}
+use Rattle.theorems.specs.Secrecy.{runOf, bandOf, Compared, Alike, Secret, Shows, Secrecy, Blindness, UnreadByOthers}
 use Rattle.theorems.proofs.Given.{given}
 use Rattle.theorems.proofs.Lengths.{band-left}
 use Rattle.theorems.proofs.Matching.{matched-good, matched-kept, matched-back}
-use Rattle.theorems.proofs.SideBySide.{Pair}
+use Rattle.theorems.proofs.SideBySide.{plain-scores, Pair}
 use Rattle.theorems.proofs.Runs.{last-first}
 use Rattle.theorems.proofs.Twins.{Ends, twins-first, twins-whole}
 use Rattle.theorems.proofs.Abort.{called-enough}
+use Rattle.theorems.proofs.Accuracy.{accuracy}
 use Rattle.theorems.proofs.Compared.{left-out, equal-outputs, no-move, left, asked}
 
 -- two runs after k rounds
@@ -81,9 +86,20 @@ module _ {O : Ops} (F : Field O) (n : ℕ) (c : List ℕ) (A : ℕ → Bool) whe
     match-back : (m : List ℕ) → Good O n c m → match O n c h x′ x (match O n c h x x′ m) ≡ m
     match-back m g = matched-back F n c h x x′ m g (h-out .0)
 
+    -- The value of an output that a party of A sees does not differ.
+    equal-value : (j : ℕ) → j < gates c → shape (gate c j) .class ≡ Output → seenBy A (gate c j) ≡ true
+        → value O (plainly n c x′) (gate c j .first) ≡ value O (plainly n c x) (gate c j .first)
+    equal-value = equal-outputs O n c A x x′ (gates c) (is .equal-scores)
+
+    unmoved : (j : ℕ) → j < gates c → shape (gate c j) .class ≡ Output → seenBy A (gate c j) ≡ true → valueMove O n c h x x′ (gate c j .first) ≡ 0
+    unfolding valueMove
+    unmoved j l k s = ap (λ (v : ℕ). O .sub v (value O (plainly n c x) (gate c j .first))) (equal-value j l k s) ∙ sub-self F _
+
     -- A's parts of the preprocessing are kept.
     match-keeps : (m : List ℕ) → Good O n c m → (i : ℕ) → i < n → A i ≡ true → band (prepSize c) (match O n c h x x′ m) i ≡ band (prepSize c) m i
-    match-keeps m g i l a = matched-kept F n c h x x′ m g i (inside i a) (λ j owned. no-move O n c x x′ F h i (is .agree i l a) j) l
+    match-keeps m g i l a =
+        matched-kept F n c h x x′ m g i (inside i a) (λ j owned. no-move O n c x x′ F h i (is .agree i l a) j)
+        (λ j lj give to. unmoved j lj (give-output (gate c j) give) (unfold seenBy in rw (give, to, a))) l
 
     module _ (m : List ℕ) (g : Good O n c m) (co ns : List ℕ) where
       -- the two runs
@@ -109,7 +125,7 @@ module _ {O : Ops} (F : Field O) (n : ℕ) (c : List ℕ) (A : ℕ → Bool) whe
             good = g;
             has = given F J (is .accepts) g (is .first);
             has′ = given F J′ (is .accepts) (match-good m g) (is .second);
-            outputs = equal-outputs O n c x x′ (gates c) (is .equal-scores);
+            outputs = λ j l k out. equal-value j l k (unfold seenBy in rw out);
           }
 
       -- A's parties are the same in both.
@@ -226,9 +242,34 @@ blindness {O} F n c A x x′ is co ns scratch t o words preps bands =
     here : Secret O n c A x x′ (rule O n c A x x′) (rule O n c A x′ x)
     here = secrecy F n c A x x′ is
 
--- Both at the field that the code works with.
+-- A run that is not refused gives the scores on its plain inputs.
+plainly-scored : {O : Ops} (F : Field O) (n : ℕ) (c : List ℕ) (A : ℕ → Bool) (x : List ℕ) → Accepts O n c → InputsPass O c x
+    → (co ns scratch t o m : List ℕ)
+    → Good O n c m
+    → verdict O (runOf O n c A m x co ns) scratch t o ≡ Accepted
+    → whole O (runOf O n c A m x co ns) scratch .outputs ≡ scores O (plainly n c x) (gates c)
+unfolding verdict
+plainly-scored {O} F n c A x accepts pass co ns scratch t o m g accepted =
+    accuracy F (runOf O n c A m x co ns) scratch
+    (record { accepts = accepts; good = g; inputs = pass; enough = called-enough O (runOf O n c A m x co ns) scratch (length t) (length o) accepted })
+    .outputs
+    ∙ plain-scores O n c m x co ns everyone (gates c)
+
+-- A view tells nothing of the scores that A's parties do not see, over every field.
+pub unread : {O : Ops} → Field O → UnreadByOthers O
+unread F n c A x x′ is co ns scratch t o words preps bands =
+    record {
+      blind = blindness F n c A x x′ is co ns scratch t o words preps bands;
+      first-scores = λ m g shows. plainly-scored F n c A x (is .accepts) (is .first) co ns scratch t o m g (shows .accepted);
+      second-scores = λ m g shows. plainly-scored F n c A x′ (is .accepts) (is .second) co ns scratch t o m g (shows .accepted);
+    }
+
+-- All three at the field that the code works with.
 pub secrecy-here : Secrecy ops
 secrecy-here = secrecy laws
 
 pub blindness-here : Blindness ops
 blindness-here = blindness laws
+
+pub unread-here : UnreadByOthers ops
+unread-here = unread laws

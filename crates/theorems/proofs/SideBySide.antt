@@ -4,6 +4,7 @@
 use Prim.Native.Nat.{ℕ, _<_, _≤_}
 use mathlib.Core.Path.{_≡_, refl, sym, ap, ap₂, _∙_}
 use mathlib.Core.Logic.{_≢_}
+use mathlib.Core.Bool.{Bool, true, false}
 use mathlib.Core.List.{List}
 use native.Mathlib.Decide.{ℕ-discrete}
 use native.Mathlib.Omega.{arith}
@@ -14,20 +15,22 @@ use Rattle.algebra.specs.Sum.{sum}
 use Rattle.algebra.proofs.Ring.{norm-zero, norm-sub, sub-moved}
 use Rattle.algebra.proofs.Sums.{sum-ext, sum-pin}
 use Rattle.circuit.specs.Gate.{gate, gates}
-use Rattle.circuit.specs.Kind.{Class, Local, Owned, Opens, Output, shape, factor}
-use Rattle.circuit.proofs.Gates.{owner-named, local-named, output-named, opens-named, factor-named}
+use Rattle.circuit.specs.Kind.{Class, Local, Owned, Opens, Output, shape, isGive, factor}
+use Rattle.circuit.proofs.Tests.{by-cases}
+use Rattle.circuit.proofs.KindLaws.{give-second}
+use Rattle.circuit.proofs.Gates.{second-fits, owner-named, local-named, output-named, opens-named, factor-named}
 use Rattle.circuit.specs.Valid.{Valid, Ref}
 use Rattle.protocol.specs.Part.{Part, plus, minus, shift, product}
 use Rattle.protocol.specs.Party.{key, recordOf, inputOf, maskAt, wholeMaskAt, aAt, bAt, cAt}
 use Rattle.protocol.specs.Joint.{Joint, party}
-use Rattle.protocol.specs.Plain.{plainInput, values, value}
+use Rattle.protocol.specs.Plain.{plainInput, values, value, scoreOf, scoresSeen}
 use Rattle.protocol.specs.Good.{Good, recordAt, shareSum}
 use Rattle.theorems.specs.Matching.{plainly, inputMove, valueMove, match}
 use Rattle.theorems.proofs.Course.{strong}
 use Rattle.theorems.proofs.Given.{Given}
 use Rattle.theorems.proofs.KindValues.{local-computes, local-second}
-use Rattle.theorems.proofs.Closed.{Opening, Masked, Shown, openings, Every, every-at, Both, every-opening, keys, prepared, ownerWord, masked, sumOf, multiplied, wireBy, wires, opened, openedValue, wires-are, CarriesOpened, carries-differences, carries-shown, check-zero}
-use Rattle.theorems.proofs.Matching.{Moved, MovedMask, MovedTriple, same-key, moved-mask, moved-triple}
+use Rattle.theorems.proofs.Closed.{Opening, Masked, Shown, shows, openings, Every, every-at, Both, every-opening, keys, prepared, ownerWord, masked, sumOf, multiplied, wireBy, wires, opened, openedValue, wires-are, CarriesOpened, carries-differences, carries-shown, check-zero}
+use Rattle.theorems.proofs.Matching.{Moved, MovedMask, MovedTriple, same-key, moved-mask, moved-give, moved-triple}
 
 -- a joint run of n parties
 abbrev pub runWith : ℕ → List ℕ → List ℕ → List ℕ → List ℕ → List ℕ → Joint
@@ -42,6 +45,11 @@ Beside n h w w′ = (i : ℕ) → i < n → i ≢ h → w′ i ≡ w i
 pub plain-value : (O : Ops) (n : ℕ) (c m x co ns : List ℕ) (j : ℕ) → value O (runWith n c m x co ns) j ≡ value O (plainly n c x) j
 unfolding value values plainInput plainly inputOf party
 plain-value O n c m x co ns j = refl
+
+-- So do the scores.
+pub plain-scores : (O : Ops) (n : ℕ) (c m x co ns : List ℕ) (A : ℕ → Bool) (j : ℕ) → scoresSeen O (runWith n c m x co ns) A j ≡ scoresSeen O (plainly n c x) A j
+unfolding scoresSeen scoreOf value values plainInput plainly inputOf party
+plain-scores O n c m x co ns A j = refl
 
 -- party i's check share of what is opened in os, with coefficients r
 abbrev pub sigma : Ops → Joint → List Opening → (ℕ → ℕ) → ℕ → ℕ
@@ -73,8 +81,8 @@ pub record Pair {O : Ops} (F : Field O) : Type 0 where
   pub good : Good O n c m
   pub has : Given O (runWith n c m x co ns)
   pub has′ : Given O (runWith n c (match O n c h x x′ m) x′ co ns)
-  -- the outputs are equal
-  pub outputs : (j : ℕ) → j < gates c → shape (gate c j) .class ≡ Output
+  -- the values that out gates name are equal
+  pub outputs : (j : ℕ) → j < gates c → shape (gate c j) .class ≡ Output → isGive (gate c j) ≡ false
       → value O (plainly n c x′) (gate c j .first) ≡ value O (plainly n c x) (gate c j .first)
 
 module _ {O : Ops} {F : Field O} (P : Pair F) where
@@ -104,9 +112,13 @@ module _ {O : Ops} {F : Field O} (P : Pair F) where
   unfolding prepared recordOf party recordAt sumOf shareSum
   sum-prepared j k d v = v .shares
 
-  -- The mask of an in gate, and the triple of a product, have moved.
-  mask-moves : (j : ℕ) → j < gates c → shape (gate c j) .class ≡ Owned → MovedMask F n c h x x′ m good j (gate c j .first)
+  -- The mask of an in gate, that of a give, and the triple of a product have moved.
+  mask-moves : (j : ℕ) → j < gates c → shape (gate c j) .class ≡ Owned → MovedMask F n c h x x′ m good j (gate c j .first) (inputMove O n c h x x′ j)
   mask-moves j l e = moved-mask F n c h x x′ m good j e l h-lt (owner-named (has .valid) j l e)
+
+  give-moves : (j : ℕ) → j < gates c → isGive (gate c j) ≡ true
+      → MovedMask F n c h x x′ m good j (gate c j .second) (valueMove O n c h x x′ (gate c j .first))
+  give-moves j l g = moved-give F n c h x x′ m good j g l h-lt (second-fits (has .valid) j l (give-second (gate c j) g))
 
   triple-moves : (j : ℕ) → j < gates c → shape (gate c j) .class ≡ Opens
       → MovedTriple F n c h x x′ m good j (shape (gate c j) .openings) (gate c j .first) (factor (gate c j))
@@ -248,23 +260,42 @@ module _ {O : Ops} {F : Field O} (P : Pair F) where
         agrees-masked j _ (bAt (shape (gate c j) .openings)) l (factor-named (has .valid) j l e) (moves .at-b) (same .1),
       )
 
-  -- What an out gate shows.
-  pub agrees-shown : (j : ℕ) → j < gates c → shape (gate c j) .class ≡ Output → Agrees (Shown (gate c j .first))
-  unfolding opened openedValue
+  -- A wire whose value is the same.
+  agrees-wire : (y : ℕ) → y < gates c → SameValue (Shown y) → Agrees (Shown y)
+  unfolding opened
+  agrees-wire y l s =
+      record { same = s; others = beside y l; low = reduced J (has .valid) y l h; low′ = reduced J′ (has′ .valid) y l h }
+
+  -- What an output shows: of an out gate a value that is the same, of a give a value behind a mask that moves with it.
+  pub agrees-shown : (j : ℕ) → j < gates c → shape (gate c j) .class ≡ Output → Agrees (shows j (gate c j))
+  unfolding shows
   agrees-shown j l e =
-      let y = gate c j .first in
-      let ref = output-named (has .valid) j l e in
-      record {
-        same =
-            record {
-              carries = carries-shown F J has j l e;
-              carries′ = carries-shown F J′ has′ j l e;
-              values = plain-value O n c (match O n c h x x′ m) x′ co ns y ∙ outputs j l e ∙ sym (plain-value O n c m x co ns y);
-            };
-        others = beside y (omega (arith, ref .earlier));
-        low = reduced J (has .valid) y (omega (arith, ref .earlier)) h;
-        low′ = reduced J′ (has′ .valid) y (omega (arith, ref .earlier)) h;
-      }
+      by-cases (isGive (gate c j))
+      (λ g. rw g
+      (let moves = give-moves j l g .mask in
+      agrees-masked j y maskAt l ref moves
+      (record { carries = rw g at here; carries′ = rw g at there; values = same-masked j y maskAt moves })))
+      (λ g. rw g
+      (agrees-wire y (omega (arith, ref .earlier))
+      (record {
+        carries = rw g at here;
+        carries′ = rw g at there;
+        values =
+            unfold openedValue in
+            plain-value O n c (match O n c h x x′ m) x′ co ns y ∙ outputs j l e g ∙ sym (plain-value O n c m x co ns y);
+      })))
+    where
+      y : ℕ
+      y = gate c j .first
+
+      ref : Ref c j y
+      ref = output-named (has .valid) j l e
+
+      here : CarriesOpened F J has (shows j (gate c j))
+      here = carries-shown F J has j l e
+
+      there : CarriesOpened F J′ has′ (shows j (gate c j))
+      there = carries-shown F J′ has′ j l e
 
   -- All that is opened and unchecked when a gate is reached.
   pub agrees-openings : (j : ℕ) → j ≤ gates c → Every Agrees (openings c j)
