@@ -3,7 +3,7 @@
 -- Assumes nothing.
 use Prim.Native.Nat.{ℕ, zero, suc, _+_, _*_, _<_}
 use mathlib.Core.Path.{_≡_, refl, sym, ap, ap₂, subst, _∙_}
-use mathlib.Core.Bool.{true, false, cond}
+use mathlib.Core.Bool.{Bool, true, false, cond}
 use mathlib.Core.List.{List, [], _∷_, _++_, append-assoc, append-nil}
 use native.Mathlib.Omega.{arith}
 use lib.ListN.{length, drop, length-append, length-drop, take-append-drop}
@@ -15,7 +15,8 @@ use Rattle.algebra.specs.Field.{Field}
 use Rattle.field.specs.Words.{ops}
 use Rattle.field.proofs.Laws.{laws}
 use Rattle.circuit.specs.Verdict.{Accepted, ask, _then_, elements}
-use Rattle.circuit.specs.Gate.{gate}
+use Rattle.circuit.specs.Gate.{Gate, gate}
+use Rattle.circuit.specs.Kind.{isGive, seenBy, alone, receiver}
 use Rattle.circuit.specs.Count.{unchecked}
 use Rattle.circuit.specs.Round.{First, Second, Round, Own, Open, Commit, Reveal, isCommit, words}
 use Rattle.circuit.specs.Round.{openedIn, coefficientsIn, nonceIn, nonceSize, coefficientCount, checkCount}
@@ -26,14 +27,14 @@ use Rattle.protocol.specs.Scratch.{layout, scratchSize, Value, read}
 use Rattle.protocol.specs.Position.{Position, Stage, Send, Receive, Finished, Aborted, holding, aborted, start, follow, keep, mayHold, whenReceiving}
 use Rattle.protocol.specs.Party.{Party}
 use Rattle.protocol.specs.Send.{sent, holds, noted}
-use Rattle.protocol.specs.Receive.{Ruling, passed, next, finds, left}
+use Rattle.protocol.specs.Receive.{Ruling, passed, score, scored, next, finds, left}
 use Rattle.protocol.specs.Ready.{HeardLow}
 use Rattle.protocol.specs.Holding.{Below, Worked}
 use Rattle.protocol.specs.Ask.{askLent, askSend, askReceive}
 use Rattle.protocol.specs.Entry.{Answer, Next, answer, releases, openAnswer, nextPosition, concludes, outcome}
 use Rattle.protocol.specs.Joint.{Joint, joined, party, nonceFor}
 use Rattle.protocol.specs.Run.{State, Run, begun, takes, taken, said, notes, ends, step, released, still, run}
-use Rattle.circuit.proofs.Tests.{false-no}
+use Rattle.circuit.proofs.Tests.{false-no, both-left, both-right}
 use Rattle.protocol.proofs.Points.{FitsStage, spentStage, fits-follow, spent-le}
 use Rattle.protocol.proofs.Writing.{OpenedTo}
 use Rattle.protocol.proofs.Keeping.{Stood, stood-room}
@@ -46,14 +47,15 @@ use Rattle.protocol.proofs.Said.{length-sent, below-part, sent-low}
 use Rattle.theorems.specs.Premises.{Accepts, Enough, after}
 use Rattle.theorems.specs.Binding.{sendingAt, receivingAt}
 use Rattle.theorems.specs.Apart.{Apart, partyIn, Local, moved, outputsIn, Unrefused, opens, sends, writes, receives, written, heardIn, round, apart, spoken}
-use Rattle.theorems.specs.Apart.{jointly, bands, told, Meets, Together}
-use Rattle.theorems.proofs.Calls.{localAt, sends-is, writes-is, receives-is, answering, concludes-is, outcome-told, outcome-outputs, outcome-unrefused}
+use Rattle.theorems.specs.Apart.{jointly, bands, told, releasedTo, outputsTo, Meets, Together}
+use Rattle.theorems.proofs.Calls.{releasesTo, scored-alike, localAt, sends-is, writes-is, receives-is, freed, freed-to, answering, concludes-is}
+use Rattle.theorems.proofs.Calls.{outcome-told, outcome-outputs, outcome-unrefused}
 use Rattle.theorems.proofs.Calls.{outputs-append, unrefused-append}
 use Rattle.theorems.proofs.Sealing.{Over, Course, going, over, going-at, taking, Kept, kept-step, kept-begun, said-long, finds-ends}
 use Rattle.theorems.proofs.Abort.{round-names}
 use Rattle.theorems.proofs.Standing.{isSecond, checksOutput, ShownAlike, Sound, stood, stood-noted, handedNonce, handed-long, notes-handed, holds-low, holds-none, sound-step, sound-begun}
 use Rattle.theorems.proofs.Joined.{circuit-valid, circuit-accepted, parties-accepted, scratch-long, party-is, band-is, bands-room}
-use Rattle.theorems.proofs.Runs.{Idle, when-idle, longer, first, last-first, first-longer, first-idle, after-step, after-idle}
+use Rattle.theorems.proofs.Runs.{Idle, when-idle, longer, first, last-first, first-longer, first-idle, after-step, after-idle, outputs-step, outputs-idle, listed}
 
 -- An ended run sends nothing.
 over-idle : (g : Stage) → Over g → Idle g
@@ -99,6 +101,11 @@ releases-checks (Commit k) h = false-no h
 releases-checks (Reveal First) h = false-no h
 releases-checks (Reveal Second) h = refl
 
+-- Who sees a give's score is its receiver.
+sees-own : (g : Gate) (i : ℕ) → isGive g ≡ true → seenBy (alone i) g ≡ true → i ≡ receiver g
+unfolding seenBy receiver
+sees-own g i e h = rw e (sym (eqb-true (g .second) i (rw e at h)))
+
 -- A nonce does not matter but at a commitment, and neither do coefficients.
 sent-handed : (O : Ops) (P : Party) (l : List ℕ) (j held : ℕ) (co nonce : List ℕ) (r : Round)
     → sent O P l j held co (cond (isCommit r) nonce []) r ≡ sent O P l j held co nonce r
@@ -136,7 +143,7 @@ module _ {O : Ops} (F : Field O) (D : Apart) (cs ns : List ℕ) (ok : Meets O D 
     position : apart O D k i .position ≡ holding (state k .point) (state k .held i)
     scratch : apart O D k i .scratch ≡ state k .scratch i ++ excess i
     unrefused : Unrefused (apart O D k i .answers)
-    outputs : outputsIn (apart O D k i .answers) ≡ first O J (bands D) k .outputs
+    outputs : outputsIn (apart O D k i .answers) ≡ outputsTo O J (bands D) (alone i) k
 
   -- the invariant
   record Inv (k : ℕ) : Type 0 where
@@ -352,12 +359,12 @@ module _ {O : Ops} (F : Field O) (D : Apart) (cs ns : List ℕ) (ok : Meets O D 
       then-at = nextPosition O (partyIn D i) j (holding-now i h) r ending
 
       abbrev tells : Answer
-      tells = answering (releases r) ending (read (layout (D .circuit)) l′ (Value 0)) then-at
+      tells = answering (releasesTo (partyIn D i) j r) ending (scored O (partyIn D i) l′ j) then-at
 
       outcome-is : outcome O (partyIn D i) l′ j (holding-now i h) heard r ≡ tells
       unfolding outcome
       outcome-is =
-          ap (concludes O (partyIn D i) (read (layout (D .circuit)) l′ (Value 0)) j (holding-now i h) r) finds-is
+          ap (concludes O (partyIn D i) (scored O (partyIn D i) l′ j) j (holding-now i h) r) finds-is
           ∙ concludes-is O (partyIn D i) _ j (holding-now i h) r ending
 
       -- the answers of the round
@@ -398,19 +405,39 @@ module _ {O : Ops} (F : Field O) (D : Apart) (cs ns : List ℕ) (ok : Meets O D 
           ∙ ap (λ (Q : Party). left O Q ending (noted-band i h) j r heard ++ excess i) (sym (same i h))
           ∙ ap (λ (s : State). s .scratch i ++ excess i) (sym next-state)
 
-      -- The value that the round checks is the same at all parties.
-      value-is : releases r ≡ true → read (layout (D .circuit)) l′ (Value 0) ≡ read (layout (D .circuit)) (state k .scratch 0) (Value 0)
+      -- The value that the round checks is what the joint run's scratch has, at all parties the same.
+      value-is : releases r ≡ true → read (layout (D .circuit)) l′ (Value 0) ≡ read (layout (D .circuit)) (state k .scratch i) (Value 0)
       value-is z =
           value-front (layout (D .circuit)) (excess i) (noted-band i h) 0 (stood-room (noted-asks i h))
           (unfold layout in omega (arith, unchecked-fits (D .circuit) j (omega (arith, fits .0))))
           ∙ ap (λ (x : List ℕ). read (layout (D .circuit)) x (Value 0)) (unnoted r z)
-          ∙ subst (λ (g : Stage). ShownAlike (D .circuit) g (state k .scratch i) (state k .scratch 0)) e (fine i h .alike) (releases-checks r z)
         where
           unnoted : (r : Round) → releases r ≡ true → notes O J (state k) r i ≡ state k .scratch i
           unnoted Own z = false-no z
           unnoted Open z = false-no z
           unnoted (Commit x) z = false-no z
           unnoted (Reveal x) z = unfold notes noted in refl
+
+      alike : releases r ≡ true → read (layout (D .circuit)) (state k .scratch i) (Value 0) ≡ read (layout (D .circuit)) (state k .scratch 0) (Value 0)
+      alike z = subst (λ (g : Stage). ShownAlike (D .circuit) g (state k .scratch i) (state k .scratch 0)) e (fine i h .alike) (releases-checks r z)
+
+      -- the party whose score the joint run lists
+      abbrev listing : ℕ
+      listing = receiver (gate (D .circuit) j)
+
+      -- A score that the party sees is the one that the joint run lists: its own, or that of an out gate, which all have.
+      score-is : releasesTo (partyIn D i) j r ≡ true → scored O (partyIn D i) l′ j ≡ scored O (party J listing) (state k .scratch listing) j
+      score-is z =
+          scored-alike O (partyIn D i) (state k .scratch i) l′ j (value-is (both-left (releases r) _ z))
+          ∙ ap (λ (Q : Party). scored O Q (state k .scratch i) j) (sym (same i h))
+          ∙ listed-is (isGive (gate (D .circuit) j)) refl
+        where
+          listed-is : (b : Bool) → isGive (gate (D .circuit) j) ≡ b
+              → scored O (party J i) (state k .scratch i) j ≡ scored O (party J listing) (state k .scratch listing) j
+          listed-is true b =
+              ap (λ (t : ℕ). scored O (party J t) (state k .scratch t) j)
+              (sees-own (gate (D .circuit) j) i b (both-right (releases r) _ z))
+          listed-is false b = unfold scored score receiver party in rw b (alike (both-left (releases r) _ z))
 
       -- A round that passes leads to no abort, and one that does not to one.
       live : passed ending ≡ true → then-at .stage ≡ Aborted → ⊥
@@ -424,23 +451,27 @@ module _ {O : Ops} (F : Field O) (D : Apart) (cs ns : List ℕ) (ok : Meets O D 
       unfolding nextPosition next holding aborted
       dead z = rw z
 
-      -- So the party is told what the joint run releases, or that it is aborted.
-      tells-is : tells ≡ told (released O J (state k) r) (holding (state (suc k) .point) (state (suc k) .held i))
-      unfolding released
+      -- What is released to the party is what the joint run releases, if the party sees it.
+      freed-is : freed (releasesTo (partyIn D i) j r) (passed ending) (scored O (party J listing) (state k .scratch listing) j)
+          ≡ releasedTo O J (alone i) (state k) r
+      unfolding releasedTo released
+      freed-is = freed-to (releases r) (seenBy (alone i) (gate (D .circuit) j)) (passed ending) _
+
+      -- So the party is told that, or that the run is aborted.
+      tells-is : tells ≡ told (releasedTo O J (alone i) (state k) r) (holding (state (suc k) .point) (state (suc k) .held i))
       tells-is =
-          outcome-told (releases r) ending _ _ then-at (round-names O J (bands D) accepted enough k r e) value-is live dead
-          ∙ ap (told (released O J (state k) r)) then-is
+          outcome-told (releasesTo (partyIn D i) j r) ending _ _ then-at (round-names O J (bands D) accepted enough k r e) score-is live dead
+          ∙ ap₂ told freed-is then-is
 
       -- The party's outputs grow by what is released.
-      tells-outputs : outputsIn both ≡ released O J (state k) r
-      unfolding outputsIn released
-      tells-outputs = outcome-outputs (releases r) ending _ _ then-at value-is
+      tells-outputs : outputsIn both ≡ releasedTo O J (alone i) (state k) r
+      unfolding outputsIn
+      tells-outputs = outcome-outputs (releasesTo (partyIn D i) j r) ending _ _ then-at score-is ∙ freed-is
 
       tells-unrefused : Unrefused both
-      tells-unrefused = outcome-unrefused (releases r) ending _ then-at
+      tells-unrefused = outcome-unrefused (releasesTo (partyIn D i) j r) ending _ then-at
 
       matches-next : Matches (suc k) i
-      unfolding longer
       matches-next =
           record {
             position = ap (λ (a : Local). a .position) turned ∙ then-is;
@@ -451,9 +482,8 @@ module _ {O : Ops} (F : Field O) (D : Apart) (cs ns : List ℕ) (ok : Meets O D 
             outputs =
                 ap (λ (a : Local). outputsIn (a .answers)) turned
                 ∙ outputs-append (apart O D k i .answers) both
-                ∙ ap₂ {C = List ℕ} (λ (x y : List ℕ). x ++ y) (inv .local i h .outputs)
-                (tells-outputs ∙ ap (λ (s : State). released O J s r) (sym (last-first O J (bands D) k)))
-                ∙ ap (λ (R : Run). R .outputs) (sym (first-longer O J (bands D) k r e));
+                ∙ ap₂ {C = List ℕ} (λ (x y : List ℕ). x ++ y) (inv .local i h .outputs) tells-outputs
+                ∙ sym (outputs-step O J (bands D) (alone i) k r e);
           }
 
     -- A round keeps the invariant.
@@ -518,7 +548,7 @@ module _ {O : Ops} (F : Field O) (D : Apart) (cs ns : List ℕ) (ok : Meets O D 
                 outputs =
                     ap (λ (a : Local). outputsIn (a .answers)) (resting i h)
                     ∙ inv .local i h .outputs
-                    ∙ ap (λ (R : Run). R .outputs) (sym same-run);
+                    ∙ sym (outputs-idle O J (bands D) (alone i) k (over-idle (state k .point .stage) end));
               };
           transcript =
               ap (λ (ws : List ℕ). spoken O D k ++ ws) silent
@@ -535,7 +565,7 @@ module _ {O : Ops} (F : Field O) (D : Apart) (cs ns : List ℕ) (ok : Meets O D 
       ap (λ (a : Answer). localAt (moved (holding (aborted 0) 0) a) (D .scratch i) (a ∷ [])) a
 
   inv-begun : Inv 0
-  unfolding after begun run still spoken outputsIn
+  unfolding after begun run still spoken outputsIn outputsTo
   inv-begun =
       record {
         kept = kept-begun O J (bands D) enough v;
@@ -593,6 +623,7 @@ together {O} F D cs ns ok =
           (tells-is F D cs ns ok k (inv-after F D cs ns ok k) r e fits used i h));
       over = λ k i h none. rests k i h none (inv-after F D cs ns ok k .kept .course);
       outputs = λ k i h. inv-after F D cs ns ok k .local i h .outputs;
+      listed = listed O (jointly D cs ns) (bands D);
     }
   where
     rests : (k i : ℕ) → i < D .parties → ((r : Round) → after O (jointly D cs ns) (bands D) k .point .stage ≡ Send r → ⊥)

@@ -13,6 +13,7 @@ use Rattle.algebra.specs.Field.{Field}
 use Rattle.field.specs.Words.{ops}
 use Rattle.field.proofs.Laws.{laws}
 use Rattle.circuit.specs.Verdict.{Accepted}
+use Rattle.circuit.specs.Kind.{alone}
 use Rattle.circuit.specs.Count.{prepSize, inputCount}
 use Rattle.circuit.proofs.Verdicts.{ask-yes, then-right, then-both, elements-below, elements-all}
 use Rattle.protocol.specs.Position.{Point, finished, holding, mayHold}
@@ -37,7 +38,7 @@ use Rattle.theorems.specs.Apart.{Apart, partyIn, Local, opens, sends, re
 use Rattle.theorems.specs.ApartDemands.{Scored, GoodApart, Scores, matched, ComparedApart, AlikeApart, SecrecyApart}
 use Rattle.theorems.proofs.Runs.{first, last-first}
 use Rattle.theorems.proofs.Abort.{whole-first}
-use Rattle.theorems.proofs.Accuracy.{accuracy}
+use Rattle.theorems.proofs.Accuracy.{seen-are, accuracy}
 use Rattle.theorems.proofs.Secrecy.{SameFirst, same-first, secrecy}
 use Rattle.theorems.proofs.Joined.{length-inputs, inputs-joined, passed, circuit-accepted, parties-accepted, circuit-valid, prep-long, inputs-long, scratch-long}
 use Rattle.theorems.proofs.Apart.{enough, held-free, together}
@@ -79,7 +80,7 @@ module _ {O : Ops} (F : Field O) (D : Apart) (cs ns : List ℕ) (ok : Meets O D 
         ∙ ap (λ (R : Run). R .last .point) (sym (whole-first O J (bands D) accepts))
         ∙ accurate .finishes
 
-    -- So every party is finished, and its outputs are the scores.
+    -- So every party is finished, and its outputs are the scores that it sees.
     scored : Scored O D cs ns
     scored =
         record {
@@ -88,8 +89,7 @@ module _ {O : Ops} (F : Field O) (D : Apart) (cs ns : List ℕ) (ok : Meets O D 
               ∙ ap₂ holding finished-then (held-free F D cs ns ok (roundFormula (D .circuit)) i h (rw finished-then (unfold mayHold finished in refl)));
           outputs =
               λ i h. together F D cs ns ok .outputs (roundFormula (D .circuit)) i h
-              ∙ ap (λ (R : Run). R .outputs) (sym (whole-first O J (bands D) accepts))
-              ∙ accurate .outputs;
+              ∙ seen-are F J (bands D) honest (alone i) (roundFormula (D .circuit)) finished-then;
         }
 
     module _ (A : ℕ → Bool) (inputs′ : ℕ → List ℕ) (is : ComparedApart O D A inputs′) where

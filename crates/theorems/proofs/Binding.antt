@@ -22,15 +22,16 @@ use Rattle.sha256.specs.Digest.{bytes, digest}
 use Rattle.sha256.specs.Digest.Laws.{digest-is, digest-long}
 use Rattle.sha256.proofs.Bytes.{words-back, length-bytes, length-words, words-low, bytes-back}
 use Rattle.circuit.specs.Verdict.{Accepted}
-use Rattle.circuit.specs.Gate.{gates}
+use Rattle.circuit.specs.Gate.{gate, gates}
+use Rattle.circuit.specs.Kind.{seenBy, alone}
 use Rattle.circuit.specs.Round.{Check, First, Second, Commit, Reveal, commitWords, nonceWords, revealWords, rounds, among, shapeWords, nonceIn}
 use Rattle.circuit.proofs.Tests.{both-left, both-right}
 use Rattle.circuit.proofs.Verdicts.{ask-true, then-left, then-right}
 use Rattle.protocol.specs.Scratch.{Layout, layout, scratchSize, read, Value, band, nonceOf, marksOf, putNonce, putMarks}
-use Rattle.protocol.specs.Position.{Position, Point, Send, Receive, holding, aborted, follow, keep, stageOccurs, mayHold, occurs, whenSending, whenReceiving}
+use Rattle.protocol.specs.Position.{Position, Point, Receive, holding, aborted, follow, keep, stageOccurs, mayHold, occurs, whenSending, whenReceiving}
 use Rattle.protocol.specs.Party.{Party}
 use Rattle.protocol.specs.Send.{revealed, mark, overwrite, sent, holds, noted}
-use Rattle.protocol.specs.Receive.{Blame, Nobody, Blames, Ruling, Passed, Stopped, misfit, weighs, ruling, next, received, finds, left}
+use Rattle.protocol.specs.Receive.{Blame, Nobody, Blames, Ruling, Passed, Stopped, misfit, weighs, ruling, next, received, scored, finds, left}
 use Rattle.protocol.specs.Ask.{askLent, askSendRound, askReceiveRound, askSend, askReceive}
 use Rattle.protocol.specs.Entry.{Answer, Next, Output, Abort, answer, leave, sendAnswer, sendOut, sendScratch, nextPosition, concludes, outcome, receiveAnswer, receiveScratch}
 use Rattle.protocol.proofs.Following.{follow-is}
@@ -41,6 +42,7 @@ use Rattle.protocol.proofs.Tails.{marks-room, nonce-room, nonce-length, nonce-p
 use Rattle.theorems.specs.Binding.{sendingAt, receivingAt, stoppedAt, Fits, checkSum, Decides, goesOn, RevealDecides, Collides, marked, revealing, lastAnswer, Unrefused, Altered, Changes, FoundOut, Alterable, Binding, ownShare, noting, hearing, Speaks, KeepsTo, Keeping}
 use Rattle.theorems.proofs.Fitting.{none-found, all-fit, lowest-found, found-lowest}
 use Rattle.theorems.proofs.Holds.{room-one}
+use Rattle.theorems.proofs.Calls.{scored-alike}
 
 module _ (O : Ops) (n : ℕ) (marks heard : List ℕ) where
   -- how a reveal ends, with what is answered then
@@ -92,20 +94,36 @@ module _ (O : Ops) (n : ℕ) (marks heard : List ℕ) where
       }
 
 -- A check that passes is no abort.
-goes-on-live : (P : Party) (l : List ℕ) (j : ℕ) (k : Check) (b : Blame) → goesOn P l j k ≡ Abort b (stoppedAt j) → ⊥
-goes-on-live P l j First b e = let z : _≡_ {A = ℕ} 0 1 = cc in omega arith
-goes-on-live P l j Second b e = let z : _≡_ {A = ℕ} 0 1 = cc in omega arith
+goes-on-live : (O : Ops) (P : Party) (l : List ℕ) (j : ℕ) (k : Check) (b : Blame) → goesOn O P l j k ≡ Abort b (stoppedAt j) → ⊥
+goes-on-live O P l j First b e = let z : _≡_ {A = ℕ} 0 1 = cc in omega arith
+goes-on-live O P l j Second b e = go (seenBy (alone (P .me)) (gate (P .circuit) j)) _ _ e
+  where
+    go : (seen : Bool) (v : ℕ) (x : Position) → cond seen (Output v x) (Next x) ≡ Abort b (stoppedAt j) → ⊥
+    go true v x e = let z : _≡_ {A = ℕ} 0 1 = cc in omega arith
+    go false v x e = let z : _≡_ {A = ℕ} 0 1 = cc in omega arith
+
+-- Its answer depends on the scratch by the score alone.
+pub goes-on-alike : (O : Ops) (P : Party) (l l′ : List ℕ) (j : ℕ) (k : Check)
+    → read (layout (P .circuit)) l′ (Value 0) ≡ read (layout (P .circuit)) l (Value 0)
+    → goesOn O P l′ j k ≡ goesOn O P l j k
+goes-on-alike O P l l′ j First e = refl
+goes-on-alike O P l l′ j Second e =
+    ap
+    (λ (v : ℕ).
+    cond (seenBy (alone (P .me)) (gate (P .circuit) j)) (Output v (holding (follow (P .circuit) j (Reveal Second)) 0))
+    (Next (holding (follow (P .circuit) j (Reveal Second)) 0)))
+    (scored-alike O P l l′ j e)
 
 module _ (O : Ops) (P : Party) (l : List ℕ) (j held : ℕ) (k : Check) where
   -- the answer of a reveal that ends so
   abbrev concluded : Ruling → Answer
-  concluded v = concludes O P (read (layout (P .circuit)) l (Value 0)) j held (Reveal k) v
+  concluded v = concludes O P (scored O P l j) j held (Reveal k) v
 
-  concluded-on : concluded Passed ≡ goesOn P l j k
+  concluded-on : concluded Passed ≡ goesOn O P l j k
   unfolding concludes nextPosition next keep
   concluded-on = go k
     where
-      go : (k : Check) → concludes O P (read (layout (P .circuit)) l (Value 0)) j held (Reveal k) Passed ≡ goesOn P l j k
+      go : (k : Check) → concludes O P (scored O P l j) j held (Reveal k) Passed ≡ goesOn O P l j k
       go First = refl
       go Second = refl
 
@@ -123,11 +141,11 @@ module _ (O : Ops) (P : Party) (l : List ℕ) (j held : ℕ) (k : Check) where
     unfolding receiveAnswer answer whenReceiving outcome finds ruling
     answered = rw ok
 
-    ends : Ends O (P .parties) marks heard (stoppedAt j) (goesOn P l j k) (receiveAnswer O P l (receivingAt j (Reveal k) held) heard)
+    ends : Ends O (P .parties) marks heard (stoppedAt j) (goesOn O P l j k) (receiveAnswer O P l (receivingAt j (Reveal k) held) heard)
     ends = go (misfit (P .parties) marks heard) refl (eqb (checkSum O (P .parties) marks heard) 0) refl
       where
         go : (m : Blame) → misfit (P .parties) marks heard ≡ m → (b : Bool) → eqb (checkSum O (P .parties) marks heard) 0 ≡ b
-            → Ends O (P .parties) marks heard (stoppedAt j) (goesOn P l j k) (receiveAnswer O P l (receivingAt j (Reveal k) held) heard)
+            → Ends O (P .parties) marks heard (stoppedAt j) (goesOn O P l j k) (receiveAnswer O P l (receivingAt j (Reveal k) held) heard)
         go (Blames i) p b q = names i p (answered ∙ rw p (concluded-stops (Blames i)))
         go Nobody p true q = agrees p (eqb-true _ 0 q) (answered ∙ rw (p, q) concluded-on)
         go Nobody p false q = differs p (eqb-false _ 0 q) (answered ∙ rw (p, q) (concluded-stops Nobody))
@@ -135,7 +153,7 @@ module _ (O : Ops) (P : Party) (l : List ℕ) (j held : ℕ) (k : Check) where
 -- A party that hears a reveal is answered by the marks in its scratch, whatever they are.
 pub reveal-decides : (O : Ops) → RevealDecides O
 reveal-decides O P l j held k heard ok =
-    decided O (P .parties) _ heard (stoppedAt j) (goesOn P l j k) _ (goes-on-live P l j k) (ends O P l j held k heard ok)
+    decided O (P .parties) _ heard (stoppedAt j) (goesOn O P l j k) _ (goes-on-live O P l j k) (ends O P l j held k heard ok)
 
 module _ (O : Ops) (P : Party) (l : List ℕ) (j : ℕ) (k : Check) (coefficients nonce out ms out′ : List ℕ) (ok : Speaks O P l j k coefficients nonce out ms out′) where
   open Ops O using (size)
@@ -279,18 +297,12 @@ module _ (O : Ops) (P : Party) (l : List ℕ) (j held : ℕ) (k : Check) (room :
         ∙ read-marks (layout (P .circuit)) l (P .parties) ms marks-long (marks-room (P .parties) (P .circuit) space) (Value 0)
         (unfold layout in room-one (P .circuit))
 
-    goes-on-is : goesOn P (revealing O P l j held k room ms ws) j k ≡ goesOn P l j k
-    goes-on-is = go k
-      where
-        go : (c : Check) → goesOn P (revealing O P l j held k room ms ws) j c ≡ goesOn P l j c
-        go First = refl
-        go Second = ap (λ (v : ℕ). Output v (holding (follow (P .circuit) j (Reveal Second)) 0)) value-is
-
-    hears-reveal : Decides O (P .parties) ms ws (stoppedAt j) (goesOn P l j k) (lastAnswer O P l j held k room ms ws)
+    hears-reveal : Decides O (P .parties) ms ws (stoppedAt j) (goesOn O P l j k) (lastAnswer O P l j held k room ms ws)
     hears-reveal =
-        subst (λ (on : Answer). Decides O (P .parties) ms ws (stoppedAt j) on (lastAnswer O P l j held k room ms ws)) goes-on-is
+        subst (λ (on : Answer). Decides O (P .parties) ms ws (stoppedAt j) on (lastAnswer O P l j held k room ms ws))
+        (goes-on-alike O P l _ j k value-is)
         (subst
-        (λ (marks : List ℕ). Decides O (P .parties) marks ws (stoppedAt j) (goesOn P (revealing O P l j held k room ms ws) j k) (lastAnswer O P l j held k room ms ws))
+        (λ (marks : List ℕ). Decides O (P .parties) marks ws (stoppedAt j) (goesOn O P (revealing O P l j held k room ms ws) j k) (lastAnswer O P l j held k room ms ws))
         marks-are
         (reveal-decides O P (revealing O P l j held k room ms ws) j 0 k ws (ok .hears-reveal)))
 

@@ -10,17 +10,29 @@ use lib.Seq.{take-at}
 use Rattle.algebra.specs.Ops.{Ops}
 use Rattle.circuit.specs.Verdict.{Accepted}
 use Rattle.circuit.specs.Gate.{gate}
+use Rattle.circuit.specs.Kind.{seenBy, alone}
 use Rattle.circuit.specs.Round.{Round, words}
 use Rattle.protocol.specs.Scratch.{layout, Value, read}
 use Rattle.protocol.specs.Position.{Position, Stage, Send, Receive, Finished, Aborted, whenSending, whenReceiving}
 use Rattle.protocol.specs.Party.{Party}
 use Rattle.protocol.specs.Send.{overwrite, sent, holds, noted}
-use Rattle.protocol.specs.Receive.{Nobody, Blames, Ruling, Passed, Stopped, passed, finds, left}
+use Rattle.protocol.specs.Receive.{Nobody, Blames, Ruling, Passed, Stopped, passed, score, scored, finds, left}
 use Rattle.protocol.specs.Run.{blamed}
 use Rattle.protocol.specs.Ask.{askSend, askReceive}
 use Rattle.protocol.specs.Entry.{Answer, Refusal, Next, Output, Abort, answer, leave, releases, sendAnswer, sendOut, sendScratch, nextPosition, concludes, outcome, receiveAnswer, receiveScratch}
 use Rattle.theorems.specs.Binding.{sendingAt, receivingAt}
 use Rattle.theorems.specs.Apart.{Local, moved, unlessRefused, sends, writes, receives, toldOutput, toldAt, told, outputsIn, Unrefused}
+
+-- does round r of gate j release a score that party P sees?
+abbrev pub releasesTo : Party → ℕ → Round → Bool
+releasesTo P j r = releases r && seenBy (alone (P .me)) (gate (P .circuit) j)
+
+-- A score depends on the scratch by the number at opened index 0 alone.
+pub scored-alike : (O : Ops) (P : Party) (l l′ : List ℕ) (j : ℕ)
+    → read (layout (P .circuit)) l′ (Value 0) ≡ read (layout (P .circuit)) l (Value 0)
+    → scored O P l′ j ≡ scored O P l j
+unfolding scored score
+scored-alike O P l l′ j e = rw e
 
 -- a party between two calls
 abbrev pub localAt : Position → List ℕ → List Answer → Local
@@ -77,12 +89,12 @@ module _ (O : Ops) (P : Party) (l : List ℕ) (j held : ℕ) (r : Round) (answer
     unfolding outcome
     moved-is = go ending
       where
-        on : (z : Bool) (x : Position) → moved (receivingAt j r held) (cond z (Output (read (layout (P .circuit)) l (Value 0)) x) (Next x)) ≡ x
+        on : (z : Bool) (x : Position) → moved (receivingAt j r held) (cond z (Output (scored O P l j) x) (Next x)) ≡ x
         on true x = unfold moved in refl
         on false x = unfold moved in refl
 
-        go : (v : Ruling) → moved (receivingAt j r held) (concludes O P (read (layout (P .circuit)) l (Value 0)) j held r v) ≡ nextPosition O P j held r v
-        go Passed = unfold concludes in on (releases r) (nextPosition O P j held r Passed)
+        go : (v : Ruling) → moved (receivingAt j r held) (concludes O P (scored O P l j) j held r v) ≡ nextPosition O P j held r v
+        go Passed = unfold concludes in on (releasesTo P j r) (nextPosition O P j held r Passed)
         go (Stopped b) = unfold concludes moved in refl
 
     -- Receiving leads there, with the scratch worked out.
@@ -93,7 +105,7 @@ module _ (O : Ops) (P : Party) (l : List ℕ) (j held : ℕ) (r : Round) (answer
         ap₂ (λ (a : Answer) (l′ : List ℕ). localAt (moved (receivingAt j r held) a) l′ (answers ++ (a ∷ []))) receive-answer receive-scratch
         ∙ ap (λ (x : Position). localAt x (left O P ending l j r heard) (answers ++ (outcome O P l j held heard r ∷ []))) moved-is
 
--- what a round releases, where v is the value that it checked
+-- what a round releases, where v is the score that it checked
 abbrev pub freed : Bool → Bool → ℕ → List ℕ
 freed releases passes v = cond (releases && passes) (v ∷ []) []
 
@@ -105,13 +117,20 @@ told-live (Receive r) outputs x live = refl
 told-live Finished outputs x live = refl
 told-live Aborted outputs x live = absurd (live refl)
 
--- what a round is answered that ends so and leads to x, where u is the value that it checked
+-- What it releases to those who see it.
+pub freed-to : (releases seen passes : Bool) (v : ℕ) → freed (releases && seen) passes v ≡ cond seen (freed releases passes v) []
+freed-to true true passes v = refl
+freed-to true false passes v = refl
+freed-to false true passes v = refl
+freed-to false false passes v = refl
+
+-- what a round is answered that ends so and leads to x, where u is the score that it checked
 abbrev pub answering : Bool → Ruling → ℕ → Position → Answer
 answering releases Passed u x = cond releases (Output u x) (Next x)
 answering releases (Stopped b) u x = Abort b x
 
 pub concludes-is : (O : Ops) (P : Party) (u j held : ℕ) (r : Round) (v : Ruling)
-    → concludes O P u j held r v ≡ answering (releases r) v u (nextPosition O P j held r v)
+    → concludes O P u j held r v ≡ answering (releasesTo P j r) v u (nextPosition O P j held r v)
 unfolding concludes
 concludes-is O P u j held r Passed = refl
 concludes-is O P u j held r (Stopped b) = refl

@@ -13,10 +13,10 @@ use Rattle.field.proofs.Laws.{laws}
 use Rattle.sha256.specs.Sha256.{wordsOf}
 use Rattle.sha256.proofs.Bytes.{length-words}
 use Rattle.circuit.specs.Verdict.{Verdict, Accepted, Refused}
-use Rattle.circuit.specs.Round.{Check, First, Second, Round, Commit, Reveal, nonceWords, coefficientsIn, nonceIn}
+use Rattle.circuit.specs.Round.{Check, Round, Commit, Reveal, nonceWords, coefficientsIn, nonceIn}
 use Rattle.circuit.proofs.Verdicts.{ask-true, then-left, then-right}
 use Rattle.protocol.specs.Scratch.{layout, read, Value}
-use Rattle.protocol.specs.Position.{Stage, Send, Receive, Finished, Aborted, holding, follow, whenSending, whenReceiving}
+use Rattle.protocol.specs.Position.{Stage, Send, Receive, Finished, Aborted, whenSending, whenReceiving}
 use Rattle.protocol.specs.Party.{Party}
 use Rattle.protocol.specs.Send.{holds, noted}
 use Rattle.protocol.specs.Ask.{askLent, askSendRound, askSend, askReceive}
@@ -26,11 +26,11 @@ use Rattle.protocol.proofs.Tails.{nonce-room, read-nonce}
 use Rattle.protocol.proofs.Words.{joined-ext}
 use Rattle.theorems.specs.Apart.{Apart, partyIn, Local, moved, Unrefused, sends, writes, receives, written, heardIn, round, apart}
 use Rattle.theorems.specs.Binding as Binding
-use Rattle.theorems.specs.Binding.{sendingAt, receivingAt, stoppedAt, Decides, goesOn, marked, revealing, lastAnswer}
+use Rattle.theorems.specs.Binding.{sendingAt, receivingAt, stoppedAt, Decides, lastAnswer}
 use Rattle.theorems.specs.Transit.{transit, hearsIn, Commits, shareIn, Ruled, InTransit, Unaltered}
 use Rattle.theorems.proofs.Holds.{room-one}
 use Rattle.theorems.proofs.Calls.{localAt, sends-is}
-use Rattle.theorems.proofs.Binding.{hears-commit, alterable, binding}
+use Rattle.theorems.proofs.Binding.{goes-on-alike, hears-commit, alterable, binding}
 
 -- Of answers that are no refusals, neither the first are nor the last.
 unrefused-front : (xs ys : List Answer) → Unrefused (xs ++ ys) → Unrefused xs
@@ -274,19 +274,12 @@ module _ {O : Ops} (F : Field O) (D : Apart) (way : ℕ → ℕ → List ℕ →
       (nonce-room (P .parties) (P .circuit) (lends (omega (arith, F .one-lt)) P l (then-left (askLent size P l) _ commit-asked) .room))
       (Value 0) (unfold layout in room-one (P .circuit))
 
-  goes-on : goesOn P l₁ j c ≡ goesOn P l j c
-  goes-on = go c value-noted
-    where
-      go : (c : Check) → read (layout (P .circuit)) l₁ (Value 0) ≡ read (layout (P .circuit)) l (Value 0) → goesOn P l₁ j c ≡ goesOn P l j c
-      go First e = refl
-      go Second e = ap (λ (v : ℕ). Output v (holding (follow (P .circuit) j (Reveal Second)) 0)) e
-
   pub ruled : Ruled O D way k i j c last
   ruled =
       record {
         answers = ap (λ (s : Local). s .answers) two-rounds ∙ answered ∙ joined-up;
         decides =
-            subst (λ (on : Answer). Decides O (P .parties) ms ws (stoppedAt j) on last) goes-on
+            subst (λ (on : Answer). Decides O (P .parties) ms ws (stoppedAt j) on last) (goes-on-alike O P l l₁ j c value-noted)
             (alterable F P l₁ j share c room ms ws unrefused .heard-reveal);
         binds = λ t share′ nonce changes. binding F P l₁ j share c room ms ws unrefused t share′ nonce changes;
       }
