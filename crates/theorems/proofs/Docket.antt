@@ -17,12 +17,13 @@ use Rattle.field.specs.Prime.Laws.{prime-is-modular}
 use Rattle.circuit.specs.Verdict.{Accepted}
 use Rattle.circuit.specs.Gate.{gate, gates}
 use Rattle.circuit.specs.Kind.{shape}
+use Rattle.circuit.proofs.Tests.{false-no}
 use Rattle.circuit.specs.Round.{First, Second, Open, Commit, Reveal, revealWords, commitsIn, checkCount}
-use Rattle.protocol.specs.Scratch.{layout, read, Value, band, marksOf}
+use Rattle.protocol.specs.Scratch.{layout, band, marksOf}
 use Rattle.protocol.specs.Position.{whenSending}
 use Rattle.protocol.specs.Party.{Party}
 use Rattle.protocol.specs.Send.{revealed, mark, overwrite, sent, holds}
-use Rattle.protocol.specs.Receive.{Nobody, weighs, heardSum}
+use Rattle.protocol.specs.Receive.{Nobody, weighs, heardSum, scored}
 use Rattle.protocol.specs.Ask.{askSend, askReceive}
 use Rattle.protocol.specs.Entry.{Abort, leave, sendAnswer, sendOut, concludes, receiveAnswer, receiveScratch}
 use Rattle.protocol.specs.Run.{State, begun}
@@ -53,7 +54,7 @@ unfolding computing modular
 good-records zero l = record { mask = refl; whole = refl }
 good-records (suc zero) l = record { mask = refl; whole = refl }
 good-records (suc (suc zero)) l = record { mac-a = refl; mac-b = refl; mac-c = refl; product = refl }
-good-records (suc (suc (suc zero))) l = tt
+good-records (suc (suc (suc zero))) l = λ e. false-no e
 good-records (suc (suc (suc (suc j)))) l = absurd (omega arith)
 
 -- The docket is accepted, and has nonces and scratch enough.
@@ -137,7 +138,7 @@ stops₁ =
 first-reveal : (marks heard : List ℕ)
     → askReceive (modular .size) party₀ (sealed modular party₀ (after₃ modular .scratch 0) First (1 ∷ 2 ∷ []) 10 marks) (receiving (Reveal First) 0) heard ≡ Accepted
     → firstReveal modular marks heard
-    ≡ concludes modular party₀ (read (layout circuit) (sealed modular party₀ (after₃ modular .scratch 0) First (1 ∷ 2 ∷ []) 10 marks) (Value 0)) 3 0 (Reveal First)
+    ≡ concludes modular party₀ (scored modular party₀ (sealed modular party₀ (after₃ modular .scratch 0) First (1 ∷ 2 ∷ []) 10 marks) 3) 3 0 (Reveal First)
     (weighs (misfits hashed 2 (marksOf 2 (layout circuit) (sealed modular party₀ (after₃ modular .scratch 0) First (1 ∷ 2 ∷ []) 10 marks)) heard)
     (eqb (heardSum modular 2 revealWords 0 heard) 0))
 unfolding firstReveal

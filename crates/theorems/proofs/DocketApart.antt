@@ -15,11 +15,13 @@ use Rattle.field.specs.Prime.{modular}
 use Rattle.field.specs.Prime.Laws.{prime-is-modular}
 use Rattle.circuit.specs.Verdict.{Accepted}
 use Rattle.circuit.specs.Gate.{gate}
+use Rattle.circuit.specs.Kind.{alone}
 use Rattle.circuit.specs.Round.{First, Second, Round, Own, Open, Commit, Reveal, isCommit, words, commitsIn, checkCount}
 use Rattle.protocol.specs.Position.{Stage, Send, Finished}
 use Rattle.protocol.specs.Ask.{askLent}
 use Rattle.protocol.specs.Joint.{Joint, nonceFor}
 use Rattle.protocol.specs.Run.{State, Run, begun, taken, run}
+use Rattle.protocol.specs.Plain.{scoresSeen}
 use Rattle.protocol.specs.Docket.{circuit, prep₀, prep₁, docket, room, nonce, docketWords}
 use Rattle.protocol.proofs.Computing.{computing}
 use Rattle.theorems.specs.Premises.{Accepts, Enough, after}
@@ -27,8 +29,9 @@ use Rattle.theorems.specs.Apart.{Apart, partyIn, outputsIn, apart, spoke
 use Rattle.theorems.proofs.Runs.{Idle, after-idle}
 use Rattle.theorems.proofs.Known.{hashed}
 use Rattle.theorems.proofs.Hashed.{runs, first-is, state-is, hashing}
-use Rattle.theorems.proofs.Docket.{accepts}
+use Rattle.theorems.proofs.Docket.{accepts, docket-table}
 use Rattle.theorems.proofs.Apart.{together-here}
+use Rattle.theorems.proofs.ApartDemands.{scores-apart-here}
 
 -- one thing for party 0 and another for party 1
 abbrev either : List ℕ → List ℕ → ℕ → List ℕ
@@ -166,20 +169,29 @@ docket-meets = subst (λ (O : Ops). Meets O docketApart (docket .coefficients) (
 abbrev eight : Ops → Run
 eight O = run O theDocket 8 (begun O theDocket (bands docketApart))
 
-eight-computed : (eight modular .transcript ≡ docketWords) × (eight modular .outputs ≡ 30 ∷ [])
+eight-computed : eight modular .transcript ≡ docketWords
 unfolding hashing modular bands
-eight-computed =
-    let e : eight modular ≡ runs hashed modular theDocket 8 (begun modular theDocket (bands docketApart)) =
-    first-is modular theDocket (bands docketApart) accepted has-enough 8 in
-    (ap (λ (R : Run). R .transcript) e, ap (λ (R : Run). R .outputs) e)
+eight-computed = ap (λ (R : Run). R .transcript) (first-is modular theDocket (bands docketApart) accepted has-enough 8)
 
-eight-is : (eight ops .transcript ≡ docketWords) × (eight ops .outputs ≡ 30 ∷ [])
-eight-is = subst (λ (O : Ops). (eight O .transcript ≡ docketWords) × (eight O .outputs ≡ 30 ∷ [])) (sym prime-is-modular) eight-computed
+eight-is : eight ops .transcript ≡ docketWords
+eight-is = subst (λ (O : Ops). eight O .transcript ≡ docketWords) (sym prime-is-modular) eight-computed
 
 -- So the two parties write the docket's words ..
 pub docket-words : spoken ops docketApart 8 ≡ docketWords
-docket-words = together-here docketApart (docket .coefficients) (docket .nonces) docket-meets .transcript 8 ∙ eight-is .0
+docket-words = together-here docketApart (docket .coefficients) (docket .nonces) docket-meets .transcript 8 ∙ eight-is
+
+-- the scores that party i sees
+seen-computed : (i : ℕ) → i < 2 → scoresSeen modular theDocket (alone i) 4 ≡ 30 ∷ []
+unfolding computing modular
+seen-computed zero h = refl
+seen-computed (suc zero) h = refl
+seen-computed (suc (suc i)) h = absurd (omega arith)
+
+seen-is : (i : ℕ) → i < 2 → scoresSeen ops theDocket (alone i) 4 ≡ 30 ∷ []
+seen-is i h = subst (λ (O : Ops). scoresSeen O theDocket (alone i) 4 ≡ 30 ∷ []) (sym prime-is-modular) (seen-computed i h)
 
 -- .. and each is told its score.
 pub docket-scores : (i : ℕ) → i < 2 → outputsIn (apart ops docketApart 8 i .answers) ≡ 30 ∷ []
-docket-scores i h = together-here docketApart (docket .coefficients) (docket .nonces) docket-meets .outputs 8 i h ∙ eight-is .1
+unfolding computing
+docket-scores i h =
+    scores-apart-here docketApart (docket .coefficients) (docket .nonces) docket-meets (docket-table .good) .outputs i h ∙ seen-is i h

@@ -24,7 +24,7 @@ use Rattle.theorems.proofs.Known.{hashed}
 use Rattle.theorems.proofs.Hashed.{runs, whole-is, answer-is, scratch-is, hashing}
 use Rattle.theorems.proofs.Docket.{accepts, docket-table}
 use Rattle.theorems.specs.Premises.{Enough}
-use Rattle.theorems.specs.Matching.{leftOut, addLists, only, plainly, inputMove, valueMove, moved, productMove, maskMove, recordMove, prepMove, match, rule}
+use Rattle.theorems.specs.Matching.{leftOut, addLists, only, plainly, inputMove, valueMove, moved, productMove, maskMove, maskRecordMove, recordMove, prepMove, match, rule}
 use Rattle.theorems.specs.Secrecy.{bandOf, Compared, Alike}
 use Rattle.theorems.specs.Example.{A, inputs₁, inputs₂, preps, matched, blank, unwritten, exampleRun, wordsOn, Example}
 use Rattle.theorems.proofs.Secrecy.{secrecy-here}
@@ -72,7 +72,7 @@ unfolding computing
 words m x = ap (λ (R : Run). R .transcript) (whole-is modular (exampleRun modular m x) rooms accepts (enough m x))
 
 computed : Example modular
-unfolding hashing modular leftOut addLists only plainly inputMove valueMove moved productMove maskMove recordMove prepMove match rule
+unfolding hashing modular leftOut addLists only plainly inputMove valueMove moved productMove maskMove maskRecordMove recordMove prepMove match rule
 computed =
     record {
       compared = compares;

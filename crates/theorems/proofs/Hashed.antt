@@ -11,15 +11,16 @@ use Rattle.algebra.specs.Ops.{Ops}
 use Rattle.sha256.specs.Sha256.{wordOf, wordsOf}
 use Rattle.sha256.specs.Digest.{digest, same}
 use Rattle.circuit.specs.Verdict.{Accepted}
-use Rattle.circuit.specs.Gate.{gates}
+use Rattle.circuit.specs.Gate.{gate, gates}
+use Rattle.circuit.specs.Kind.{receiver}
 use Rattle.circuit.specs.Round.{Check, Round, Own, Open, Commit, Reveal, isReveal, commitWords, revealWords, commitsIn, nonceIn, checkCount}
 use Rattle.circuit.proofs.Tests.{by-cases}
 use Rattle.circuit.proofs.Valid.{valid}
-use Rattle.protocol.specs.Scratch.{layout, scratchSize, Value, read, band, marksOf}
+use Rattle.protocol.specs.Scratch.{layout, scratchSize, band, marksOf}
 use Rattle.protocol.specs.Position.{Stage, Send, Receive, Finished, Aborted, keep, whenSending, whenReceiving}
 use Rattle.protocol.specs.Party.{Party}
 use Rattle.protocol.specs.Send.{revealed, mark, overwrite, sent, holds}
-use Rattle.protocol.specs.Receive.{Blame, Nobody, Blames, Ruling, Passed, passed, fits, firstBlame, misfit, weighs, heardSum, ruling, next, finds, left}
+use Rattle.protocol.specs.Receive.{Blame, Nobody, Blames, Ruling, Passed, passed, fits, firstBlame, misfit, weighs, heardSum, ruling, scored, next, finds, left}
 use Rattle.protocol.specs.Ask.{askReceive}
 use Rattle.protocol.specs.Entry.{answer, leave, releases, concludes, outcome, receiveAnswer}
 use Rattle.protocol.specs.Joint.{Joint, joined, party, nonceFor}
@@ -64,7 +65,9 @@ module _ (H : List ℕ → List ℕ) (O : Ops) (J : Joint) where
       }
 
   unfoldable pub freeing : State → Round → Ruling → List ℕ
-  freeing s r v = cond (releases r && passed v) (read (layout (J .circuit)) (s .scratch 0) (Value 0) ∷ []) []
+  freeing s r v =
+      let i = receiver (gate (J .circuit) (s .point .gate)) in
+      cond (releases r && passed v) (scored O (party J i) (s .scratch i) (s .point .gate) ∷ []) []
 
   unfoldable pub aheadOf : State → Round → List ℕ → Ruling → Run → Run
   aheadOf s r heard v rest =
@@ -174,13 +177,13 @@ misfit-is (suc n) marks heard =
 pub reveal-is : (O : Ops) (P : Party) (l : List ℕ) (j held : ℕ) (k : Check) (heard : List ℕ)
     → askReceive (O .size) P l (receivingAt j (Reveal k) held) heard ≡ Accepted
     → receiveAnswer O P l (receivingAt j (Reveal k) held) heard
-    ≡ concludes O P (read (layout (P .circuit)) l (Value 0)) j held (Reveal k)
+    ≡ concludes O P (scored O P l j) j held (Reveal k)
     (weighs (misfits hashed (P .parties) (marksOf (P .parties) (layout (P .circuit)) l) heard) (eqb (heardSum O (P .parties) revealWords 0 heard) 0))
 unfolding receiveAnswer answer whenReceiving outcome finds ruling
 reveal-is O P l j held k heard ok =
     rw ok
     (ap
-    (λ (b : Blame). concludes O P (read (layout (P .circuit)) l (Value 0)) j held (Reveal k) (weighs b (eqb (heardSum O (P .parties) revealWords 0 heard) 0)))
+    (λ (b : Blame). concludes O P (scored O P l j) j held (Reveal k) (weighs b (eqb (heardSum O (P .parties) revealWords 0 heard) 0)))
     (misfit-is (P .parties) _ heard ∙ ap (λ (H : List ℕ → List ℕ). misfits H (P .parties) (marksOf (P .parties) (layout (P .circuit)) l) heard) hash-is))
 
 -- The definitions that a run with its marks computes by.

@@ -26,6 +26,7 @@ pub mod Hashed
 pub mod Docket
 pub mod Example
 pub mod Squares
+pub mod Gives
 pub mod Calls
 pub mod Standing
 pub mod Joined

@@ -11,11 +11,12 @@ use Rattle.field.specs.Prime.Laws.{prime-is-modular}
 use Rattle.circuit.specs.Gate.{gate, gates}
 use Rattle.circuit.specs.Kind.{shape}
 use Rattle.circuit.specs.Round.{commitsIn, checkCount}
+use Rattle.circuit.proofs.Tests.{false-no}
 use Rattle.protocol.specs.Run.{Run, begun, whole}
 use Rattle.protocol.specs.Good.{GoodRecord}
 use Rattle.protocol.proofs.Computing.{computing}
 use Rattle.theorems.specs.Premises.{Accepts, Enough, after}
-use Rattle.theorems.specs.Matching.{leftOut, addLists, only, plainly, inputMove, valueMove, moved, productMove, maskMove, recordMove, prepMove, match, rule}
+use Rattle.theorems.specs.Matching.{leftOut, addLists, only, plainly, inputMove, valueMove, moved, productMove, maskMove, maskRecordMove, recordMove, prepMove, match, rule}
 use Rattle.theorems.specs.Secrecy.{bandOf}
 use Rattle.theorems.specs.Example.{A, blank, unwritten}
 use Rattle.theorems.specs.Squares.{circuit, preps, matched, inputs₁, inputs₂, rooms, squaring, Squares}
@@ -28,7 +29,7 @@ good-records : (j : ℕ) → j < gates circuit → GoodRecord modular 2 circuit 
 unfolding computing modular
 good-records zero l = record { mask = refl; whole = refl }
 good-records (suc zero) l = record { mac-a = refl; mac-b = refl; mac-c = refl; product = refl }
-good-records (suc (suc zero)) l = tt
+good-records (suc (suc zero)) l = λ e. false-no e
 good-records (suc (suc (suc j))) l = absurd (omega arith)
 
 accepts : Accepts modular 2 circuit
@@ -46,7 +47,7 @@ unfolding computing
 words m x = ap (λ (R : Run). R .transcript) (whole-is modular (squaring modular m x) rooms accepts (enough m x))
 
 computed : Squares modular
-unfolding hashing modular allBelow after leftOut addLists only plainly inputMove valueMove moved productMove maskMove recordMove prepMove match rule
+unfolding hashing modular allBelow after leftOut addLists only plainly inputMove valueMove moved productMove maskMove maskRecordMove recordMove prepMove match rule
 computed =
     record {
       good = record { long = refl; elements = below 2147483647 preps tt; records = good-records };
