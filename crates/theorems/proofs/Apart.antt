@@ -405,7 +405,7 @@ module _ {O : Ops} (F : Field O) (D : Apart) (cs ns : List ℕ) (ok : Meets O D 
           ∙ ap (λ (Q : Party). left O Q ending (noted-band i h) j r heard ++ excess i) (sym (same i h))
           ∙ ap (λ (s : State). s .scratch i ++ excess i) (sym next-state)
 
-      -- The value that the round checks is what the joint run's scratch has, at all parties the same.
+      -- The value that the round checks is the one in the joint run's scratch ..
       value-is : releases r ≡ true → read (layout (D .circuit)) l′ (Value 0) ≡ read (layout (D .circuit)) (state k .scratch i) (Value 0)
       value-is z =
           value-front (layout (D .circuit)) (excess i) (noted-band i h) 0 (stood-room (noted-asks i h))
@@ -418,6 +418,7 @@ module _ {O : Ops} (F : Field O) (D : Apart) (cs ns : List ℕ) (ok : Meets O D 
           unnoted (Commit x) z = false-no z
           unnoted (Reveal x) z = unfold notes noted in refl
 
+      -- .. and the same at all parties.
       alike : releases r ≡ true → read (layout (D .circuit)) (state k .scratch i) (Value 0) ≡ read (layout (D .circuit)) (state k .scratch 0) (Value 0)
       alike z = subst (λ (g : Stage). ShownAlike (D .circuit) g (state k .scratch i) (state k .scratch 0)) e (fine i h .alike) (releases-checks r z)
 

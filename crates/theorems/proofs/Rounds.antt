@@ -1,5 +1,5 @@
 -- How many rounds a run takes: document 01's formula is the number of rounds of the circuit, it is at most 766, and 766 is reached. Likewise
--- the numbers of words and of coefficients, and the lengths of preprocessing and scratch, by the circuit's in, mul, sq and out gates.
+-- the numbers of words and of coefficients, and the lengths of preprocessing and scratch, by the circuit's in, mul, sq, out and give gates.
 -- Assumes nothing.
 use Prim.Native.Nat.{ℕ, zero, suc, _+_, _-_, _*_, _≤_}
 use mathlib.Core.Path.{_≡_, refl, _∙_}
@@ -227,7 +227,7 @@ pub words-are : (c : List ℕ) → wordCount c ≡ inCount c + 2 * mulCount c + 
 unfolding wordCount inCount mulCount squareCount outCount
 words-are c = omega (arith, words-before c (gates c), opened-before c (gates c), checks-are c)
 
--- "all draws in order of use, 2M + outs of them", and one more for each sq gate
+-- "all draws in order of use, 2M + outs of them", and one more for each sq gate; a give counts as an out
 pub coefficients-are : {n q : ℕ} {c : List ℕ} → Valid n q c → coefficientCount c ≡ 2 * mulCount c + squareCount c + outCount c
 unfolding mulCount squareCount
 coefficients-are {n} {q} {c} ok = omega (arith, coefficients-opened ok, opened-before c (gates c))
