@@ -8,7 +8,7 @@ ghost use mathlib.Core.Path.{_≡_};
 ghost use Prim.Native.Nat.{_+_, _*_, _≤_};
 ghost use lib.ListN.{length};
 ghost use Rattle.circuit.specs.Gate.{gateSize, gate};
-ghost use Rattle.circuit.specs.Kind.{shape, isGive, seenBy, alone, factor};
+ghost use Rattle.circuit.specs.Kind.{shape, isGive, seenBy, alone, receiver, factor};
 ghost use Rattle.circuit.specs.Accept.{isKind};
 ghost use Rattle.circuit.specs.Code.{kindOf, classOf, shapeOf};
 
@@ -92,6 +92,17 @@ pub fn is_seen_by(c: &[Word], j: usize, i: usize) -> bool
         return second_at(c, j) == i;
     }
     true
+}
+
+// The party whose score of gate j, an output, is listed.
+pub fn receiver_at(c: &[Word], j: usize) -> usize
+    requires { ⌜ gateSize * j + gateSize ≤ length (now c) ⌝ }
+    ensures { λ r. ⌜ r ≡ receiver (gate (now (c .entry)) j) ⌝ }
+{
+    if is_give_at(c, j) {
+        return second_at(c, j);
+    }
+    0
 }
 
 // The gate that gives the second factor of a product, where gate j opens that many values.

@@ -8,35 +8,38 @@ use native.Mathlib.Omega.{arith}
 use lib.ListN.{length, set}
 use Rattle.algebra.specs.Element.{Is}
 use Rattle.field.specs.Words.{size, ops}
-use Rattle.circuit.specs.Gate.{gate, gates}
+use Rattle.circuit.specs.Gate.{gateSize, gate, gates}
+use Rattle.circuit.specs.Kind.{maskSize, shape, isGive, receiver}
 use Rattle.circuit.specs.Count.{total, prepAt, unchecked}
 use Rattle.circuit.specs.Round.{Check, First, Second, Round, Open, Commit, Reveal, checked, openedIn, shapeWords, commitWords, nonceSize, revealWords, commitsIn}
-use Rattle.circuit.proofs.KindLaws.{output-facts}
-use Rattle.circuit.proofs.RoundLaws.{class-at-round}
-use Rattle.protocol.specs.Scratch.{layout, Value, read, band, writtenAt, nonceOf, putNonce, putMarks}
+use Rattle.circuit.proofs.KindLaws.{give-prep}
+use Rattle.circuit.proofs.Gates.{receiver-named}
+use Rattle.protocol.specs.Scratch.{layout, band, writtenAt, nonceOf, putNonce, putMarks}
 use Rattle.protocol.specs.Position.{Point, Send, Aborted, aborted, resume, whenSending}
 use Rattle.protocol.specs.Send.{mark, revealed, sent, noted}
-use Rattle.protocol.specs.Receive.{Nobody, Passed, Stopped, passed, heardSum, received, left}
+use Rattle.protocol.specs.Receive.{Nobody, Passed, Stopped, passed, heardSum, score, scored, received, left}
 use Rattle.protocol.specs.Code.{layoutOf}
-use Rattle.protocol.specs.Ready.{Settles}
+use Rattle.protocol.specs.Holding.{Opened}
+use Rattle.protocol.specs.Ready.{Ready, Settles}
 use Rattle.protocol.specs.Entry.{releases}
 use Rattle.protocol.specs.Joint.{Joint, party, nonceFor}
 use Rattle.protocol.specs.Run.{blamed, said, notes, ends, step, released}
 use Rattle.protocol.specs.JointEntry as E
 use Rattle.protocol.proofs.Runs.{Over}
+use Rattle.protocol.proofs.Scoring.{score-asks, score-made}
 use Rattle.protocol.proofs.Tails.{length-written}
 use Rattle.protocol.proofs.Words.{joined-ext}
 use Rattle.protocol.proofs.Following.{next-follows, next-stops, weighs-zero, weighs-not}
 use Rattle.protocol.proofs.Marks.{Sealed, ends-other, commit-sealed, said-shown, sealed-ends}
 use Rattle.joint.specs.declared.JointAnswer.{JointAnswer}
 use Rattle.joint.specs.declared.Frame.{Frame}
-use Rattle.joint.specs.Code.{jointAnswerOf, Course, dueAt, stateOf, keyIn, Prepared, Banded, EachBand, rebanded, shareIn, nonceIn, revealIn, marksIn, revealsIn, notedIn, Checks, noneHeld, Moving, Moved, Runnable, Ran, Common}
-use Rattle.joint.proofs.Parties.{lent-undrawn, lent-banded}
+use Rattle.joint.specs.Code.{jointAnswerOf, Course, dueAt, siteOf, stateOf, prepFrom, keyIn, Prepared, Banded, EachBand, rebanded, shareIn, nonceIn, revealIn, marksIn, revealsIn, notedIn, Checks, noneHeld, Moving, Moved, Runnable, Ran, Common}
+use Rattle.joint.proofs.Parties.{lent-undrawn, lent-banded, lent-prepared, lent-record-is}
 use Rattle.joint.proofs.States.{sealed-alike}
 use Rattle.joint.proofs.Going.{within, occurs, rooms, nonces-long}
 use Rattle.joint.proofs.Later.{resumed-prep}
 use Rattle.joint.proofs.Releasing.{entry-zero, freed-one}
-use Rattle.joint.proofs.SendTurns.{lentAll, check-asks, takes-are, holds-is, checked-is, said-by}
+use Rattle.joint.proofs.SendTurns.{lentAll, record-end, check-asks, takes-are, holds-is, checked-is, said-by}
 use Rattle.joint.proofs.ReceiveTurns.{settledLeft, left-alone, first-left, reveal-settles, reveal-received}
 use Rattle.joint.proofs.Rounding.{said-received, received-step, stopped-step, round-moved, said-long}
 use Rattle.joint.proofs.Running.{Running, running-moving, running-again, running-over, outputs-left}
@@ -53,11 +56,11 @@ over-aborted A a g = refl
 module _ (J : Joint) (f : Frame) (s : Course) (held l : List ℕ) (r : Round) (e : passed (ends ops J (stateOf f s held l) r) ≡ false) where
   none-released : released ops J (stateOf f s held l) r ≡ []
   unfolding released
-  none-released = rw e (both-no (releases r))
+  none-released = rw e (both-no (releases r) _)
     where
-      both-no : (b : Bool) → cond (b && false) (read (layout (J .circuit)) (stateOf f s held l .scratch 0) (Value 0) ∷ []) [] ≡ []
-      both-no true = refl
-      both-no false = refl
+      both-no : (b : Bool) (x : ℕ) → cond (b && false) (x ∷ []) [] ≡ []
+      both-no true x = refl
+      both-no false x = refl
 
 module _ {f : Frame} {c preps inputs coefficients nonces l₀ t₀ o₀ : List ℕ} (able : Runnable (lentAll f c preps inputs coefficients nonces) f l₀ t₀ o₀)
     {s : Course} {l t o : List ℕ} (k : Check) (inv : Running (lentAll f c preps inputs coefficients nonces) f l₀ t₀ o₀ s noneHeld l t o)
@@ -127,7 +130,7 @@ module _ {f : Frame} {c preps inputs coefficients nonces l₀ t₀ o₀ : List �
         round-moved moving notedBand commit-step el
         (quiet-named (moving .going) refl)
         (next-follows c (s .point .gate) _ (Commit k) (occurs J f s (Commit k) noneHeld l (moving .going)) (quiet-passed (moving .going) refl) refl)
-        (moving .going .prep-is)
+        (λ r′ e. moving .going .prep-is)
         (held-long (f .parties) share (moving .going .lent .few))
         (λ i h. record { is = held-at (f .parties) share i h ∙ checked-is (moving .going) refl opened-is i; below = rw (held-at (f .parties) share i h) (share-low f preps l m (s .used) coefficients i) })
         (ap (λ (x : ℕ). s .used + x) (takes-are (moving .going) refl opened-is))
@@ -187,11 +190,11 @@ module _ {f : Frame} {c preps inputs coefficients nonces l₀ t₀ o₀ : List �
           words-fit = omega (arith, revealing .words-fit, length-written (s .written) marks t);
         }
 
-    abbrev after : Point → ℕ → Course
-    after x r =
+    abbrev after : Point → ℕ → ℕ → Course
+    after x p r =
         record {
           point = x;
-          prep = s .prep;
+          prep = p;
           used = s .used + m;
           checks = s .checks + 1;
           written = s .written + f .parties * commitWords + f .parties * revealWords;
@@ -215,14 +218,14 @@ module _ {f : Frame} {c preps inputs coefficients nonces l₀ t₀ o₀ : List �
         stops : ends ops J (stateOf f sealed (heldOf (f .parties) share) l₁) (Reveal k) ≡ Stopped Nobody
         stops = sealed-ends ops J (stateOf f sealed (heldOf (f .parties) share) l₁) is-sealed k some-parties ∙ weighs-not _ (λ e. z (sum-is ∙ e))
 
-        stopped-moved : Moved J f sealed (Reveal k) (heldOf (f .parties) share) l₁ marked (after (aborted (s .point .gate)) (s .released)) noneHeld l₁ revealedTo
+        stopped-moved : Moved J f sealed (Reveal k) (heldOf (f .parties) share) l₁ marked (after (aborted (s .point .gate)) (s .prep) (s .released)) noneHeld l₁ revealedTo
         unfolding aborted
         stopped-moved =
             round-moved revealing _ (stopped-step revealing refl (ap passed stops))
             (left-alone f sealed c preps inputs l₁ [] (lent-undrawn (revealing .going .lent)) (revealing .going .room))
             (ap blamed stops)
             (next-stops c (s .point .gate) _ (Reveal k) (ap passed stops) refl)
-            (moving .going .prep-is) refl (none-held (revealing .going) refl) (none-taken (revealing .going) refl) (none-begun (revealing .going) refl) words-put words-long (omega arith)
+            (λ r′ e. moving .going .prep-is) refl (none-held (revealing .going) refl) (none-taken (revealing .going) refl) (none-begun (revealing .going) refl) words-put words-long (omega arith)
 
         pub check-stopped : {a : JointAnswer} → jointAnswerOf a ≡ E.ended Aborted (s .point .gate) Nobody (s .rounds + 2) → Ran J l₀ t₀ o₀ a l₁ revealedTo o
         unfolding aborted
@@ -247,16 +250,16 @@ module _ {f : Frame} {c preps inputs coefficients nonces l₀ t₀ o₀ : List �
     first-goes : ends ops (lentAll f c preps inputs coefficients nonces) (stateOf f (sealed able First inv due em) (heldOf (f .parties) (share able First inv due em)) l₁) (Reveal First) ≡ Passed
     first-goes = goes able First inv due em el ev z
 
-    first-moved : Moved (lentAll f c preps inputs coefficients nonces) f (sealed able First inv due em) (Reveal First) (heldOf (f .parties) (share able First inv due em)) l₁ (marked able First inv due em) (after able First inv due em el (dueAt (s .point .gate) Open) (s .released)) noneHeld l₁ (revealedTo able First inv due em el)
+    first-moved : Moved (lentAll f c preps inputs coefficients nonces) f (sealed able First inv due em) (Reveal First) (heldOf (f .parties) (share able First inv due em)) l₁ (marked able First inv due em) (after able First inv due em el (dueAt (s .point .gate) Open) (s .prep) (s .released)) noneHeld l₁ (revealedTo able First inv due em el)
     first-moved =
         let u = revealing able First inv due em el in
         round-moved u _ (received-step u refl (ap passed first-goes))
         (first-left f (sealed able First inv due em) c preps inputs l₁ _ (lent-undrawn (u .going .lent)) (u .going .room))
         (ap blamed first-goes)
         (next-follows c (s .point .gate) _ (Reveal First) (occurs _ f _ (Reveal First) _ l₁ (u .going)) (ap passed first-goes) refl)
-        (moving able First inv due em .going .prep-is) refl (none-held (u .going) refl) (none-taken (u .going) refl) (none-begun (u .going) refl) (words-put able First inv due em el) (words-long able First inv due em el) (omega arith)
+        (λ r′ e. moving able First inv due em .going .prep-is) refl (none-held (u .going) refl) (none-taken (u .going) refl) (none-begun (u .going) refl) (words-put able First inv due em el) (words-long able First inv due em el) (omega arith)
 
-    pub first-checked : Running (lentAll f c preps inputs coefficients nonces) f l₀ t₀ o₀ (after able First inv due em el (dueAt (s .point .gate) Open) (s .released)) noneHeld l₁ (revealedTo able First inv due em el) o
+    pub first-checked : Running (lentAll f c preps inputs coefficients nonces) f l₀ t₀ o₀ (after able First inv due em el (dueAt (s .point .gate) Open) (s .prep) (s .released)) noneHeld l₁ (revealedTo able First inv due em el) o
     first-checked =
         running-again _ f l₀ t₀ o₀ able (sealed-running able First inv due em el) (Reveal First) refl
         (turned-quietly _ f (sealed able First inv due em) _ l₁ (Reveal First) refl first-moved refl)
@@ -274,12 +277,46 @@ module _ {f : Frame} {c preps inputs coefficients nonces l₀ t₀ o₀ : List �
     within-gates : s .point .gate < gates c
     within-gates = within _ f _ (Reveal Second) _ l₁ (output-revealing .going)
 
-    next-record : s .prep ≡ prepAt c (resume c (suc (s .point .gate)) .gate)
+    next-record : (r : Round) → resume c (suc (s .point .gate)) .stage ≡ Send r → s .prep + shape (gate c (s .point .gate)) .prep ≡ prepAt c (resume c (suc (s .point .gate)) .gate)
     unfolding prepAt total
-    next-record =
-        output-revealing .going .prep-is
-        ∙ omega (arith, output-facts (gate c (s .point .gate)) (class-at-round c (s .point .gate) (Reveal Second) (occurs _ f _ (Reveal Second) _ l₁ (output-revealing .going))) .prep)
-        ∙ sym (resumed-prep c (output-revealing .going .lent .valid) (s .point .gate) within-gates)
+    next-record r e = omega (arith, output-revealing .going .prep-is) ∙ sym (resumed-prep c (s .point .gate) within-gates r e)
+
+    pub output-record : s .prep + shape (gate c (s .point .gate)) .prep ≤ f .prep
+    output-record = record-end (output-revealing .going)
+
+    -- the receiver is a party, whose score can be read
+    receives : receiver (gate c (s .point .gate)) < f .parties
+    receives = receiver-named (able .lent .valid) (s .point .gate) within-gates (omega (arith, able .lent .some))
+
+    score-ready : (i : ℕ) → i < f .parties → Ready size (party (lentAll f c preps inputs coefficients nonces) i) (band (f .scratch) l₁ i) (f .layout) (siteOf c output-sealed i) (Reveal Second)
+    score-ready = output-revealing .going .ready
+
+    module _ {give : Bool} (eg : give ≡ isGive (gate c (s .point .gate))) where
+      pub score-asked :
+          (gateSize * (s .point .gate) + gateSize ≤ length c)
+          × (receiver (gate c (s .point .gate)) < f .parties)
+          × Banded f l₁
+          × Prepared f preps (s .prep) 0
+          × (give ≡ true → s .prep + maskSize ≤ f .prep)
+          × EachBand f l₁ (λ i x. Opened size (layoutOf (f .layout)) x 0)
+      unfolding siteOf party
+      score-asked = (
+        score-asks _ _ _ _ (score-ready _ receives) .0,
+        receives,
+        lent-banded (output-revealing .going .lent) (output-revealing .going .room),
+        lent-prepared (output-revealing .going .lent) (s .prep) 0 (omega (arith, output-record)),
+        (λ b. omega (arith, output-record, give-prep (gate c (s .point .gate)) (sym eg ∙ b))),
+        λ i h. score-asks _ _ _ _ (score-ready i h) .5,
+      )
+
+      -- what the code reads is the receiver's score
+      pub score-is : {x : ℕ}
+          → x ≡ score ops (layoutOf (f .layout)) (band (f .scratch) l₁ (receiver (gate c (s .point .gate)))) give (prepFrom f preps (s .prep) (receiver (gate c (s .point .gate))))
+          → x ≡ scored ops (party (lentAll f c preps inputs coefficients nonces) (receiver (gate c (s .point .gate)))) (band (f .scratch) l₁ (receiver (gate c (s .point .gate)))) (s .point .gate)
+      unfolding siteOf party
+      score-is e =
+          score-made ops _ _ _ _ (Reveal Second) (score-ready _ receives) eg
+          (lent-record-is (output-revealing .going .lent) (output-revealing .going .prep-is) within-gates (receiver (gate c (s .point .gate)))) e
 
     pub output-room : s .released < length o
     output-room = outputs-left _ f l₀ t₀ o₀ able (sealed-running able Second inv due refl el) (Reveal Second) refl refl
@@ -292,11 +329,12 @@ module _ {f : Frame} {c preps inputs coefficients nonces l₀ t₀ o₀ : List �
         reveal-settles f output-sealed c preps inputs l₁ _ (lent-undrawn (output-revealing .going .lent)) (output-revealing .going .room) (said-received output-revealing)
 
     module _ {v : ℕ} (ev : Is size (heardSum ops (f .parties) revealWords 0 (revealsIn f preps l 1 (s .used) coefficients (s .checks) nonces)) v) (z : v ≡ 0)
-        {l₂ : List ℕ} (es : l₂ ≡ rebanded f (settledLeft f c preps l₁ (s .point .gate + 1)) l₁) {x : ℕ} (ex : x ≡ read (layout c) (band (f .scratch) l₁ 0) (Value 0)) where
+        {l₂ : List ℕ} (es : l₂ ≡ rebanded f (settledLeft f c preps l₁ (s .point .gate + 1)) l₁) {x : ℕ}
+        (ex : x ≡ scored ops (party (lentAll f c preps inputs coefficients nonces) (receiver (gate c (s .point .gate)))) (band (f .scratch) l₁ (receiver (gate c (s .point .gate)))) (s .point .gate)) where
       second-goes : ends ops (lentAll f c preps inputs coefficients nonces) (stateOf f output-sealed (heldOf (f .parties) (share able Second inv due refl)) l₁) (Reveal Second) ≡ Passed
       second-goes = goes able Second inv due refl el ev z
 
-      second-moved : Moved (lentAll f c preps inputs coefficients nonces) f output-sealed (Reveal Second) (heldOf (f .parties) (share able Second inv due refl)) l₁ (marked able Second inv due refl) (after able Second inv due refl el (resume c (suc (s .point .gate))) (s .released + 1)) noneHeld l₂ (revealedTo able Second inv due refl el)
+      second-moved : Moved (lentAll f c preps inputs coefficients nonces) f output-sealed (Reveal Second) (heldOf (f .parties) (share able Second inv due refl)) l₁ (marked able Second inv due refl) (after able Second inv due refl el (resume c (suc (s .point .gate))) (s .prep + shape (gate c (s .point .gate)) .prep) (s .released + 1)) noneHeld l₂ (revealedTo able Second inv due refl el)
       second-moved =
           round-moved output-revealing _ (received-step output-revealing refl (ap passed second-goes))
           (reveal-received f output-sealed c preps inputs l₁ _ (lent-undrawn (output-revealing .going .lent)) (output-revealing .going .room) (said-received output-revealing) es)
@@ -311,7 +349,7 @@ module _ {f : Frame} {c preps inputs coefficients nonces l₀ t₀ o₀ : List �
           freed-one (Reveal Second)
           (ends ops (lentAll f c preps inputs coefficients nonces) (stateOf f output-sealed (heldOf (f .parties) (share able Second inv due refl)) l₁) (Reveal Second)) (s .released) o refl (ap passed second-goes) ex
 
-      pub second-checked : Running (lentAll f c preps inputs coefficients nonces) f l₀ t₀ o₀ (after able Second inv due refl el (resume c (suc (s .point .gate))) (s .released + 1)) noneHeld l₂ (revealedTo able Second inv due refl el) (set o (s .released) x)
+      pub second-checked : Running (lentAll f c preps inputs coefficients nonces) f l₀ t₀ o₀ (after able Second inv due refl el (resume c (suc (s .point .gate))) (s .prep + shape (gate c (s .point .gate)) .prep) (s .released + 1)) noneHeld l₂ (revealedTo able Second inv due refl el) (set o (s .released) x)
       second-checked =
           running-again _ f l₀ t₀ o₀ able (sealed-running able Second inv due refl el) (Reveal Second) refl
           (record { moved = second-moved; outputs = released-here .1; given = released-here .0 })

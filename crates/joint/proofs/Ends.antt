@@ -2,26 +2,28 @@
 -- Assumes nothing.
 use Prim.Native.Nat.{ℕ, suc, _+_, _-_, _*_, _<_, _≤_}
 use mathlib.Core.Path.{_≡_, refl, sym, ap, subst, _∙_}
+use mathlib.Core.Bool.{Bool, true}
 use mathlib.Core.List.{List, _++_}
 use mathlib.Core.Logic.{inl, inr, ⊎-elim}
 use native.Mathlib.Numerals.{add-one}
 use native.Mathlib.Omega.{arith}
 use lib.ListN.{length, set, drop}
-use Rattle.field.specs.Words.{ops}
-use Rattle.circuit.specs.Gate.{gate, gates}
-use Rattle.circuit.specs.Kind.{Local, Owned, Opens, Output, shape, isClass}
+use Rattle.field.specs.Words.{size, ops}
+use Rattle.circuit.specs.Gate.{gateSize, gate, gates}
+use Rattle.circuit.specs.Kind.{Local, Owned, Opens, Output, maskSize, shape, isClass, isGive, receiver}
 use Rattle.circuit.specs.Count.{unchecked, uncheckedAfter}
 use Rattle.circuit.specs.Round.{Own, First, Second, Open, Commit, commitWords, revealWords}
 use Rattle.circuit.proofs.KindLaws.{class-is, owned-no-out, opens-no-out, output-no-in, owned-facts}
 use Rattle.circuit.proofs.Gates.{gate-zero}
 use Rattle.protocol.specs.Position.{Point, Aborted, Finished, finished, reach, whenSending, resume}
-use Rattle.protocol.specs.Receive.{Nobody}
-use Rattle.protocol.specs.Scratch.{layout, Value, read, band, writtenAt}
+use Rattle.protocol.specs.Receive.{Nobody, score}
+use Rattle.protocol.specs.Scratch.{band, writtenAt}
+use Rattle.protocol.specs.Holding.{Opened}
 use Rattle.protocol.specs.Code.{layoutOf}
 use Rattle.protocol.specs.Joint.{party}
 use Rattle.protocol.specs.Run.{mostRounds}
 use Rattle.protocol.specs.JointEntry as E
-use Rattle.protocol.proofs.Bands.{band-end, joined-bands}
+use Rattle.protocol.proofs.Bands.{joined-bands}
 use Rattle.protocol.proofs.Readiness.{settles-here}
 use Rattle.protocol.proofs.Settling.{reach-here, settle-none}
 use Rattle.protocol.proofs.Words.{joined-ext}
@@ -29,7 +31,7 @@ use Rattle.protocol.proofs.Runs.{Over}
 use Rattle.joint.specs.declared.JointAnswer.{JointAnswer}
 use Rattle.joint.specs.declared.Frame.{Frame}
 use Rattle.joint.specs.declared.Stop.{Stop}
-use Rattle.joint.specs.Code.{jointAnswerOf, courseOf, dueAt, dueIn, cameTo, Placed, siteOf, keyIn, marksIn, revealsIn, Checks, Checked, noneHeld, SettlesAll, settledAll, Moving, Moved, Kept, Runnable, Ran, Common, Passed}
+use Rattle.joint.specs.Code.{jointAnswerOf, courseOf, dueAt, dueIn, cameTo, Placed, siteOf, prepFrom, keyIn, Prepared, Banded, EachBand, marksIn, revealsIn, Checks, Checked, checkedStop, noneHeld, SettlesAll, settledAll, Moving, Moved, Kept, Runnable, Ran, Common, Passed}
 use Rattle.joint.proofs.Common.{input-common, opening-common, show-common}
 use Rattle.joint.proofs.Parties.{lent-key, lent-banded, lent-keyed}
 use Rattle.joint.proofs.Later.{waits-stop, placed-stop}
@@ -39,7 +41,7 @@ use Rattle.joint.proofs.Stops.{own-in, own-opens, came-in, came-own, ca
 use Rattle.joint.proofs.Running.{Running, running-moving, running-again, running-over, running-start}
 use Rattle.joint.proofs.Passing.{turned-quietly, Standing, Before, next-stop, places-stay, own-waits, own-moving}
 use Rattle.joint.proofs.Turns.{next-waits}
-use Rattle.joint.proofs.CheckTurns.{check-asked, check-stopped, first-checked, output-room, output-settles, second-checked}
+use Rattle.joint.proofs.CheckTurns.{check-asked, check-stopped, first-checked, output-room, output-record, output-settles, score-asked, score-is, second-checked}
 
 -- nothing is sent once a run is finished
 over-finished : Over Finished
@@ -123,20 +125,7 @@ module _ {f : Frame} {c preps inputs coefficients nonces l₀ t₀ o₀ : List �
         first-stopped w e = rw (d .transcript) (check-stopped able First sealing refl all-wait (d .scratch) (d .sum) w e)
 
         -- where the run goes on
-        abbrev first-after : Stop
-        first-after =
-            record {
-              gate = s .gate;
-              prep = s .prep;
-              waiting = 0;
-              used = s .used + s .waiting;
-              checks = s .checks + 1;
-              written = s .written + f .parties * commitWords + f .parties * revealWords;
-              released = s .released;
-              rounds = s .rounds + 2;
-            }
-
-        first-standing : v ≡ 0 → Standing (lentAll f c preps inputs coefficients nonces) f l₀ t₀ o₀ first-after places l₁ t₁ o
+        first-standing : v ≡ 0 → Standing (lentAll f c preps inputs coefficients nonces) f l₀ t₀ o₀ (checkedStop f (s .waiting) s) places l₁ t₁ o
         first-standing w =
             record {
               within = inv .within;
@@ -146,16 +135,13 @@ module _ {f : Frame} {c preps inputs coefficients nonces l₀ t₀ o₀ : List �
               common = λ i q k w. absurd (omega arith);
               running =
                   rw (d .transcript)
-                  (subst (λ (x : Point). Running (lentAll f c preps inputs coefficients nonces) f l₀ t₀ o₀ (courseOf x first-after) noneHeld l₁
+                  (subst (λ (x : Point). Running (lentAll f c preps inputs coefficients nonces) f l₀ t₀ o₀ (courseOf x (checkedStop f (s .waiting) s)) noneHeld l₁
                   (writtenAt (s .written + f .parties * commitWords) (revealsIn f preps l (s .waiting) (s .used) coefficients (s .checks) nonces) (writtenAt (s .written) (marksIn f preps l (s .waiting) (s .used) coefficients (s .checks) nonces) t)) o)
                   (sym (came-open c (s .gate) 0 h cl refl))
                   (first-checked able sealing refl all-wait (d .scratch) (d .sum) w));
             }
 
-        pub first-passed : v ≡ 0
-            → Before (lentAll f c preps inputs coefficients nonces) f l₀ t₀ o₀
-            (record { gate = s .gate; prep = s .prep; waiting = 0; used = s .used + s .waiting; checks = s .checks + 1; written = s .written + f .parties * commitWords + f .parties * revealWords; released = s .released; rounds = s .rounds + 2 })
-            places l₁ t₁ o
+        pub first-passed : v ≡ 0 → Before (lentAll f c preps inputs coefficients nonces) f l₀ t₀ o₀ (checkedStop f (s .waiting) s) places l₁ t₁ o
         first-passed w = standing-before (first-standing w) h
 
     -- none waits: the output is opened
@@ -189,14 +175,26 @@ module _ {f : Frame} {c preps inputs coefficients nonces l₀ t₀ o₀ : List �
           pub second-settles : SettlesAll f c preps l₂ (s .gate + 1)
           second-settles = output-settles able shown refl (e .scratch)
 
-          pub second-band : f .scratch ≤ length l₂
-          second-band = omega (arith, band-end (f .parties) (f .scratch) 0 (second-settles .2), second-settles .1 .room)
+          pub second-score : {give : Bool} → give ≡ isGive (gate c (s .gate))
+              → (gateSize * (s .gate) + gateSize ≤ length c)
+              × (receiver (gate c (s .gate)) < f .parties)
+              × Banded f l₂
+              × Prepared f preps (s₁ .prep) 0
+              × (give ≡ true → s₁ .prep + maskSize ≤ f .prep)
+              × EachBand f l₂ (λ i x. Opened size (layoutOf (f .layout)) x 0)
+          second-score = score-asked able shown refl (e .scratch)
+
+          -- the record of the gate fits the preprocessing
+          pub second-record : s₁ .prep + shape (gate c (s .gate)) .prep ≤ f .prep
+          second-record = output-record able shown refl (e .scratch)
 
           pub second-stopped : (v ≡ 0 → ⊥) → {a : JointAnswer} → jointAnswerOf a ≡ E.ended Aborted (s .gate) Nobody (s₁ .rounds + 2)
               → Ran (lentAll f c preps inputs coefficients nonces) l₀ t₀ o₀ a l₂ t₂ o
           second-stopped w q = rw (e .transcript) (check-stopped able Second shown refl refl (e .scratch) (e .sum) w q)
 
-          module _ (w : v ≡ 0) {x : ℕ} (ex : x ≡ read (layout c) (band (f .scratch) l₂ 0) (Value 0)) where
+          module _ (w : v ≡ 0) {give : Bool} (eg : give ≡ isGive (gate c (s .gate))) {x : ℕ}
+              (ex : x ≡ score ops (layoutOf (f .layout)) (band (f .scratch) l₂ (receiver (gate c (s .gate)))) give (prepFrom f preps (s₁ .prep) (receiver (gate c (s .gate)))))
+              {p : ℕ} (ep : p ≡ shape (gate c (s .gate)) .prep) where
             stop-is : reach c (f .layout .gates - (s .gate + 1)) (s .gate + 1) ≡ reach c (gates c - (s .gate + 1)) (s .gate + 1)
             stop-is = next-stop _ f l₀ t₀ o₀ able (s .gate)
 
@@ -209,7 +207,7 @@ module _ {f : Frame} {c preps inputs coefficients nonces l₀ t₀ o₀ : List �
             second-after =
                 record {
                   gate = s .gate + 1;
-                  prep = s₁ .prep;
+                  prep = s₁ .prep + shape (gate c (s .gate)) .prep;
                   waiting = 0;
                   used = s₁ .used + 1;
                   checks = s₁ .checks + 1;
@@ -219,10 +217,11 @@ module _ {f : Frame} {c preps inputs coefficients nonces l₀ t₀ o₀ : List �
                 }
 
             pub second-passed : Before (lentAll f c preps inputs coefficients nonces) f l₀ t₀ o₀
-                (record { gate = s .gate + 1; prep = s₁ .prep; waiting = 0; used = s₁ .used + 1; checks = s₁ .checks + 1; written = s₁ .written + f .parties * commitWords + f .parties * revealWords; released = s₁ .released + 1; rounds = s₁ .rounds + 2 })
+                (record { gate = s .gate + 1; prep = s₁ .prep + p; waiting = 0; used = s₁ .used + 1; checks = s₁ .checks + 1; written = s₁ .written + f .parties * commitWords + f .parties * revealWords; released = s₁ .released + 1; rounds = s₁ .rounds + 2 })
                 places l₂ t₂ (set o (s₁ .released) x)
             second-passed =
-                record {
+                rw ep
+                (record {
                   settles = second-settles;
                   standing =
                       record {
@@ -236,9 +235,9 @@ module _ {f : Frame} {c preps inputs coefficients nonces l₀ t₀ o₀ : List �
                             (subst (λ (y : Point). Running (lentAll f c preps inputs coefficients nonces) f l₀ t₀ o₀ (courseOf y second-after) noneHeld (settledAll f c preps l₂ (s .gate + 1))
                             (writtenAt (s₁ .written + f .parties * commitWords) (revealsIn f preps l₁ 1 (s₁ .used) coefficients (s₁ .checks) nonces) (writtenAt (s₁ .written) (marksIn f preps l₁ 1 (s₁ .used) coefficients (s₁ .checks) nonces) t₁)) (set o (s₁ .released) x))
                             (resume-came c (s .gate) h stop-is none-waits)
-                            (second-checked able shown refl (e .scratch) (e .sum) w refl ex));
+                            (second-checked able shown refl (e .scratch) (e .sum) w refl (score-is able shown refl (e .scratch) eg ex)));
                       };
-                }
+                })
 
   -- no gate is left
   pub standing-over : {s : Stop} {places l t o : List ℕ} → Standing (lentAll f c preps inputs coefficients nonces) f l₀ t₀ o₀ s places l t o → gates c ≤ s .gate

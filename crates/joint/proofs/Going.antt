@@ -110,12 +110,16 @@ module _ (J : Joint) (f : Frame) (s : Course) (r : Round) (held l : List ℕ) (g
     unfolding stageOccurs
     next-fits r′ e = (omega (arith, gate-is, next-there .within), rw gate-is (rw e at (next-there .occurs)))
 
-    sited : (i : ℕ) → i < J .parties → Sited (J .circuit) i (siteOf (J .circuit) s′ i)
+    -- the record of the next round's gate
+    record-next : (r′ : Round) → nextIn .stage ≡ Send r′ → s′ .prep ≡ prepAt (J .circuit) (s′ .point .gate)
+    record-next r′ e = d .prep-is r′ (ap (λ (x : Point). x .stage) point-is ∙ e)
+
+    sited : (r′ : Round) → nextIn .stage ≡ Send r′ → (i : ℕ) → i < J .parties → Sited (J .circuit) i (siteOf (J .circuit) s′ i)
     unfolding siteOf
-    sited i h =
+    sited r′ e i h =
         record {
           within = omega (arith, gate-is, next-there .within);
-          prep = d .prep-is;
+          prep = record-next r′ e;
           unchecked = refl;
           input = refl;
         }
@@ -134,7 +138,7 @@ module _ (J : Joint) (f : Frame) (s : Course) (r : Round) (held l : List ℕ) (g
     unfolding siteOf party
     ready-then r′ e i h =
         ready-next (party J i) (band (f .scratch) l i) (band (f .scratch) l′ i) (f .layout) (siteOf (J .circuit) s i) (siteOf (J .circuit) s′ i) r r′ nextIn (g .ready i h)
-        (stands i h) (next-there .occurs) (sited i h) gate-is e
+        (stands i h) (next-there .occurs) (sited r′ e i h) gate-is e
 
     -- a check share is held where the next round is a reveal alone
     none-held : (r′ : Round) → nextIn .stage ≡ Send r′ → isReveal r′ ≡ false → (i : ℕ) → i < J .parties → getD held′ i 0 ≡ 0
@@ -153,7 +157,7 @@ module _ (J : Joint) (f : Frame) (s : Course) (r : Round) (held l : List ℕ) (g
         record {
           lent = g .lent;
           room = omega (arith, g .room, d .long);
-          prep-is = d .prep-is;
+          prep-is = record-next r′ e;
           eight = d .eight;
           held-low = d .held-low;
           held-none = none-held r′ e;

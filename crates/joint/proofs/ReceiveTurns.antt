@@ -2,7 +2,7 @@
 -- Assumes nothing.
 use Prim.Native.Nat.{ℕ, _+_, _-_, _*_, _<_, _≤_}
 use mathlib.Core.Path.{_≡_, refl, sym, ap, _∙_}
-use mathlib.Core.Bool.{true, false}
+use mathlib.Core.Bool.{Bool, true, false}
 use mathlib.Core.List.{List, [], _++_}
 use native.Mathlib.Omega.{arith}
 use lib.ListN.{length, drop, length-append, length-drop}
@@ -10,11 +10,12 @@ use lib.Seq.{drop-at}
 use Rattle.field.specs.Words.{size, ops}
 use Rattle.field.proofs.Laws.{laws}
 use Rattle.circuit.specs.Gate.{gateSize, Gate, gate}
-use Rattle.circuit.specs.Kind.{Owned, Opens, shape, isLinear}
+use Rattle.circuit.specs.Kind.{Owned, Opens, maskSize, shape, isLinear, isGive}
 use Rattle.circuit.specs.Count.{unchecked}
 use Rattle.circuit.specs.Round.{First, Second, Round, Own, Open, Reveal, nonceSize}
-use Rattle.circuit.proofs.KindLaws.{owned-facts, opens-facts}
+use Rattle.circuit.proofs.KindLaws.{owned-facts, opens-facts, give-prep}
 use Rattle.protocol.specs.Position.{reach}
+use Rattle.protocol.specs.Send.{shown}
 use Rattle.protocol.specs.Receive.{afterInput, afterOpening, afterOpenOutput, afterLinear, settle}
 use Rattle.protocol.specs.Holding.{Held, Reads}
 use Rattle.protocol.specs.Code.{layoutOf}
@@ -45,8 +46,10 @@ abbrev pub openingLeft : Frame → List ℕ → List ℕ → ℕ → ℕ → ℕ
 openingLeft f preps l j x z a k u e d i = afterOpening ops i (keyIn f preps i) (layoutOf (f .layout)) (band (f .scratch) l i) j x z (prepFrom f preps a i) k u e d
 
 -- .. where an output is opened ..
-abbrev pub outputLeft : Frame → List ℕ → ℕ → ℕ → ℕ → List ℕ
-outputLeft f l x e i = afterOpenOutput ops (layoutOf (f .layout)) (band (f .scratch) l i) x e
+abbrev pub outputLeft : Frame → List ℕ → List ℕ → ℕ → ℕ → Bool → ℕ → ℕ → List ℕ
+outputLeft f preps l at x give e i =
+    afterOpenOutput ops (layoutOf (f .layout)) (band (f .scratch) l i)
+    (shown ops (layoutOf (f .layout)) (band (f .scratch) l i) give x (prepFrom f preps at i)) e
 
 -- .. at linear gate j, which is g ..
 abbrev pub linearLeft : Frame → List ℕ → List ℕ → ℕ → Gate → ℕ → List ℕ
@@ -74,9 +77,9 @@ module _ {f : Frame} {l : List ℕ} (b : Banded f l) where
   opening-each preps j x z a k u e d i h =
       length-put (layoutOf (f .layout)) _ j _ ∙ length-differences ops (layoutOf (f .layout)) (band (f .scratch) l i) x z (prepFrom f preps a i) k u e d ∙ band-long b i h
 
-  pub output-each : (x e i : ℕ) → i < f .parties → length (outputLeft f l x e i) ≡ f .scratch
+  pub output-each : (preps : List ℕ) (at x : ℕ) (give : Bool) (e i : ℕ) → i < f .parties → length (outputLeft f preps l at x give e i) ≡ f .scratch
   unfolding afterOpenOutput
-  output-each x e i h = length-opened (layoutOf (f .layout)) (band (f .scratch) l i) 0 e _ ∙ band-long b i h
+  output-each preps at x give e i h = length-opened (layoutOf (f .layout)) (band (f .scratch) l i) 0 e _ ∙ band-long b i h
 
   pub linear-each : (preps : List ℕ) (j : ℕ) (g : Gate) (i : ℕ) → i < f .parties → length (linearLeft f preps l j g i) ≡ f .scratch
   linear-each preps j g i h = length-afterLinear ops i (keyIn f preps i) (layoutOf (f .layout)) (band (f .scratch) l i) j g ∙ band-long b i h
@@ -224,8 +227,8 @@ module _ (f : Frame) (s : Course) (c preps inputs l heard : List ℕ) (t : Lent 
     settling-made r k =
         reband-twice banded F each d (settledLeft f c preps l₁ (s .point .gate + 1)) (bandsOf r) (λ i h. k i h (reband-band banded F each d i h))
 
-  -- a gate's own round
-  module _ (w : asked Own) where
+  -- the record of the gate
+  module _ {r : Round} (w : asked r) where
     record-there : s .prep + shape (gate c (s .point .gate)) .prep ≤ f .prep
     unfolding siteOf party
     record-there = lent-record t (w 0 some .ready .sited .prep) (w 0 some .ready .sited .within)
@@ -234,12 +237,14 @@ module _ (f : Frame) (s : Course) (c preps inputs l heard : List ℕ) (t : Lent 
     unfolding siteOf party
     record-here i = lent-record-is t (w 0 some .ready .sited .prep) (w 0 some .ready .sited .within) i
 
+  -- a gate's own round
+  module _ (w : asked Own) where
     -- in gates
     module _ (cl : shape (gate c (s .point .gate)) .class ≡ Owned) {e : ℕ} (e-low : e < size) where
       pub inputs-ask : Prepared f preps (s .prep) 2 × Banded f l × (s .point .gate < f .layout .gates) × (e < size)
       unfolding siteOf party
       inputs-ask = (
-        lent-prepared t (s .prep) 2 (omega (arith, record-there, owned-facts (gate c (s .point .gate)) cl .prep)),
+        lent-prepared t (s .prep) 2 (omega (arith, record-there w, owned-facts (gate c (s .point .gate)) cl .prep)),
         banded,
         within-there (party J 0) (band (f .scratch) l 0) (f .layout) (siteOf c s 0) Own (w 0 some .ready),
         e-low,
@@ -265,7 +270,7 @@ module _ (f : Frame) (s : Course) (c preps inputs l heard : List ℕ) (t : Lent 
             settling-made _ lengths d Own
             (λ i h q.
             R.input-made ops (party J i) (band (f .scratch) l i) (f .layout) (siteOf c s i) heard (w i h .ready) cl
-            (record-here i) ee
+            (record-here w i) ee
             (q ∙ rw (lent-keyed t i))
             (rw (lent-keyed t i)))
 
@@ -279,13 +284,13 @@ module _ (f : Frame) (s : Course) (c preps inputs l heard : List ℕ) (t : Lent 
       unfolding siteOf party
       each-asks i h =
           rw (lent-keyed t i)
-          (opening-asks (party J i) (band (f .scratch) l i) (f .layout) (siteOf c s i) (w i h .ready) cl (record-here i) n (v .first .below) (v .second .below))
+          (opening-asks (party J i) (band (f .scratch) l i) (f .layout) (siteOf c s i) (w i h .ready) cl (record-here w i) n (v .first .below) (v .second .below))
 
       pub openings-ask : Prepared f preps (s .prep) (2 * k + 2)
           × Banded f l
           × EachBand f l (λ i m. Opening size (keyIn f preps i) (layoutOf (f .layout)) m (s .point .gate) x z (prepFrom f preps (s .prep) i) k (unchecked c (s .point .gate)) e d)
       openings-ask = (
-        lent-prepared t (s .prep) (2 * k + 2) (omega (arith, record-there, n .openings, opens-facts (gate c (s .point .gate)) cl .prep)),
+        lent-prepared t (s .prep) (2 * k + 2) (omega (arith, record-there w, n .openings, opens-facts (gate c (s .point .gate)) cl .prep)),
         banded,
         each-asks,
       )
@@ -308,27 +313,33 @@ module _ (f : Frame) (s : Course) (c preps inputs l heard : List ℕ) (t : Lent 
             settling-made opened opened-lengths q Own
             (λ i h y.
             R.opening-received ops (party J i) (band (f .scratch) l i) (f .layout) (siteOf c s i) heard (w i h .ready) cl
-            (record-here i) n v
+            (record-here w i) n v
             (y ∙ rw (lent-keyed t i))
             (rw (lent-keyed t i)))
 
   -- opened outputs
-  module _ (w : asked Open) {x : ℕ} (ex : x ≡ gate c (s .point .gate) .first) where
-    pub outputs-ask : Banded f l × (0 < f .layout .capacity) × EachBand f l (λ i m. Held size (layoutOf (f .layout)) m x)
+  module _ (w : asked Open) {x : ℕ} (ex : x ≡ gate c (s .point .gate) .first) {give : Bool} (eg : give ≡ isGive (gate c (s .point .gate))) where
+    pub outputs-ask : Banded f l
+        × Prepared f preps (s .prep) 0
+        × (give ≡ true → s .prep + maskSize ≤ f .prep)
+        × (0 < f .layout .capacity)
+        × EachBand f l (λ i m. Held size (layoutOf (f .layout)) m x)
     unfolding siteOf party
     outputs-ask = (
       banded,
-      R.output-asks (party J 0) (band (f .scratch) l 0) (f .layout) (siteOf c s 0) (w 0 some .ready) ex .1,
-      λ i h. R.output-asks (party J i) (band (f .scratch) l i) (f .layout) (siteOf c s i) (w i h .ready) ex .2,
+      lent-prepared t (s .prep) 0 (omega (arith, record-there w)),
+      (λ b. omega (arith, record-there w, give-prep (gate c (s .point .gate)) (sym eg ∙ b))),
+      R.output-asks (party J 0) (band (f .scratch) l 0) (f .layout) (siteOf c s 0) (w 0 some .ready) ex eg (record-here w 0) .1,
+      λ i h. R.output-asks (party J i) (band (f .scratch) l i) (f .layout) (siteOf c s i) (w i h .ready) ex eg (record-here w i) .2,
     )
 
-    pub outputs-received : {e : ℕ} → e ≡ heardFirst ops (f .parties) (gate c (s .point .gate)) Open heard → {l₁ : List ℕ} → l₁ ≡ rebanded f (outputLeft f l x e) l → l₁ ≡ rebanded f (bandsOf Open) l
+    pub outputs-received : {e : ℕ} → e ≡ heardFirst ops (f .parties) (gate c (s .point .gate)) Open heard → {l₁ : List ℕ} → l₁ ≡ rebanded f (outputLeft f preps l (s .prep) x give e) l → l₁ ≡ rebanded f (bandsOf Open) l
     unfolding siteOf party
     outputs-received {e} ee d =
         d
         ∙ ap (λ (z : List ℕ). z ++ drop (f .parties * f .scratch) l)
-        (joined-ext (f .parties) (outputLeft f l x e) (bandsOf Open)
-        (λ i h. R.output-received ops (party J i) (band (f .scratch) l i) (f .layout) (siteOf c s i) heard (w i h .ready) ex ee refl))
+        (joined-ext (f .parties) (outputLeft f preps l (s .prep) x give e) (bandsOf Open)
+        (λ i h. R.output-received ops (party J i) (band (f .scratch) l i) (f .layout) (siteOf c s i) heard (w i h .ready) ex eg (record-here w i) ee refl))
 
   -- the reveal of the second check
   module _ (w : asked (Reveal Second)) where

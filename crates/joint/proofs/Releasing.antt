@@ -1,14 +1,14 @@
 -- What a round releases goes to the place reached in the outputs.
 -- Assumes nothing.
-use Prim.Native.Nat.{ℕ, _+_, _*_, _<_}
-use mathlib.Core.Path.{_≡_, refl, _∙_}
+use Prim.Native.Nat.{ℕ, _+_, _<_}
+use mathlib.Core.Path.{_≡_, refl}
 use mathlib.Core.Bool.{true, cond, _&&_}
 use mathlib.Core.List.{List, [], _∷_}
 use native.Mathlib.Omega.{arith}
-use lib.ListN.{length, set, take}
+use lib.ListN.{length, set}
 use Rattle.circuit.specs.Count.{capacity}
 use Rattle.circuit.specs.Round.{Round}
-use Rattle.protocol.specs.Scratch.{Layout, layout, Value, read, band, writtenAt}
+use Rattle.protocol.specs.Scratch.{Layout, layout, writtenAt}
 use Rattle.protocol.specs.Receive.{Ruling, passed}
 use Rattle.protocol.specs.declared.Layout as D
 use Rattle.protocol.specs.Code.{layoutOf}
@@ -24,8 +24,3 @@ pub freed-one : (r : Round) (v : Ruling) (at : ℕ) (o : List ℕ) → releases 
     → (at + 1 ≡ at + length (cond (releases r && passed v) (y ∷ []) [])) × (set o at x ≡ writtenAt at (cond (releases r && passed v) (y ∷ []) []) o)
 unfolding writtenAt
 freed-one r v at o e q f = rw (e, q, f) (refl, refl)
-
--- what the code reads is the first opened entry of party 0
-pub entry-read : (c : List ℕ) (y : D.Layout) (w : ℕ) (l : List ℕ) {x : ℕ} → layoutOf y ≡ layout c → x ≡ read (layoutOf y) (take w l) (Value 0) → x ≡ read (layout c) (band w l 0) (Value 0)
-unfolding band
-entry-read c y w l e f = let z : 0 * w ≡ 0 = omega arith in f ∙ rw (e, z)

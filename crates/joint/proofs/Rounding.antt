@@ -149,7 +149,7 @@ module _ {J : Joint} {f : Frame} {s : Course} {r : Round} {held l t : List ℕ} 
     pub round-moved : blamed (endsIn J f s r held l (u .going)) ≡ Nobody
         → {s′ : Course} {held′ t′ : List ℕ}
         → s′ .point ≡ nextIn J f s r held l (u .going)
-        → s′ .prep ≡ prepAt (J .circuit) (s′ .point .gate)
+        → ((r′ : Round) → s′ .point .stage ≡ Send r′ → s′ .prep ≡ prepAt (J .circuit) (s′ .point .gate))
         → length held′ ≡ mostParties
         → ((i : ℕ) → i < J .parties → Is size (step ops J (stateOf f s held l) r .held i) (getD held′ i 0))
         → s′ .used ≡ s .used + takes ops J (stateOf f s held l) r

@@ -10,6 +10,7 @@ use lib.ListN.{length, drop}
 use Rattle.field.specs.Words.{size, ops}
 use Rattle.circuit.specs.Gate.{gate, gates}
 use Rattle.circuit.specs.Count.{total, prepAt, unchecked}
+use Rattle.circuit.proofs.Gates.{receiver-named}
 use Rattle.circuit.specs.Round.{Round, Own, words, openedIn, coefficientsIn, commitsIn, overRun, wordCount, coefficientCount, checkCount}
 use Rattle.protocol.specs.Scratch.{band, writtenAt, scratchSize}
 use Rattle.protocol.specs.Position.{Point, Stage, Send, Receive, Finished, Aborted, follow, start}
@@ -134,7 +135,9 @@ module _ (J : Joint) (f : Frame) where
         said-is = said-alike ops J (stateOf f s held l) (inv .st) r (inv .alike)
 
         released-is : released ops J (stateOf f s held l) r ≡ released ops J (inv .st) r
-        released-is = released-alike ops J (stateOf f s held l) (inv .st) r (inv .alike) (omega (arith, able .lent .some))
+        released-is =
+            released-alike ops J (stateOf f s held l) (inv .st) r (inv .alike)
+            (unfold stateOf in receiver-named (able .lent .valid) (s .point .gate) (fits .0) (omega (arith, able .lent .some)))
 
         -- how many words were said, and where the round led
         said-many : length (said ops J (stateOf f s held l) r) ≡ J .parties * words (gate (J .circuit) (s .point .gate)) r

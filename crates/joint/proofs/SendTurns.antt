@@ -2,7 +2,7 @@
 -- Assumes nothing.
 use Prim.Native.Nat.{ℕ, suc, _+_, _*_, _<_, _≤_}
 use mathlib.Core.Path.{_≡_, sym, ap, _∙_}
-use mathlib.Core.Bool.{true, false}
+use mathlib.Core.Bool.{Bool, true, false}
 use mathlib.Core.List.{List, [], _∷_}
 use native.Mathlib.Nat.{add-sub-cancel-left}
 use native.Mathlib.Decide.{ℕ-discrete}
@@ -17,17 +17,17 @@ use Rattle.algebra.specs.Sum.{sum}
 use Rattle.field.specs.Words.{ops, size}
 use Rattle.field.proofs.Laws.{laws}
 use Rattle.circuit.specs.Gate.{gate}
-use Rattle.circuit.specs.Kind.{Owned, Opens, shape}
+use Rattle.circuit.specs.Kind.{Owned, Opens, maskSize, shape, isGive}
 use Rattle.circuit.specs.Count.{inputAt, inputCount, unchecked}
 use Rattle.circuit.specs.Round.{Round, Own, Open, isCommit, commitWords, revealWords, words, openedIn, coefficientsIn}
 use Rattle.circuit.proofs.Counts.{input-within}
-use Rattle.circuit.proofs.KindLaws.{class-is, owned-facts, opens-facts}
+use Rattle.circuit.proofs.KindLaws.{class-is, owned-facts, opens-facts, give-prep}
 use Rattle.circuit.proofs.RoundLaws.{class-at-round}
 use Rattle.circuit.proofs.Tests.{by-cases}
-use Rattle.protocol.specs.Scratch.{Layout, wire, band}
+use Rattle.protocol.specs.Scratch.{Layout, band}
 use Rattle.protocol.specs.Position.{keep}
 use Rattle.protocol.specs.Party.{key, recordIn, recordOf, inputOf}
-use Rattle.protocol.specs.Send.{mark, inputWord, openingWords, opening, ownWords, sent, holds}
+use Rattle.protocol.specs.Send.{mark, inputWord, openingWords, opening, ownWords, shown, showing, sent, holds}
 use Rattle.protocol.specs.Holding.{Below, Held, Opened}
 use Rattle.protocol.specs.Code.{layoutOf}
 use Rattle.protocol.specs.Ready.{Named}
@@ -99,7 +99,7 @@ lentAll f c preps inputs coefficients nonces = jointOf (f .parties) c preps inpu
 
 module _ {f : Frame} {s : Course} {c preps inputs coefficients nonces held l : List ℕ} where
   module _ {r : Round} (g : Going (lentAll f c preps inputs coefficients nonces) f s r held l) where
-    record-end : s .prep + shape (gate c (s .point .gate)) .prep ≤ f .prep
+    pub record-end : s .prep + shape (gate c (s .point .gate)) .prep ≤ f .prep
     record-end = lent-record (g .lent) (g .prep-is) (within (lentAll f c preps inputs coefficients nonces) f s r held l g)
 
     -- what is cut out is what the definitions read
@@ -222,18 +222,26 @@ module _ {f : Frame} {s : Course} {c preps inputs coefficients nonces held l : L
           (λ i h. rw (cl, n .first, n .second, n .openings, record-is g i, g .lent .framed .lay)) d
 
   -- opened outputs
-  module _ (g : Going (lentAll f c preps inputs coefficients nonces) f s Open held l) {x : ℕ} (ex : x ≡ gate c (s .point .gate) .first) where
+  module _ (g : Going (lentAll f c preps inputs coefficients nonces) f s Open held l) {x : ℕ} (ex : x ≡ gate c (s .point .gate) .first)
+      {give : Bool} (eg : give ≡ isGive (gate c (s .point .gate))) where
     pub output-asks : (out : List ℕ) → length out ≡ f .parties * words (gate c (s .point .gate)) Open
-        → (f .parties ≤ mostParties) × Banded f l × EachBand f l (λ i m. Held size (layoutOf (f .layout)) m x) × (length out ≡ f .parties)
+        → (f .parties ≤ mostParties)
+        × Prepared f preps (s .prep) 0
+        × (give ≡ true → s .prep + maskSize ≤ f .prep)
+        × Banded f l
+        × EachBand f l (λ i m. Held size (layoutOf (f .layout)) m x)
+        × (length out ≡ f .parties)
     unfolding siteOf party
     output-asks out e = (
       g .lent .few,
+      lent-prepared (g .lent) (s .prep) 0 (omega (arith, record-end g)),
+      (λ b. omega (arith, record-end g, give-prep (gate c (s .point .gate)) (sym eg ∙ b))),
       lent-banded (g .lent) (g .room),
       λ i h. rw ex (output-held (party (lentAll f c preps inputs coefficients nonces) i) (band (f .scratch) l i) (f .layout) (siteOf c s i) (g .ready i h)),
       put-asks g out e (output-words (gate c (s .point .gate)) (class-at-round c (s .point .gate) Open (occurs (lentAll f c preps inputs coefficients nonces) f s Open held l g))) .1,
     )
 
-    pub said-output : {out : List ℕ} → out ≡ joined (f .parties) (λ i. wire (layoutOf (f .layout)) (band (f .scratch) l i) x .share ∷ [])
+    pub said-output : {out : List ℕ} → out ≡ joined (f .parties) (λ i. shown ops (layoutOf (f .layout)) (band (f .scratch) l i) give x (prepFrom f preps (s .prep) i) .share ∷ [])
         → out ≡ said ops (lentAll f c preps inputs coefficients nonces) (stateOf f s held l) Open
-    unfolding sent stateOf party
-    said-output d = said-by g _ (λ i h. rw (ex, g .lent .framed .lay)) d
+    unfolding sent showing stateOf party
+    said-output d = said-by g _ (λ i h. rw (ex, eg, record-is g i, g .lent .framed .lay)) d

@@ -4,6 +4,8 @@ use Prim.Native.Nat.{ℕ, zero, suc, _<_}
 use mathlib.Core.Path.{_≡_, refl, ap, ap₂, _∙_}
 use native.Mathlib.Omega.{arith}
 use Rattle.algebra.specs.Ops.{Ops}
+use Rattle.circuit.specs.Gate.{gate}
+use Rattle.circuit.specs.Kind.{receiver}
 use Rattle.circuit.specs.Round.{Round}
 use Rattle.protocol.specs.Scratch.{layout, marksOf}
 use Rattle.protocol.specs.Receive.{Ruling, finds}
@@ -34,9 +36,9 @@ module _ (O : Ops) (J : Joint) (s s′ : State) (r : Round) (a : Alike (J .parti
       lowest-ext (J .parties) (λ i. finds O (party J i) (notes O J s r i) r (said O J s r)) (λ i. finds O (party J i) (notes O J s′ r i) r (said O J s′ r))
       (λ i l. rw (said-alike, notes-alike i l))
 
-  pub released-alike : 0 < J .parties → released O J s r ≡ released O J s′ r
+  pub released-alike : receiver (gate (J .circuit) (s .point .gate)) < J .parties → released O J s r ≡ released O J s′ r
   unfolding released
-  released-alike h = rw (ends-alike, a .scratch 0 h)
+  released-alike h = rw (ends-alike, a .scratch (receiver (gate (J .circuit) (s .point .gate))) h, a .point)
 
   pub step-alike : Alike (J .parties) (step O J s r) (step O J s′ r)
   unfolding step takes taken

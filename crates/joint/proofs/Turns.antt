@@ -2,7 +2,7 @@
 -- Assumes nothing.
 use Prim.Native.Nat.{ℕ, suc, _+_, _-_, _*_, _<_, _≤_}
 use mathlib.Core.Path.{_≡_, refl, sym, ap, subst, _∙_}
-use mathlib.Core.Bool.{true, false, cond}
+use mathlib.Core.Bool.{Bool, true, false, cond}
 use mathlib.Core.List.{List, [], _∷_}
 use native.Mathlib.Numerals.{add-one}
 use native.Mathlib.Omega.{arith}
@@ -10,7 +10,7 @@ use lib.ListN.{length, getD, set, take, drop}
 use Rattle.algebra.specs.Element.{Is}
 use Rattle.field.specs.Words.{size, ops}
 use Rattle.circuit.specs.Gate.{gateSize, gate, gates}
-use Rattle.circuit.specs.Kind.{Owned, Opens, Output, shape, isClass, factor}
+use Rattle.circuit.specs.Kind.{Owned, Opens, Output, maskSize, shape, isClass, isGive, factor}
 use Rattle.circuit.specs.Count.{total, prepAt, unchecked, uncheckedAfter}
 use Rattle.circuit.specs.Round.{Second, Round, Own, Open, Commit, isCommit, isReveal, shapeWords, words, coefficientsIn, commitsIn}
 use Rattle.circuit.specs.Accept.{mostGates}
@@ -19,13 +19,13 @@ use Rattle.circuit.specs.declared.Shape as S
 use Rattle.circuit.proofs.KindLaws.{class-is, owned-no-out, opens-no-in, opens-no-out, owned-facts, opens-facts, shape-class, shape-prep, shape-openings, shape-words}
 use Rattle.circuit.proofs.Counts.{unchecked-few}
 use Rattle.circuit.proofs.RoundLaws.{class-at-round}
-use Rattle.protocol.specs.Scratch.{wire, band}
+use Rattle.protocol.specs.Scratch.{band}
 use Rattle.protocol.specs.Position.{Point, resume}
 use Rattle.protocol.specs.Receive.{Nobody, passed, heardSum}
 use Rattle.protocol.specs.Holding.{Below, Held}
 use Rattle.protocol.specs.Code.{layoutOf}
 use Rattle.protocol.specs.Ready.{Opening, heardFirst, Named, Hears, Summed}
-use Rattle.protocol.specs.Send.{inputWord}
+use Rattle.protocol.specs.Send.{inputWord, shown}
 use Rattle.protocol.specs.Ask.{mostParties}
 use Rattle.protocol.specs.Joint.{Joint, joined}
 use Rattle.protocol.specs.Run.{blamed, takes, said, step}
@@ -85,9 +85,9 @@ module _ {f : Frame} {s : Course} {c preps inputs coefficients nonces l t : List
   some-parties = omega (arith, u .going .lent .some)
 
   -- where the numbers of the next gates start, and what waits there
-  next-record : prepAt c (resume c (suc (s .point .gate)) .gate) ≡ prepAt c (s .point .gate) + shape (gate c (s .point .gate)) .prep
+  next-record : (r : Round) → resume c (suc (s .point .gate)) .stage ≡ Send r → prepAt c (resume c (suc (s .point .gate)) .gate) ≡ prepAt c (s .point .gate) + shape (gate c (s .point .gate)) .prep
   unfolding prepAt total
-  next-record = resumed-prep c (u .going .lent .valid) (s .point .gate) within-gates ∙ omega arith
+  next-record r e = resumed-prep c (s .point .gate) within-gates r e ∙ omega arith
 
   pub next-waits : {w k : ℕ} → isClass Output (shape (gate c (s .point .gate)) .class) ≡ false
       → w ≡ unchecked c (s .point .gate)
@@ -122,7 +122,7 @@ module _ {f : Frame} {s : Course} {c preps inputs coefficients nonces l t : List
         (subst (λ (z : List ℕ). l′ ≡ rebanded f (receivedIn f (undrawn J) (s .point .gate) l Own z) l) (heard-is u m-is d) el)
         (quiet-named (u .going) refl)
         (next-follows c (s .point .gate) _ Own (occurs J f s Own noneHeld l (u .going)) (quiet-passed (u .going) refl) at)
-        (ep ∙ omega (arith, u .going .prep-is, next-record) ∙ ap (λ (x : Point). prepAt c (x .gate)) (sym at))
+        (λ r′ e. ep ∙ omega (arith, u .going .prep-is, next-record r′ (ap (λ (x : Point). x .stage) (sym at) ∙ e)) ∙ ap (λ (x : Point). prepAt c (x .gate)) (sym at))
         refl (none-held (u .going) refl) (eu ∙ none-taken (u .going) refl) (ec ∙ none-begun (u .going) refl) (sent-to u m-is d) (ew ∙ omega (arith, said-long u, m-is)) en
 
   -- an in gate
@@ -304,16 +304,18 @@ module _ {f : Frame} {s : Course} {c preps inputs coefficients nonces l t : List
   pub show-end : s .written + f .parties ≤ length t
   show-end = round-end u shown-each
 
-  module _ {x : ℕ} (ex : x ≡ gate c (s .point .gate) .first) where
+  module _ {x : ℕ} (ex : x ≡ gate c (s .point .gate) .first) {give : Bool} (eg : give ≡ isGive (gate c (s .point .gate))) where
     pub show-sends : (f .parties ≤ mostParties)
+        × Prepared f preps (s .prep) 0
+        × (give ≡ true → s .prep + maskSize ≤ f .prep)
         × Banded f l
         × EachBand f l (λ i m. Held size (layoutOf (f .layout)) m x)
         × (length (take (s .written + f .parties - s .written) (drop (s .written) t)) ≡ f .parties)
-    show-sends = output-asks (u .going) ex (take (s .written + f .parties - s .written) (drop (s .written) t)) (round-room u shown-each)
+    show-sends = output-asks (u .going) ex eg (take (s .written + f .parties - s .written) (drop (s .written) t)) (round-room u shown-each)
 
-    module _ {ws : List ℕ} (d : ws ≡ joined (f .parties) (λ i. wire (layoutOf (f .layout)) (band (f .scratch) l i) x .share ∷ [])) where
+    module _ {ws : List ℕ} (d : ws ≡ joined (f .parties) (λ i. shown ops (layoutOf (f .layout)) (band (f .scratch) l i) give x (prepFrom f preps (s .prep) i) .share ∷ [])) where
       said-is : ws ≡ said ops (lentAll f c preps inputs coefficients nonces) (stateOf f s noneHeld l) Open
-      said-is = said-output (u .going) ex d
+      said-is = said-output (u .going) ex eg d
 
       pub show-long : length (sentAt s (f .parties) t ws) ≡ length t
       show-long = round-long u shown-each said-is
@@ -321,12 +323,16 @@ module _ {f : Frame} {s : Course} {c preps inputs coefficients nonces l t : List
       pub show-sums : (0 < 1) × (f .parties * 1 ≤ length (heardAt s (f .parties) t ws)) × ((i : ℕ) → i < f .parties → getD (heardAt s (f .parties) t ws) (i * 1 + 0) 0 < size)
       show-sums = rw (heard-is u shown-each said-is) (omega arith, omega (arith, said-long u, shown-each), λ i h. said-low u (i * 1 + 0))
 
-      pub show-asks : Banded f l × (0 < f .layout .capacity) × EachBand f l (λ i m. Held size (layoutOf (f .layout)) m x)
+      pub show-asks : Banded f l
+          × Prepared f preps (s .prep) 0
+          × (give ≡ true → s .prep + maskSize ≤ f .prep)
+          × (0 < f .layout .capacity)
+          × EachBand f l (λ i m. Held size (layoutOf (f .layout)) m x)
       show-asks =
           outputs-ask f s c preps inputs l (heardAt s (f .parties) t ws) (lent-undrawn (u .going .lent)) (u .going .room)
-          (round-receives u shown-each said-is) ex
+          (round-receives u shown-each said-is) ex eg
 
-      module _ {e : ℕ} (ee : Is size (heardSum ops (f .parties) 1 0 (heardAt s (f .parties) t ws)) e) {l₁ : List ℕ} (el : l₁ ≡ rebanded f (outputLeft f l x e) l) where
+      module _ {e : ℕ} (ee : Is size (heardSum ops (f .parties) 1 0 (heardAt s (f .parties) t ws)) e) {l₁ : List ℕ} (el : l₁ ≡ rebanded f (outputLeft f preps l (s .prep) x give e) l) where
         shown-is : e ≡ heardFirst ops (f .parties) (gate c (s .point .gate)) Open (heardAt s (f .parties) t ws)
         shown-is =
             ee .is
@@ -336,7 +342,7 @@ module _ {f : Frame} {s : Course} {c preps inputs coefficients nonces l t : List
         left-is : l₁ ≡ rebanded f (receivedIn f (undrawn (lentAll f c preps inputs coefficients nonces)) (s .point .gate) l Open (heardAt s (f .parties) t ws)) l
         left-is =
             outputs-received f s c preps inputs l (heardAt s (f .parties) t ws) (lent-undrawn (u .going .lent)) (u .going .room)
-            (round-receives u shown-each said-is) ex shown-is el
+            (round-receives u shown-each said-is) ex eg shown-is el
 
         pub show-moved : {s′ : Course} → s′ .point ≡ dueAt (s .point .gate) (Commit Second) → s′ .prep ≡ s .prep → s′ .used ≡ s .used → s′ .checks ≡ s .checks
             → s′ .written ≡ s .written + f .parties
@@ -347,5 +353,5 @@ module _ {f : Frame} {s : Course} {c preps inputs coefficients nonces l t : List
             (subst (λ (z : List ℕ). l₁ ≡ rebanded f (receivedIn f (undrawn (lentAll f c preps inputs coefficients nonces)) (s .point .gate) l Open z) l) (heard-is u shown-each said-is) left-is)
             (quiet-named (u .going) refl)
             (next-follows c (s .point .gate) _ Open (occurs _ f _ Open noneHeld l (u .going)) (quiet-passed (u .going) refl) at)
-            (ep ∙ u .going .prep-is ∙ ap (λ (x : Point). prepAt c (x .gate)) (sym at)) refl (none-held (u .going) refl) (eu ∙ none-taken (u .going) refl) (ec ∙ none-begun (u .going) refl) (sent-to u shown-each said-is)
+            (λ r′ w. ep ∙ u .going .prep-is ∙ ap (λ (x : Point). prepAt c (x .gate)) (sym at)) refl (none-held (u .going) refl) (eu ∙ none-taken (u .going) refl) (ec ∙ none-begun (u .going) refl) (sent-to u shown-each said-is)
             (ew ∙ omega (arith, said-long u, shown-each)) en

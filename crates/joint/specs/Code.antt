@@ -253,6 +253,20 @@ pub record Checked (f : Frame) (preps l : List ℕ) (k u : ℕ) (coefficients : 
       ≡ writtenAt (a + f .parties * commitWords) (revealsIn f preps l k u coefficients q nonces)
       (writtenAt a (marksIn f preps l k u coefficients q nonces) t)
 
+-- where a run stands after a check of k entries that lets it go on
+abbrev pub checkedStop : Frame → ℕ → Stop → Stop
+checkedStop f k s =
+    record {
+      gate = s .gate;
+      prep = s .prep;
+      waiting = 0;
+      used = s .used + k;
+      checks = s .checks + 1;
+      written = s .written + f .parties * commitWords + f .parties * revealWords;
+      released = s .released;
+      rounds = s .rounds + 2;
+    }
+
 -- what the words of party i in round r are
 abbrev pub saidBy : Ops → Joint → State → Round → ℕ → List ℕ
 saidBy O J s r i = sent O (party J i) (s .scratch i) (s .point .gate) (s .held i) (taken O J s r) (nonceFor J (s .checks) i) r
@@ -292,7 +306,7 @@ pub record Alike (n : ℕ) (s s′ : State) : Type 0 where
 -- what a round leaves, its outputs aside
 pub record Moved (J : Joint) (f : Frame) (s : Course) (r : Round) (held l t : List ℕ) (s′ : Course) (held′ l′ t′ : List ℕ) : Type 0 where
   pub alike : Alike (J .parties) (stateOf f s′ held′ l′) (step ops J (stateOf f s held l) r)
-  pub prep-is : s′ .prep ≡ prepAt (J .circuit) (s′ .point .gate)
+  pub prep-is : (r′ : Round) → s′ .point .stage ≡ Send r′ → s′ .prep ≡ prepAt (J .circuit) (s′ .point .gate)
   pub eight : length held′ ≡ mostParties
   pub held-low : (i : ℕ) → i < J .parties → getD held′ i 0 < size
   pub long : length l′ ≡ length l

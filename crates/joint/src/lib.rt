@@ -51,6 +51,12 @@ pub struct Stop {
     pub rounds: usize,
 }
 
+// A check that is made: the sum of the check shares, and where the run stands if it goes on.
+pub struct Checkup {
+    pub sum: Word,
+    pub next: Stop,
+}
+
 pub fn joint_run(
     parties: usize,
     c: &[Word],

@@ -5,16 +5,17 @@ use circuit::Kind;
 use field::Word;
 ghost use mathlib.Core.Path.{_≡_};
 ghost use mathlib.Core.Bool.{true};
-ghost use Prim.Native.Nat.{_+_, _-_, _*_, _<_};
+ghost use Prim.Native.Nat.{_+_, _-_, _*_, _<_, _≤_};
 ghost use lib.ListN.{length};
 ghost use Rattle.field.specs.Words.{size, ops};
-ghost use Rattle.circuit.specs.Gate.{gateOf};
-ghost use Rattle.circuit.specs.Kind.{Local, kindShape, isClass};
+ghost use Rattle.circuit.specs.Gate.{gateSize, gate, gateOf};
+ghost use Rattle.circuit.specs.Kind.{Local, maskSize, kindShape, isClass, receiver};
 ghost use Rattle.circuit.specs.Round.{commitWords};
 ghost use Rattle.circuit.specs.Code.{kindOf};
 ghost use Rattle.protocol.specs.Position.{reach};
-ghost use Rattle.protocol.specs.Receive.{afterInput, afterOpening, afterOpenOutput, afterLinear, settle};
-ghost use Rattle.protocol.specs.Holding.{Held, Reads};
+ghost use Rattle.protocol.specs.Send.{shown};
+ghost use Rattle.protocol.specs.Receive.{afterInput, afterOpening, afterOpenOutput, score, afterLinear, settle};
+ghost use Rattle.protocol.specs.Holding.{Held, Opened, Reads};
 ghost use Rattle.protocol.specs.Code.{layoutOf};
 ghost use Rattle.protocol.specs.Ready.{Opening};
 ghost use Rattle.protocol.specs.Scratch.{band, putMarks};
@@ -93,20 +94,68 @@ pub fn receive_openings(
     }
 }
 
-// An out gate that names x; e is the sum of the shown shares.
-pub fn receive_outputs(f: Frame, x: usize, scratch: &mut [Word], e: Word)
-    requires { ⌜ Banded f (now scratch) × (0 < f .layout .capacity) × EachBand f (now scratch) (λ i l. Held size (layoutOf (f .layout)) l x) ⌝ }
+// An output that names x; e is the sum of the shown shares, and the record of a give stands at number at.
+pub fn receive_outputs(
+    f: Frame,
+    at: usize,
+    x: usize,
+    give: bool,
+    preps: &[Word],
+    scratch: &mut [Word],
+    e: Word,
+)
+    requires { ⌜ Banded f (now scratch)
+        × Prepared f (now preps) at 0
+        × (give ≡ true → at + maskSize ≤ f .prep)
+        × (0 < f .layout .capacity)
+        × EachBand f (now scratch) (λ i l. Held size (layoutOf (f .layout)) l x) ⌝ }
     ensures { λ r. ⌜ now (scratch .exit)
-        ≡ rebanded f (λ i. afterOpenOutput ops (layoutOf (f .layout)) (band (f .scratch) (now (scratch .entry)) i) x e) (now (scratch .entry)) ⌝ }
+        ≡ rebanded f (λ i. afterOpenOutput ops (layoutOf (f .layout)) (band (f .scratch) (now (scratch .entry)) i) (shown ops (layoutOf (f .layout)) (band (f .scratch) (now (scratch .entry)) i) give x (prepFrom f (now (preps .entry)) at i)) e) (now (scratch .entry)) ⌝ }
 {
     let mut start = 0;
     let mut i = 0;
     while i < f.parties {
         let end = start + f.scratch;
-        steps::receiving::after_open_output(f.layout, &mut scratch[start..end], x, e);
+        let first = i * f.prep + at;
+        let last = i * f.prep + f.prep;
+        steps::receiving::after_open_output(
+            f.layout,
+            &mut scratch[start..end],
+            x,
+            give,
+            &preps[first..last],
+            e,
+        );
         start = end;
         i += 1;
     }
+}
+
+// The score of output j that is listed, from the receiver's band and record; the record of a give stands at number at.
+pub fn listed_score(
+    f: Frame,
+    c: &[Word],
+    j: usize,
+    at: usize,
+    give: bool,
+    preps: &[Word],
+    scratch: &[Word],
+) -> Word
+    requires { ⌜ (gateSize * j + gateSize ≤ length (now c))
+        × (receiver (gate (now c) j) < f .parties)
+        × Banded f (now scratch)
+        × Prepared f (now preps) at 0
+        × (give ≡ true → at + maskSize ≤ f .prep)
+        × EachBand f (now scratch) (λ i l. Opened size (layoutOf (f .layout)) l 0) ⌝ }
+    ensures { λ r. ⌜ r
+        ≡ score ops (layoutOf (f .layout)) (band (f .scratch) (now (scratch .entry)) (receiver (gate (now (c .entry)) j))) give (prepFrom f (now (preps .entry)) at (receiver (gate (now (c .entry)) j))) ⌝ }
+{
+    let i = gates::reading::receiver_at(c, j);
+    let first = i * f.prep + at;
+    let last = i * f.prep + f.prep;
+    let start = i * f.scratch;
+    let end = start + f.scratch;
+    steps::receiving::score_of(&scratch[start..end], f.layout, give, &preps[first..last])
 }
 
 // A commitment, whose words are the marks of all.

@@ -1,5 +1,6 @@
 // The rounds of a run, gate by gate: in each, every party sends, and then every party receives the words of all. Nothing is asked here:
 // what is needed is what the entry has asked.
+use crate::Checkup;
 use crate::Frame;
 use crate::JointAnswer;
 use crate::Stop;
@@ -11,16 +12,16 @@ use circuit::rounds::NONCE_SIZE;
 use circuit::rounds::REVEAL_WORDS;
 use field::Word;
 use protocol::Blame;
-use protocol::Slot;
 ghost use mathlib.Core.Path.{_≡_};
-ghost use Prim.Native.Nat.{suc, _+_};
+ghost use Prim.Native.Nat.{suc, _+_, _*_, _<_};
 ghost use Rattle.circuit.specs.Gate.{gate};
 ghost use Rattle.circuit.specs.Kind.{Owned, Opens, shape};
 ghost use Rattle.circuit.specs.Count.{unchecked};
 ghost use Rattle.circuit.specs.Round.{Second, Own, Open, Commit};
+ghost use Rattle.circuit.specs.Accept.{mostGates};
 ghost use Rattle.circuit.specs.Code.{shapeOf};
 ghost use Rattle.protocol.specs.Position.{resume};
-ghost use Rattle.joint.specs.Code.{jointOf, Placed, courseOf, dueAt, Moving, Moved, noneHeld, Passed, Kept, Checks, Checked, SettlesAll, settledAll, Runnable, Ran};
+ghost use Rattle.joint.specs.Code.{jointOf, Placed, courseOf, dueAt, Moving, Moved, noneHeld, Passed, Kept, Checks, Checked, checkedStop, SettlesAll, settledAll, Runnable, Ran};
 
 // The round of an in gate, which has the shape g; each party's next input is at its place.
 fn input_round(
@@ -139,10 +140,11 @@ fn opening_round(
     }
 }
 
-// The opening of an output.
+// The opening of an output, which has the shape g.
 fn show_round(
     f: Frame,
     s: Stop,
+    g: Shape,
     c: &[Word],
     preps: &[Word],
     inputs: &[Word],
@@ -151,7 +153,8 @@ fn show_round(
     nonces: &[u8],
     transcript: &mut [Word],
 ) -> Stop
-    requires { ⌜ Moving (jointOf (f .parties) (now c) (now preps) (now inputs) (now coefficients) (now nonces)) f (courseOf (dueAt (s .gate) Open) s) Open noneHeld (now scratch) (now transcript) ⌝ }
+    requires { ⌜ Moving (jointOf (f .parties) (now c) (now preps) (now inputs) (now coefficients) (now nonces)) f (courseOf (dueAt (s .gate) Open) s) Open noneHeld (now scratch) (now transcript)
+        × (shapeOf g ≡ shape (gate (now c) (s .gate))) ⌝ }
     ensures { λ r. ⌜ Moved (jointOf (f .parties) (now (c .entry)) (now (preps .entry)) (now (inputs .entry)) (now (coefficients .entry)) (now (nonces .entry))) f (courseOf (dueAt (s .gate) Open) s) Open noneHeld (now (scratch .entry)) (now (transcript .entry)) (courseOf (dueAt (s .gate) (Commit Second)) r) noneHeld (now (scratch .exit)) (now (transcript .exit))
         × Kept s r
         × (r .gate ≡ s .gate)
@@ -160,9 +163,18 @@ fn show_round(
     let start = s.written;
     let end = start + f.parties;
     let x = gates::reading::first_at(c, s.gate);
-    sending::output_words(f, x, scratch, &mut transcript[start..end]);
+    let give = circuit::shapes::is_give(g);
+    sending::output_words(
+        f,
+        s.prep,
+        x,
+        give,
+        preps,
+        scratch,
+        &mut transcript[start..end],
+    );
     let e = steps::receiving::heard_sum(f.parties, 1, 0, &transcript[start..end]);
-    receiving::receive_outputs(f, x, scratch, e);
+    receiving::receive_outputs(f, s.prep, x, give, preps, scratch, e);
     Stop {
         gate: s.gate,
         prep: s.prep,
@@ -176,7 +188,7 @@ fn show_round(
 }
 
 // Both rounds of a check of the first k opened entries: the marks of all go to the transcript and, with each party's nonce, to the scratch; then
-// what they reveal goes to the transcript. The sum of the check shares, which alone decides: that each reveal fits its mark is proved, and not asked.
+// what they reveal goes to the transcript. The sum of the check shares alone decides: that each reveal fits its mark is proved, and not asked.
 fn check(
     f: Frame,
     k: usize,
@@ -186,9 +198,11 @@ fn check(
     coefficients: &[Word],
     nonces: &[u8],
     transcript: &mut [Word],
-) -> Word
-    requires { ⌜ Checks f (now preps) (now scratch) k (s .used) (now coefficients) (s .checks) (now nonces) (s .written) (now transcript) ⌝ }
-    ensures { λ e. ⌜ Checked f (now (preps .entry)) (now (scratch .entry)) k (s .used) (now (coefficients .entry)) (s .checks) (now (nonces .entry)) (s .written) (now (transcript .entry)) e (now (scratch .exit)) (now (transcript .exit)) ⌝ }
+) -> Checkup
+    requires { ⌜ Checks f (now preps) (now scratch) k (s .used) (now coefficients) (s .checks) (now nonces) (s .written) (now transcript)
+        × (s .rounds < 5 * mostGates) ⌝ }
+    ensures { λ r. ⌜ Checked f (now (preps .entry)) (now (scratch .entry)) k (s .used) (now (coefficients .entry)) (s .checks) (now (nonces .entry)) (s .written) (now (transcript .entry)) (r .sum) (now (scratch .exit)) (now (transcript .exit))
+        × (r .next ≡ checkedStop f k s) ⌝ }
 {
     let n = f.parties;
     let first = s.checks * n * NONCE_SIZE;
@@ -202,7 +216,20 @@ fn check(
     sending::commit_words(f, &held, scratch, &mut transcript[start..middle]);
     receiving::receive_marks(f, scratch, &transcript[start..middle]);
     sending::reveal_words(f, &held, scratch, &mut transcript[middle..end]);
-    steps::receiving::heard_sum(n, REVEAL_WORDS, 0, &transcript[middle..end])
+    let sum = steps::receiving::heard_sum(n, REVEAL_WORDS, 0, &transcript[middle..end]);
+    Checkup {
+        sum,
+        next: Stop {
+            gate: s.gate,
+            prep: s.prep,
+            waiting: 0,
+            used: s.used + k,
+            checks: s.checks + 1,
+            written: end,
+            released: s.released,
+            rounds: s.rounds + 2,
+        },
+    }
 }
 
 // Gate after gate, until a check stops the run or no gate is left. Each party's next input is at its place. The linear gates after a gate belong
@@ -275,7 +302,7 @@ pub fn run(
         }
         let waiting = s.waiting;
         if waiting != 0 {
-            let sum = check(
+            let first = check(
                 f,
                 waiting,
                 s,
@@ -285,30 +312,20 @@ pub fn run(
                 nonces,
                 transcript,
             );
-            let made = s.rounds + 2;
-            if sum != 0 {
+            s = first.next;
+            if first.sum != 0 {
                 return JointAnswer::Aborted {
                     gate: j,
                     blame: Blame::Nobody,
-                    rounds: made,
+                    rounds: s.rounds,
                 };
             }
-            let next = Stop {
-                gate: j,
-                prep: s.prep,
-                waiting: 0,
-                used: s.used + waiting,
-                checks: s.checks + 1,
-                written: s.written + f.parties * COMMIT_WORDS + f.parties * REVEAL_WORDS,
-                released: s.released,
-                rounds: made,
-            };
-            s = next;
             continue;
         }
         s = show_round(
             f,
             s,
+            g,
             c,
             preps,
             inputs,
@@ -317,28 +334,20 @@ pub fn run(
             nonces,
             transcript,
         );
-        let e = check(f, 1, s, preps, scratch, coefficients, nonces, transcript);
-        let rounds = s.rounds + 2;
-        if e != 0 {
+        let second = check(f, 1, s, preps, scratch, coefficients, nonces, transcript);
+        s = second.next;
+        if second.sum != 0 {
             return JointAnswer::Aborted {
                 gate: j,
                 blame: Blame::Nobody,
-                rounds,
+                rounds: s.rounds,
             };
         }
-        let w = f.scratch;
         let at = s.released;
-        outputs[at] = steps::scratch::read_slot(&scratch[..w], f.layout, Slot::Value(0));
-        let next = Stop {
-            gate: j + 1,
-            prep: s.prep,
-            waiting: 0,
-            used: s.used + 1,
-            checks: s.checks + 1,
-            written: s.written + f.parties * COMMIT_WORDS + f.parties * REVEAL_WORDS,
-            released: at + 1,
-            rounds,
-        };
-        s = next;
+        let give = circuit::shapes::is_give(g);
+        outputs[at] = receiving::listed_score(f, c, j, s.prep, give, preps, scratch);
+        s.gate = j + 1;
+        s.prep += g.prep;
+        s.released = at + 1;
     }
 }

@@ -8,15 +8,17 @@ use field::Word;
 use steps::Ends;
 use steps::Sums;
 ghost use mathlib.Core.Path.{_≡_};
+ghost use mathlib.Core.Bool.{true};
 ghost use mathlib.Core.List.{[], _∷_};
 ghost use Prim.Native.Nat.{ℕ, _+_, _-_, _*_, _<_, _≤_};
 ghost use lib.ListN.{length, getD};
 ghost use Rattle.algebra.specs.Element.{Is};
 ghost use Rattle.field.specs.Words.{ops, size};
+ghost use Rattle.circuit.specs.Kind.{maskSize};
 ghost use Rattle.circuit.specs.Round.{commitWords, nonceSize, revealWords};
 ghost use Rattle.sha256.specs.Sha256.{wordsOf};
-ghost use Rattle.protocol.specs.Scratch.{wire, band, putNonce};
-ghost use Rattle.protocol.specs.Send.{mark, inputWord, openingWords};
+ghost use Rattle.protocol.specs.Scratch.{band, putNonce};
+ghost use Rattle.protocol.specs.Send.{mark, inputWord, openingWords, shown};
 ghost use Rattle.protocol.specs.Receive.{heardSum};
 ghost use Rattle.protocol.specs.Holding.{Below, Held, Opened};
 ghost use Rattle.protocol.specs.Code.{layoutOf};
@@ -101,20 +103,38 @@ pub fn opening_words(
     steps::receiving::heard_ends(sums)
 }
 
-// The share that each party shows at an out gate into out, of the gate x that it names.
-pub fn output_words(f: Frame, x: usize, scratch: &[Word], out: &mut [Word])
+// The share that each party shows at an output into out, of the gate x that it names; the record of a give stands at number at.
+pub fn output_words(
+    f: Frame,
+    at: usize,
+    x: usize,
+    give: bool,
+    preps: &[Word],
+    scratch: &[Word],
+    out: &mut [Word],
+)
     requires { ⌜ (f .parties ≤ mostParties)
+        × Prepared f (now preps) at 0
+        × (give ≡ true → at + maskSize ≤ f .prep)
         × Banded f (now scratch)
         × EachBand f (now scratch) (λ i l. Held size (layoutOf (f .layout)) l x)
         × (length (now out) ≡ f .parties) ⌝ }
     ensures { λ r. ⌜ now (out .exit)
-        ≡ joined (f .parties) (λ i. wire (layoutOf (f .layout)) (band (f .scratch) (now (scratch .entry)) i) x .share ∷ []) ⌝ }
+        ≡ joined (f .parties) (λ i. shown ops (layoutOf (f .layout)) (band (f .scratch) (now (scratch .entry)) i) give x (prepFrom f (now (preps .entry)) at i) .share ∷ []) ⌝ }
 {
     let mut i = 0;
     while i < f.parties {
+        let first = i * f.prep + at;
+        let last = i * f.prep + f.prep;
         let start = i * f.scratch;
         let end = start + f.scratch;
-        let shown = steps::scratch::wire_at(&scratch[start..end], f.layout, x);
+        let shown = steps::sending::shown_part(
+            &scratch[start..end],
+            f.layout,
+            x,
+            give,
+            &preps[first..last],
+        );
         out[i] = shown.share;
         i += 1;
     }
