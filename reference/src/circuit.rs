@@ -18,12 +18,15 @@ pub const TIMES: u32 = 5;
 pub const MUL: u32 = 6;
 pub const OUT: u32 = 7;
 pub const SQ: u32 = 8;
+pub const GIVE: u32 = 9;
 
 /// The least number above 0 that is no kind.
-pub const NO_KIND: u32 = 9;
+pub const NO_KIND: u32 = 10;
 
-/// The names of kinds 1 to 8.
-pub const KIND_NAMES: [&str; 8] = ["in", "add", "sub", "plus", "times", "mul", "out", "sq"];
+/// The names of kinds 1 to 9.
+pub const KIND_NAMES: [&str; 9] = [
+    "in", "add", "sub", "plus", "times", "mul", "out", "sq", "give",
+];
 
 #[derive(Clone, Copy, Debug, PartialEq, Eq)]
 pub enum Gate {
@@ -35,6 +38,7 @@ pub enum Gate {
     Multiply { left: usize, right: usize },
     Output { wire: usize },
     Square { wire: usize },
+    Give { wire: usize, receiver: u32 },
 }
 
 /// What a gate takes from the preprocessing, and what it opens.
@@ -58,6 +62,8 @@ impl Gate {
             Gate::Multiply { .. } => (6, 2, Some(Round::Multiply)),
             // a, MAC of a, c, MAC of c.
             Gate::Square { .. } => (4, 1, Some(Round::Square)),
+            // Mask share, MAC share, whole mask. It stops as an out gate does, and has no round of its own.
+            Gate::Give { .. } => (3, 0, None),
             _ => (0, 0, None),
         };
         Needs {
@@ -72,16 +78,30 @@ impl Gate {
         self.needs().record
     }
 
+    /// Whether the gate is an out or a give gate: it has no value, opens one and checks all that is opened.
+    pub fn is_output(self) -> bool {
+        matches!(self, Gate::Output { .. } | Gate::Give { .. })
+    }
+
+    /// The party that alone is told what a give gate releases.
+    pub fn receiver(self) -> Option<u32> {
+        match self {
+            Gate::Give { receiver, .. } => Some(receiver),
+            _ => None,
+        }
+    }
+
     /// The opened and unchecked entries after the gate, given those before it.
     pub fn pending_after(self, pending: usize) -> usize {
-        match self {
-            Gate::Output { .. } => 0,
-            _ => pending + self.needs().entries,
+        if self.is_output() {
+            0
+        } else {
+            pending + self.needs().entries
         }
     }
 }
 
-/// Reads the four numbers of a gate. None if the kind is not 1 to 8.
+/// Reads the four numbers of a gate. None if the kind is not 1 to 9.
 fn decode(line: &[u32]) -> Option<Gate> {
     let &[kind, first, second, constant] = line else {
         return None;
@@ -102,6 +122,10 @@ fn decode(line: &[u32]) -> Option<Gate> {
         MUL => Some(Gate::Multiply { left, right }),
         OUT => Some(Gate::Output { wire: left }),
         SQ => Some(Gate::Square { wire: left }),
+        GIVE => Some(Gate::Give {
+            wire: left,
+            receiver: second,
+        }),
         _ => None,
     }
 }
@@ -120,9 +144,9 @@ pub(crate) fn has_two_names(kind: u32) -> bool {
     [ADD, SUB, MUL].contains(&kind)
 }
 
-/// Whether the gate has a value: "an out line has no value".
+/// Whether the gate has a value: "an out line has no value", and "a give has no value".
 pub(crate) fn has_value(line: &[u32]) -> bool {
-    line[0] != OUT
+    ![OUT, GIVE].contains(&line[0])
 }
 
 /// The counts that decide the lengths of all lists.
@@ -135,8 +159,11 @@ pub struct Shape {
     pub owned: [usize; MAX_PARTIES],
     pub products: usize,
     pub squares: usize,
+    /// Out and give gates.
     pub outputs: usize,
-    /// Out gates that have something opened and unchecked before them.
+    /// Give gates.
+    pub gives: usize,
+    /// Out and give gates that have something opened and unchecked before them.
     pub checked_outputs: usize,
     /// Numbers of all records.
     records: usize,
@@ -192,11 +219,12 @@ impl Shape {
             }
             Gate::Multiply { .. } => self.products += 1,
             Gate::Square { .. } => self.squares += 1,
-            Gate::Output { .. } => {
-                self.outputs += 1;
-                self.checked_outputs += usize::from(pending > 0);
-            }
+            Gate::Give { .. } => self.gives += 1,
             _ => {}
+        }
+        if gate.is_output() {
+            self.outputs += 1;
+            self.checked_outputs += usize::from(pending > 0);
         }
         let needs = gate.needs();
         self.records += needs.record;
@@ -271,6 +299,7 @@ fn ask_gate(parties: u32, circuit: &[u32], index: usize) -> Result<Gate, u32> {
         | Gate::Times { wire, .. }
         | Gate::Output { wire }
         | Gate::Square { wire } => is_wire(wire),
+        Gate::Give { wire, receiver } => is_wire(wire) && receiver < parties,
     };
     if !names {
         return Err(5);
@@ -278,7 +307,9 @@ fn ask_gate(parties: u32, circuit: &[u32], index: usize) -> Result<Gate, u32> {
     let (second, last) = (line[2], line[3]);
     let fields = match gate {
         Gate::Input { .. } | Gate::Output { .. } | Gate::Square { .. } => second == 0 && last == 0,
-        Gate::Add { .. } | Gate::Sub { .. } | Gate::Multiply { .. } => last == 0,
+        Gate::Add { .. } | Gate::Sub { .. } | Gate::Multiply { .. } | Gate::Give { .. } => {
+            last == 0
+        }
         Gate::Plus { constant, .. } | Gate::Times { constant, .. } => second == 0 && constant < P,
     };
     if fields {
@@ -303,6 +334,7 @@ pub(crate) fn ask_circuit(parties: u32, circuit: &[u32]) -> Result<Shape, Refusa
         products: 0,
         squares: 0,
         outputs: 0,
+        gives: 0,
         checked_outputs: 0,
         records: 0,
         entries: 0,
@@ -356,7 +388,7 @@ pub fn rounds(circuit: &[u32]) -> Vec<(usize, Round)> {
     let mut pending = 0;
     for (index, gate) in gates(circuit).enumerate() {
         rounds.extend(gate.needs().round.map(|round| (index, round)));
-        if let Gate::Output { .. } = gate {
+        if gate.is_output() {
             if pending > 0 {
                 rounds
                     .extend([Round::CommitOpened, Round::RevealOpened].map(|round| (index, round)));

@@ -117,6 +117,18 @@ impl<'a> Run<'a> {
         sum
     }
 
+    fn open_give(&mut self, wire: usize, record: usize) -> u32 {
+        let words = self.round(1);
+        for (word, (local, prep, band)) in words.iter_mut().zip(self.each()) {
+            *word = local.give_word(band, &prep[record..], wire);
+        }
+        let sum = field::sum(&*words);
+        for (local, prep, band) in self.each() {
+            local.receive_give(band, &prep[record..], wire, sum);
+        }
+        sum
+    }
+
     /// The commit and reveal rounds of a check of the first `entries` opened entries: whether it passes.
     fn check(&mut self, entries: usize) -> bool {
         let (now, later) = self.coefficients.split_at(entries);
@@ -141,13 +153,25 @@ impl<'a> Run<'a> {
         field::sum(revealed.iter().step_by(REVEALED)) == 0
     }
 
-    /// The rounds of an out gate: the released output, or None if a check fails.
-    fn output(&mut self, wire: usize, pending: usize) -> Option<u32> {
+    /// The rounds of an out or a give gate: the released output, or None if a check fails.
+    fn output(
+        &mut self,
+        wire: usize,
+        receiver: Option<u32>,
+        record: usize,
+        pending: usize,
+    ) -> Option<u32> {
         if pending > 0 && !self.check(pending) {
             return None;
         }
-        let sum = self.open_output(wire);
-        self.check(1).then_some(sum)
+        let output = match receiver {
+            None => self.open_output(wire),
+            Some(receiver) => {
+                let whole_mask = self.preps[receiver as usize * self.prep_len + record + 2];
+                field::add(self.open_give(wire, record), whole_mask)
+            }
+        };
+        self.check(1).then_some(output)
     }
 
     fn result(&self, ending: Ending, outputs: usize) -> JointResult {
@@ -212,8 +236,8 @@ pub fn joint_run(
             }
             Gate::Multiply { left, right } => run.multiply((index, left, right), record, pending),
             Gate::Square { wire } => run.square((index, wire), record, pending),
-            Gate::Output { wire } => {
-                let Some(output) = run.output(wire, pending) else {
+            Gate::Output { wire } | Gate::Give { wire, .. } => {
+                let Some(output) = run.output(wire, gate.receiver(), record, pending) else {
                     let ending = Ending::Aborted {
                         gate: index as u32,
                         party: None,

@@ -1,4 +1,4 @@
-//! The online phase of SPDZ as document 01 has it, with squares and with commitments, written a second time
+//! The online phase of SPDZ as document 01 has it, with squares, commitments and gives, written a second time
 //! and independently: a source of test vectors, and a baseline for speed. Circuits are read and written as text too, as sheets.
 //!
 //! Names are the field's standard terms: a party is document 01's seat, a gate its line (the gate's
@@ -11,6 +11,7 @@ pub mod commitment;
 pub mod docket;
 pub mod example;
 pub mod field;
+pub mod give;
 pub mod joint;
 mod local;
 pub mod party;

@@ -119,6 +119,17 @@ impl Local {
         scratch[self.layout.opened_mac(0)] = scratch[self.layout.mac(wire)];
     }
 
+    /// A give gate "shows the line less the mask": the same at every party.
+    pub fn give_word(self, scratch: &[u32], record: &[u32], wire: usize) -> u32 {
+        sub(scratch[self.layout.share(wire)], record[0])
+    }
+
+    /// Makes the sum and its MAC share, which is the wire's less the mask's, the only opened entry.
+    pub fn receive_give(self, scratch: &mut [u32], record: &[u32], wire: usize, sum: u32) {
+        scratch[self.layout.opened(0)] = sum;
+        scratch[self.layout.opened_mac(0)] = sub(scratch[self.layout.mac(wire)], record[1]);
+    }
+
     /// "v is the sum of draw x opened value; the check word is the sum of draw x MAC share, less key
     /// share x v." There is one coefficient for each opened entry.
     pub fn check_share(self, scratch: &[u32], coefficients: &[u32]) -> u32 {
@@ -156,6 +167,11 @@ impl Local {
         scratch[self.layout.opened(0)]
     }
 
+    /// The score that a passing second check gives the receiver: "the shown sum plus the whole mask".
+    pub fn given(self, scratch: &[u32], record: &[u32]) -> u32 {
+        add(scratch[self.layout.opened(0)], record[2])
+    }
+
     /// "Plus adds the constant at seat 0 only and key share x constant to every MAC share. Add, sub
     /// and times act on share and MAC share alike." False, with nothing written, for a gate that
     /// needs a round.
@@ -180,7 +196,8 @@ impl Local {
             Gate::Input { .. }
             | Gate::Multiply { .. }
             | Gate::Square { .. }
-            | Gate::Output { .. } => return false,
+            | Gate::Output { .. }
+            | Gate::Give { .. } => return false,
         };
         scratch[layout.share(index)] = new_share;
         scratch[layout.mac(index)] = new_mac;

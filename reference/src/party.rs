@@ -22,6 +22,7 @@ pub struct Party<'a> {
 #[derive(Clone, Copy, Debug, PartialEq, Eq)]
 pub enum Received {
     Moved(Position),
+    /// At an out gate every party is released its output; at a give gate the receiver alone.
     Released {
         output: u32,
         position: Position,
@@ -197,6 +198,9 @@ pub fn send(
         Gate::Output { wire } if round == Round::OpenOutput => {
             out[0] = local.output_word(scratch, wire)
         }
+        Gate::Give { wire, .. } if round == Round::OpenOutput => {
+            out[0] = local.give_word(scratch, record, wire)
+        }
         _ if round.is_commit() => {
             held = local.check_share(scratch, coefficients);
             local.keep_nonce(scratch, nonce);
@@ -285,14 +289,25 @@ pub fn receive(
             local.receive_output(scratch, wire, field::sum(heard));
             Received::Moved(same_gate(Sort::CommitOutput, 0))
         }
+        (Round::OpenOutput, Gate::Give { wire, .. }) => {
+            local.receive_give(scratch, record, wire, field::sum(heard));
+            Received::Moved(same_gate(Sort::CommitOutput, 0))
+        }
         (Round::CommitOpened, _) => Received::Moved(same_gate(Sort::RevealOpened, position.held)),
         (Round::CommitOutput, _) => Received::Moved(same_gate(Sort::RevealOutput, position.held)),
         (Round::RevealOpened, _) => Received::Moved(same_gate(Sort::OpenOutput, 0)),
-        // Question 13 leaves only the second reveal of an out gate.
+        // Question 13 leaves only the second reveal of an out or a give gate.
         _ => {
-            let output = local.output(scratch);
+            let output = match gate.receiver() {
+                None => Some(local.output(scratch)),
+                // "Others get no score."
+                Some(receiver) => (receiver == lent.party).then(|| local.given(scratch, record)),
+            };
             let position = next_gate(lent.circuit, &step, scratch);
-            Received::Released { output, position }
+            match output {
+                Some(output) => Received::Released { output, position },
+                None => Received::Moved(position),
+            }
         }
     })
 }

@@ -5,7 +5,7 @@ use crate::field::{add, mul, sub};
 use crate::joint::first_inputs;
 use crate::refusal::Refusal;
 
-/// The value of each gate on inputs joined in party order; None for an out gate, which has no value.
+/// The value of each gate on inputs joined in party order; None for an out or a give gate, which has no value.
 /// Fails as questions 1 and 3 to 7 do. Panics if inputs are missing.
 pub fn values(parties: u32, circuit: &[u32], inputs: &[u32]) -> Result<Vec<Option<u32>>, Refusal> {
     let shape = circuit::shape(parties, circuit)?;
@@ -26,25 +26,25 @@ pub fn values(parties: u32, circuit: &[u32], inputs: &[u32]) -> Result<Vec<Optio
             Gate::Times { wire, constant } => Some(mul(value(wire), constant)),
             Gate::Multiply { left, right } => Some(mul(value(left), value(right))),
             Gate::Square { wire } => Some(mul(value(wire), value(wire))),
-            Gate::Output { .. } => None,
+            Gate::Output { .. } | Gate::Give { .. } => None,
         });
     }
     Ok(values)
 }
 
-/// "An out line's score is the value it names": all of them, in order.
+/// "An out line's score is the value it names", and so is a give's: all of them, in order.
 pub fn outputs(parties: u32, circuit: &[u32], inputs: &[u32]) -> Result<Vec<u32>, Refusal> {
     let values = values(parties, circuit, inputs)?;
     Ok(circuit::gates(circuit)
         .filter_map(|gate| match gate {
-            Gate::Output { wire } => values[wire],
+            Gate::Output { wire } | Gate::Give { wire, .. } => values[wire],
             _ => None,
         })
         .collect())
 }
 
 /// "A run takes I + M + 5 x outs - 2 x (outs with nothing unchecked) rounds", and one more for each sq gate,
-/// for an accepted circuit.
+/// for an accepted circuit; a give gate counts as an out gate.
 pub fn rounds(circuit: &[u32]) -> usize {
     let (mut inputs, mut products, mut squares) = (0, 0, 0);
     let (mut outputs, mut unneeded, mut pending) = (0, 0, 0);
@@ -53,7 +53,7 @@ pub fn rounds(circuit: &[u32]) -> usize {
             Gate::Input { .. } => inputs += 1,
             Gate::Multiply { .. } => products += 1,
             Gate::Square { .. } => squares += 1,
-            Gate::Output { .. } => {
+            Gate::Output { .. } | Gate::Give { .. } => {
                 outputs += 1;
                 unneeded += usize::from(pending == 0);
             }

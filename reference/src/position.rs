@@ -4,7 +4,7 @@ use crate::circuit::{self, Gate};
 use crate::commitment;
 use crate::field::P;
 
-/// A round. An out gate has two checks: the first of all opened and unchecked entries, the second of
+/// A round. An out or give gate has two checks: the first of all opened and unchecked entries, the second of
 /// the output itself.
 #[derive(Clone, Copy, Debug, PartialEq, Eq, PartialOrd, Ord)]
 pub enum Round {
@@ -114,18 +114,18 @@ impl Sort {
         Sort::RevealOutput,
     ];
 
-    /// The round of the sort that such a gate has. Whether an out gate has its first check is told by
-    /// the unchecked entries before it, and is not asked here.
+    /// The round of the sort that such a gate has: a give gate "stops as out does". Whether the gate has its
+    /// first check is told by the unchecked entries before it, and is not asked here.
     pub fn at(self, gate: Gate) -> Option<Round> {
-        match (gate, self) {
-            (_, Sort::Own) => gate.needs().round,
-            (Gate::Output { .. }, Sort::CommitOpened) => Some(Round::CommitOpened),
-            (Gate::Output { .. }, Sort::RevealOpened) => Some(Round::RevealOpened),
-            (Gate::Output { .. }, Sort::OpenOutput) => Some(Round::OpenOutput),
-            (Gate::Output { .. }, Sort::CommitOutput) => Some(Round::CommitOutput),
-            (Gate::Output { .. }, Sort::RevealOutput) => Some(Round::RevealOutput),
-            _ => None,
-        }
+        let round = match self {
+            Sort::Own => return gate.needs().round,
+            Sort::CommitOpened => Round::CommitOpened,
+            Sort::RevealOpened => Round::RevealOpened,
+            Sort::OpenOutput => Round::OpenOutput,
+            Sort::CommitOutput => Round::CommitOutput,
+            Sort::RevealOutput => Round::RevealOutput,
+        };
+        gate.is_output().then_some(round)
     }
 
     pub fn is_commit(self) -> bool {
@@ -166,10 +166,10 @@ impl Position {
 /// Whether the circuit has such a position, its held word aside.
 pub(crate) fn can_occur(gate: Gate, is_last: bool, pending: usize, stage: Stage) -> bool {
     let (Stage::Send(sort) | Stage::Receive(sort)) = stage else {
-        // Only a failing reveal aborts, so an aborted position names an out gate.
+        // Only a failing reveal aborts, so an aborted position names an out or a give gate.
         return match stage {
             Stage::Finished => is_last,
-            _ => matches!(gate, Gate::Output { .. }),
+            _ => gate.is_output(),
         };
     };
     match sort.at(gate) {

@@ -32,6 +32,15 @@ impl Preps {
         self.push(split(random, parties, number));
         self.push(split(random, parties, mul(self.key, number)));
     }
+
+    /// A mask that one party knows whole; what the others have in that place is any element.
+    fn push_mask(&mut self, random: &mut Random, knower: u32) {
+        let mask = random.element();
+        self.push_shared(random, mask);
+        let mut whole = random.elements(self.lists.len());
+        whole[knower as usize] = mask;
+        self.push(whole);
+    }
 }
 
 /// Good preprocessing for an accepted circuit under the given key, joined in party order. All shares
@@ -45,13 +54,7 @@ pub fn make(random: &mut Random, parties: u32, circuit: &[u32], key: u32) -> Vec
     preps.push(split(random, count, key));
     for gate in circuit::gates(circuit) {
         match gate {
-            Gate::Input { owner } => {
-                let mask = random.element();
-                preps.push_shared(random, mask);
-                let mut whole = random.elements(count);
-                whole[owner as usize] = mask;
-                preps.push(whole);
-            }
+            Gate::Input { owner } => preps.push_mask(random, owner),
             Gate::Multiply { .. } => {
                 let (a, b) = (random.element(), random.element());
                 preps.push_shared(random, a);
@@ -63,6 +66,7 @@ pub fn make(random: &mut Random, parties: u32, circuit: &[u32], key: u32) -> Vec
                 preps.push_shared(random, a);
                 preps.push_shared(random, mul(a, a));
             }
+            Gate::Give { receiver, .. } => preps.push_mask(random, receiver),
             _ => {}
         }
     }
@@ -84,6 +88,10 @@ pub enum Fault {
     PairMac,
     /// A pair's c is not a times a.
     Square,
+    /// MAC shares of a give gate's mask that do not sum to the key times the mask.
+    GivenMac,
+    /// A receiver's whole mask that is not the mask.
+    GivenMask,
 }
 
 /// What is wrong with joined preprocessing that passes questions 8 and 9: "Material over all seats is
@@ -93,17 +101,19 @@ pub fn faults(parties: u32, circuit: &[u32], preps: &[u32]) -> Vec<Fault> {
     let total = |index: usize| sum(preps.iter().skip(index).step_by(len));
     let key = total(0);
     let shared = |index: usize| total(index + 1) == mul(key, total(index));
+    let whole = |party: u32, record: usize| preps[party as usize * len + record + 2];
     let mut record = 1;
     let mut faults = Vec::new();
     for gate in circuit::gates(circuit) {
         let conditions = match gate {
-            Gate::Input { owner } => {
-                let whole = preps[owner as usize * len + record + 2];
-                vec![
-                    (Fault::MaskMac, shared(record)),
-                    (Fault::WholeMask, whole == total(record)),
-                ]
-            }
+            Gate::Input { owner } => vec![
+                (Fault::MaskMac, shared(record)),
+                (Fault::WholeMask, whole(owner, record) == total(record)),
+            ],
+            Gate::Give { receiver, .. } => vec![
+                (Fault::GivenMac, shared(record)),
+                (Fault::GivenMask, whole(receiver, record) == total(record)),
+            ],
             Gate::Multiply { .. } => {
                 let product = mul(total(record), total(record + 2));
                 let macs = [0, 2, 4].into_iter().all(|number| shared(record + number));

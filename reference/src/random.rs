@@ -1,6 +1,6 @@
 //! A deterministic generator, and random circuits that pass questions 3 to 7.
 
-use crate::circuit::{ADD, IN, MUL, OUT, PLUS, SQ, SUB, TIMES};
+use crate::circuit::{self, ADD, GIVE, IN, MUL, OUT, PLUS, SQ, SUB, TIMES};
 use crate::field::P;
 use crate::party::Round;
 
@@ -107,15 +107,23 @@ pub enum Kinds {
     Base,
     /// 1 to 8.
     Squares,
+    /// 1 to 9.
+    Gives,
 }
 
 impl Kinds {
+    pub const ALL: [Kinds; 3] = [Kinds::Base, Kinds::Squares, Kinds::Gives];
+
     pub fn has(self, kind: u32) -> bool {
-        self == Kinds::Squares || kind != SQ
+        match kind {
+            SQ => self != Kinds::Base,
+            GIVE => self == Kinds::Gives,
+            _ => true,
+        }
     }
 
     pub fn rounds(self) -> impl Iterator<Item = Round> {
-        let has = move |round: &Round| self == Kinds::Squares || *round != Round::Square;
+        let has = move |round: &Round| self.has(SQ) || *round != Round::Square;
         Round::ALL.into_iter().filter(has)
     }
 
@@ -124,6 +132,7 @@ impl Kinds {
         match self {
             Kinds::Base => 10,
             Kinds::Squares => 12,
+            Kinds::Gives => 13,
         }
     }
 
@@ -131,13 +140,23 @@ impl Kinds {
         let most = match self {
             Kinds::Base => 9,
             Kinds::Squares => 11,
+            Kinds::Gives => 13,
         };
         match random.below(most) {
             0 | 1 => IN,
             2 | 3 => MUL,
             4 => OUT,
-            9.. => SQ,
+            9 | 10 => SQ,
+            11.. => GIVE,
             _ => random.pick(&LINEAR),
+        }
+    }
+
+    /// A kind for the last gate.
+    fn last(self, random: &mut Random) -> u32 {
+        match self {
+            Kinds::Gives => random.pick(&[OUT, GIVE]),
+            _ => OUT,
         }
     }
 }
@@ -164,10 +183,11 @@ pub fn from_kinds(random: &mut Random, parties: u32, kinds: &[u32]) -> Vec<u32> 
             match kind {
                 PLUS | TIMES => [kind, first, 0, random.edge_element()],
                 OUT | SQ => [kind, first, 0, 0],
+                GIVE => [kind, first, random.below(parties as usize) as u32, 0],
                 _ => [kind, first, second, 0],
             }
         };
-        if kind != OUT {
+        if circuit::has_value(&line) {
             wires.push(index as u32);
         }
         circuit.extend(line);
@@ -179,13 +199,14 @@ pub fn from_kinds(random: &mut Random, parties: u32, kinds: &[u32]) -> Vec<u32> 
 pub fn circuit(random: &mut Random, of: Kinds, parties: u32, lines: usize) -> Vec<u32> {
     let mut kinds = vec![IN];
     kinds.extend((2..lines).map(|_| of.any(random)));
-    kinds.push(OUT);
+    kinds.push(of.last(random));
     from_kinds(random, parties, &kinds)
 }
 
 /// An accepted circuit of `lines` gates, at least `rich_lines`, that has every one of the kinds, an out
 /// gate with something unchecked before it, later one with nothing unchecked, and after that a mul and
-/// an add gate, and an sq gate if it is among the kinds.
+/// an add gate, and an sq gate if it is among the kinds. If give gates are, one has nothing unchecked before
+/// it, and the first and the last out gate may be a give gate instead.
 pub fn rich_circuit(random: &mut Random, of: Kinds, parties: u32, lines: usize) -> Vec<u32> {
     rich(random, of, parties, lines, |kind| kind)
 }
@@ -197,7 +218,10 @@ pub fn rich_circuit_of_few_checks(
     parties: u32,
     lines: usize,
 ) -> Vec<u32> {
-    let other = |kind| if kind == OUT { PLUS } else { kind };
+    let other = |kind| match kind {
+        OUT | GIVE => PLUS,
+        kind => kind,
+    };
     rich(random, of, parties, lines, other)
 }
 
@@ -210,9 +234,14 @@ fn rich(
     other: fn(u32) -> u32,
 ) -> Vec<u32> {
     let mut parts = [vec![PLUS, MUL, SUB], vec![TIMES], vec![MUL, ADD]];
-    if of == Kinds::Squares {
+    let mut ends = [OUT; 3];
+    if of.has(SQ) {
         parts[0].push(SQ);
         parts[2].push(SQ);
+    }
+    if of.has(GIVE) {
+        parts[1].push(GIVE);
+        ends = [random.pick(&[OUT, GIVE]), OUT, of.last(random)];
     }
     for _ in of.rich_lines()..lines {
         let part = random.below(parts.len());
@@ -224,10 +253,10 @@ fn rich(
         parts[part].push(kind);
     }
     let mut kinds = vec![IN];
-    for part in &mut parts {
+    for (part, end) in parts.iter_mut().zip(ends) {
         random.shuffle(part);
         kinds.append(part);
-        kinds.push(OUT);
+        kinds.push(end);
     }
     from_kinds(random, parties, &kinds)
 }

@@ -1,7 +1,7 @@
 //! Circuits as text: a sheet has a form on each line, and forms stand within forms.
 //!
 //! A form is `(in S)`, `(add F F)`, `(sub F F)`, `(plus F K)`, `(times F K)`, `(mul F F)`, `(sq F)`, inside another
-//! one `(line J)`, and outermost only `(out F)`. A row here is a line of the sheet.
+//! one `(line J)`, and outermost only `(out F)` and `(give F S)`. A row here is a line of the sheet.
 
 pub mod examples;
 #[cfg(test)]
@@ -9,7 +9,7 @@ mod model;
 #[cfg(test)]
 mod tests;
 
-use crate::circuit::{self, ADD, IN, MAX_GATES, MUL, OUT, PLUS, SQ, SUB, TIMES};
+use crate::circuit::{self, ADD, GIVE, IN, MAX_GATES, MUL, OUT, PLUS, SQ, SUB, TIMES};
 use crate::refusal::{ask, ask_parties, Refusal};
 
 /// The greatest depth of a form; the outermost has depth 1.
@@ -73,7 +73,7 @@ impl Reader<'_> {
             self.expect(b'(')?;
             let wire = self.outermost()?;
             self.expect(b'\n')?;
-            if self.gates[wire as usize][0] != OUT {
+            if circuit::has_value(&self.gates[wire as usize]) {
                 self.rows[self.row] = wire as u16;
                 self.named = true;
             }
@@ -115,10 +115,11 @@ impl Reader<'_> {
 
     /// The rest of an outermost form, whose bracket has been read.
     fn outermost(&mut self) -> Read<u32> {
-        if self.peek() == Some(b'o') {
-            return self.word(b"out ").and_then(|()| self.one(OUT, 1));
+        match self.peek() {
+            Some(b'o') => self.word(b"out ").and_then(|()| self.one(OUT, 1)),
+            Some(b'g') => self.word(b"give ").and_then(|()| self.give()),
+            _ => self.gate(1),
         }
-        self.gate(1)
     }
 
     /// A form within one of the given depth. Inlined, so that a level of nesting is fewer calls.
@@ -177,6 +178,14 @@ impl Reader<'_> {
         self.expect(b' ')?;
         let constant = self.number()?;
         self.close([kind, wire, 0, constant])
+    }
+
+    /// The rest of a give, which holds a form and the receiver.
+    fn give(&mut self) -> Read<u32> {
+        let wire = self.operand(1)?;
+        self.expect(b' ')?;
+        let receiver = self.number()?;
+        self.close([GIVE, wire, receiver, 0])
     }
 
     /// The closing bracket of a form that makes a gate.
@@ -291,14 +300,15 @@ impl Writer {
             TIMES => self.put(b"(times (line "),
             MUL => self.put(b"(mul (line "),
             SQ => self.put(b"(sq (line "),
+            GIVE => self.put(b"(give (line "),
             _ => self.put(b"(out (line "),
         }
         self.number(first);
         match kind {
             IN => self.put(b")\n"),
-            PLUS | TIMES => {
+            PLUS | TIMES | GIVE => {
                 self.put(b") ");
-                self.number(constant);
+                self.number(if kind == GIVE { second } else { constant });
                 self.put(b")\n");
             }
             OUT | SQ => self.put(b"))\n"),

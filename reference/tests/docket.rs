@@ -326,13 +326,16 @@ fn at_most_766_rounds() {
     let mut random = Random::new(5);
     let mut outs = vec![1, 0, 0, 0];
     outs.extend([7, 0, 0, 0].repeat(255));
-    let opening = |kind| {
+    let mut gives = vec![1, 0, 0, 0];
+    gives.extend((0..255).flat_map(|gate| [9, 0, gate % 3, 0]));
+    let opening = |kind, output| {
         let mut circuit = vec![1, 0, 0, 0];
-        circuit.extend([kind, 0, 0, 0, 7, 0, 0, 0].repeat(127));
-        circuit.extend([7, 0, 0, 0]);
+        circuit.extend([kind, 0, 0, 0, output, 0, 0, 0].repeat(127));
+        circuit.extend([output, 0, 0, 0]);
         circuit
     };
-    for circuit in [outs, opening(6), opening(8)] {
+    let each = [opening(6, 7), opening(8, 7), opening(6, 9), opening(8, 9)];
+    for circuit in [outs, gives].into_iter().chain(each) {
         assert_eq!(plain::rounds(&circuit), 766);
         let key = random.element();
         let case = Case::of(&mut random, 3, circuit, key);
@@ -344,7 +347,7 @@ fn at_most_766_rounds() {
         assert_eq!(case.single(|_, _, _| ()), left);
     }
     for _ in 0..200 {
-        let circuit = random::circuit(&mut random, Kinds::Squares, 2, 256);
+        let circuit = random::circuit(&mut random, Kinds::Gives, 2, 256);
         assert!(plain::rounds(&circuit) <= 766);
     }
 }

@@ -38,11 +38,9 @@ fn assert_covered(count: usize) {
         wanted.insert("joint accepted aborted".to_string());
         for round in Round::ALL {
             wanted.insert(format!("send accepted {round:?}"));
-            wanted.insert(match round {
-                Round::RevealOutput => format!("receive accepted {round:?} released"),
-                _ => format!("receive accepted {round:?}"),
-            });
+            wanted.insert(format!("receive accepted {round:?}"));
         }
+        wanted.insert("receive accepted RevealOutput released".to_string());
         wanted.insert("receive accepted RevealOpened aborted".to_string());
         wanted.insert("receive accepted RevealOutput aborted".to_string());
         let found: BTreeSet<String> = counts.into_keys().collect();
@@ -72,7 +70,7 @@ fn joint_requests_cover_every_number_of_parties_and_an_abort_after_an_output() {
         1,
         170,
         Size {
-            kinds: Kinds::Squares,
+            kinds: Kinds::Gives,
             max_lines: 14,
             max_parties: 8,
         },
@@ -108,7 +106,7 @@ fn refusals_and_writes() {
         (
             3,
             Size {
-                kinds: Kinds::Squares,
+                kinds: Kinds::Gives,
                 max_lines: 30,
                 max_parties: 8,
             },

@@ -127,11 +127,11 @@ fn altered_words() {
             let outputs = plain::outputs(case.parties, &case.circuit, &inputs).unwrap();
             assert_eq!(left.outputs[..outputs.len()], outputs);
         } else {
-            // The next out gate, which may be the gate itself, is where the check fails.
+            // The next out or give gate, which may be the gate itself, is where the check fails.
             let next_out = circuit::gates(&case.circuit)
                 .enumerate()
                 .skip(gate)
-                .find(|(_, gate)| matches!(gate, Gate::Output { .. }))
+                .find(|(_, gate)| gate.is_output())
                 .unwrap();
             assert_eq!(
                 ending,
@@ -146,13 +146,19 @@ fn altered_words() {
 }
 
 /// One altered number in the preprocessing of values that are opened aborts: the key share, and every
-/// share and MAC share of masks, triple and pair. The whole masks, at 3 and 6, only change the inputs.
+/// share and MAC share of masks, triple and pair. The whole masks, at 3 and 6, only change the inputs and what is
+/// given.
 #[test]
 fn altered_shares_abort() {
     let mut random = Random::new(77);
     let product = [1, 0, 0, 0, 1, 1, 0, 0, 6, 0, 1, 0, 7, 2, 0, 0];
     let square = [1, 0, 0, 0, 8, 0, 0, 0, 7, 1, 0, 0];
-    for (circuit, len, whole_masks) in [(&product[..], 13, &[3, 6][..]), (&square, 8, &[3])] {
+    let give = [1, 0, 0, 0, 9, 0, 1, 0];
+    for (circuit, len, whole_masks) in [
+        (&product[..], 13, &[3, 6][..]),
+        (&square, 8, &[3]),
+        (&give, 7, &[3, 6]),
+    ] {
         let gate = circuit.len() as u32 / 4 - 1;
         for index in (0..3 * len).filter(|index| !whole_masks.contains(&(index % len))) {
             let key = random.nonzero();
@@ -179,8 +185,12 @@ fn altered_preprocessing_is_not_good() {
         let mut unread = false;
         let mut record = 1;
         for gate in circuit::gates(&case.circuit) {
-            if let Gate::Input { owner } = gate {
-                unread |= index % len == record + 2 && index / len != owner as usize;
+            if let Gate::Input { owner: knower }
+            | Gate::Give {
+                receiver: knower, ..
+            } = gate
+            {
+                unread |= index % len == record + 2 && index / len != knower as usize;
             }
             record += gate.record_len();
         }

@@ -2,9 +2,10 @@
 
 mod common;
 
+use common::matching::{moves, Two};
 use common::Case;
 use reference::circuit::{self, Gate};
-use reference::field::{add, mul, sub, sum};
+use reference::field::{add, mul};
 use reference::random::{self, Kinds, Random};
 use reference::{open, plain, prep, receive, send, square, text};
 use reference::{Ending, Position, Received, Refusal, Sort, Stage, P};
@@ -197,136 +198,17 @@ fn a_square_is_the_product_of_a_wire_with_itself() {
     }
 }
 
-/// A run and another one on other inputs with the same outputs, seen by some parties.
-struct Two {
-    case: Case,
-    inputs: Vec<u32>,
-    seen: Vec<bool>,
-    /// A party that is not seen.
-    carrier: usize,
-}
-
-/// What each wire moves by from the inputs to others.
-fn moves(case: &Case, to: &[u32]) -> Vec<u32> {
-    let values = |inputs| plain::values(case.parties, &case.circuit, inputs).unwrap();
-    let pairs = values(&case.inputs).into_iter().zip(values(to));
-    pairs
-        .map(|(from, to)| sub(to.unwrap_or(0), from.unwrap_or(0)))
-        .collect()
-}
-
-impl Two {
-    /// The inputs of parties that are seen stay; of the others some change their sign, some to any element.
-    fn random(random: &mut Random) -> Option<Two> {
-        let key = random.edge_element();
-        let mut case = Case::random(random, 24, key);
-        let carrier = random.below(case.count());
-        let seen: Vec<bool> = (0..case.count())
-            .map(|party| party != carrier && random.once_in(2))
-            .collect();
-        let owners = (0..case.count()).flat_map(|party| vec![party; case.shape.owned[party]]);
-        let inputs: Vec<u32> = owners
-            .zip(&case.inputs)
-            .map(|(owner, &input)| match random.below(4) {
-                _ if seen[owner] => input,
-                0 => input,
-                1 => random.element(),
-                _ => sub(0, input),
-            })
-            .collect();
-        let moved = moves(&case, &inputs);
-        for gate in 0..case.shape.gates {
-            if case.circuit[4 * gate] == 7 {
-                let equal: Vec<usize> = (0..gate)
-                    .filter(|&wire| case.circuit[4 * wire] != 7 && moved[wire] == 0)
-                    .collect();
-                if equal.is_empty() {
-                    return None;
-                }
-                case.circuit[4 * gate + 1] = random.pick(&equal) as u32;
-            }
-        }
-        Some(Two {
-            case,
-            inputs,
-            seen,
-            carrier,
-        })
-    }
-
-    /// The match of the preprocessing: masks move as the inputs do, a and b as the wires do, c so that it stays
-    /// their product, all at the carrier; the whole mask at its owner.
-    fn matched(&self, case: &Case, to: &[u32]) -> Case {
-        let moves = moves(case, to);
-        let len = case.shape.prep_len();
-        let total = |index: usize| sum(case.preps.iter().skip(index).step_by(len));
-        let key = total(0);
-        let mut preps = case.preps.clone();
-        let mut move_by = |party: usize, index: usize, by: u32| {
-            let number = &mut preps[party * len + index];
-            *number = add(*number, by);
-        };
-        let mut record = 1;
-        for (index, gate) in circuit::gates(&case.circuit).enumerate() {
-            let moved = match gate {
-                Gate::Input { owner } => {
-                    move_by(owner as usize, record + 2, moves[index]);
-                    vec![moves[index]]
-                }
-                Gate::Multiply { left, right } => {
-                    let (a, b) = (total(record), total(record + 2));
-                    let (by_a, by_b) = (moves[left], moves[right]);
-                    let c = mul(add(a, by_a), add(b, by_b));
-                    vec![by_a, by_b, sub(c, mul(a, b))]
-                }
-                Gate::Square { wire } => {
-                    let (a, by) = (total(record), moves[wire]);
-                    let c = mul(add(a, by), add(a, by));
-                    vec![by, sub(c, mul(a, a))]
-                }
-                _ => Vec::new(),
-            };
-            for (number, by) in moved.into_iter().enumerate() {
-                move_by(self.carrier, record + 2 * number, by);
-                move_by(self.carrier, record + 2 * number + 1, mul(key, by));
-            }
-            record += gate.record_len();
-        }
-        Case {
-            preps,
-            inputs: to.to_vec(),
-            ..case.clone()
-        }
-    }
-}
-
-/// Both runs write the same words and leave the same scratch to the parties that are seen, whose preprocessing
-/// is the same; and the match of the match is where it began.
+/// Both runs look alike to the parties that are seen, whichever wires are squared.
 #[test]
 fn matched_runs_look_alike() {
     let mut moved_squares = 0;
     for seed in 0..3000 {
-        let Some(two) = Two::random(&mut Random::new(seed + 40_000)) else {
+        let Some(two) = Two::random(&mut Random::new(seed + 40_000), Kinds::Squares) else {
             continue;
         };
-        let (first, second) = (&two.case, two.matched(&two.case, &two.inputs));
-        assert!(prep::is_good(first.parties, &first.circuit, &first.preps));
-        assert!(prep::is_good(first.parties, &first.circuit, &second.preps));
-        assert_eq!(two.matched(&second, &first.inputs).preps, first.preps);
-
-        let (left, right) = (first.joint(), second.joint());
-        assert_eq!(left.result.unwrap(), right.result.unwrap());
-        assert_eq!(left.transcript, right.transcript);
-        assert_eq!(left.outputs, right.outputs);
-        for party in (0..first.count()).filter(|&party| two.seen[party]) {
-            let part = |list: &[u32], len: usize| list[party * len..][..len].to_vec();
-            let len = first.shape.prep_len();
-            assert_eq!(part(&first.preps, len), part(&second.preps, len));
-            let len = first.shape.scratch_len();
-            assert_eq!(part(&left.scratch, len), part(&right.scratch, len));
-        }
-        let moved = moves(first, &two.inputs);
-        moved_squares += circuit::gates(&first.circuit)
+        two.assert_alike();
+        let moved = moves(&two.case, &two.inputs);
+        moved_squares += circuit::gates(&two.case.circuit)
             .filter(|gate| matches!(*gate, Gate::Square { wire } if moved[wire] != 0))
             .count();
     }

@@ -291,7 +291,7 @@ fn wanted_neighbours() -> BTreeSet<(&'static str, u32, String)> {
             "circuit 1024->1028 long",
         ],
     );
-    want(all, 4, &["kind 1->0", "kind 7->9", "kind 7->4294967295"]);
+    want(all, 4, &["kind 1->0", "kind 7->10", "kind 7->4294967295"]);
     want(
         all,
         5,
@@ -734,7 +734,7 @@ fn square_has_every_boundary_at_a_square() {
     let mut wanted = BTreeSet::new();
     for entry in Entry::ALL {
         for (number, change) in [
-            (4, "kind 8->9"),
+            (4, "kind 8->10"),
             (5, "sq first names itself"),
             (5, "sq first names the next gate"),
             (5, "sq first names 4294967295"),

@@ -4,7 +4,7 @@ use super::marks::Reveal;
 use super::rotation::Expected;
 use super::scene::{alter, Scene};
 use super::{Entry, Request, Size};
-use crate::circuit::{self, IN, MUL, OUT, PLUS, SQ, TIMES};
+use crate::circuit::{self, GIVE, IN, MUL, OUT, PLUS, SQ, TIMES};
 use crate::commitment::WORDS;
 use crate::field::{self, P};
 use crate::party::{Round, Stage};
@@ -37,6 +37,8 @@ pub(super) enum Subject {
     OutputWord,
     FirstReveal,
     SecondReveal,
+    /// The second reveal of a give gate, at a party that is not its receiver and at the receiver in turns.
+    GivenReveal,
     /// A mark in the scratch that is not the one heard.
     WrittenMark,
     /// Check shares that do not sum to zero, under marks that fit.
@@ -51,7 +53,7 @@ pub(super) enum Subject {
 
 use Subject::*;
 
-const SUBJECTS: [Subject; 26] = [
+const SUBJECTS: [Subject; 27] = [
     HighestOpen,
     HighestCommitSent,
     HighestRevealSent,
@@ -72,6 +74,7 @@ const SUBJECTS: [Subject; 26] = [
     OutputWord,
     FirstReveal,
     SecondReveal,
+    GivenReveal,
     WrittenMark,
     NonzeroSum,
     JointFirstCheck,
@@ -81,7 +84,11 @@ const SUBJECTS: [Subject; 26] = [
 ];
 
 pub(super) fn subjects(kinds: Kinds) -> impl Iterator<Item = Subject> {
-    let has = move |subject: &Subject| kinds.has(SQ) || !matches!(subject, SquareWord);
+    let has = move |subject: &Subject| match subject {
+        SquareWord => kinds.has(SQ),
+        GivenReveal => kinds.has(GIVE),
+        _ => true,
+    };
     SUBJECTS.into_iter().filter(has)
 }
 
@@ -90,7 +97,8 @@ pub(super) fn subjects(kinds: Kinds) -> impl Iterator<Item = Subject> {
 pub(super) fn whole_run(random: &mut Random, turn: usize, size: Size) -> Vec<(Request, Expected)> {
     let parties = random.between(2, size.max_parties as usize) as u32;
     let circuit = if turn == 0 {
-        let kinds = [IN, MUL, SQ, OUT, OUT].into_iter();
+        let last = if size.kinds.has(GIVE) { GIVE } else { OUT };
+        let kinds = [IN, MUL, SQ, OUT, last].into_iter();
         let kinds: Vec<u32> = kinds.filter(|&kind| size.kinds.has(kind)).collect();
         random::from_kinds(random, parties, &kinds)
     } else {
@@ -145,6 +153,7 @@ pub(super) fn accepted(
             one(altered_word(random, size, subject))
         }
         FirstReveal | SecondReveal => vec![(altered_word(random, size, subject), Aborted)],
+        GivenReveal => one(given_reveal(random, size, turn)),
         WrittenMark | NonzeroSum => vec![(failing_reveal(random, size, subject), Aborted)],
         JointFirstCheck | JointSecondCheck | JointLateAbort => {
             vec![(bad_prep(random, size, subject), Aborted)]
@@ -263,7 +272,7 @@ fn highest(random: &mut Random, size: Size, subject: Subject) -> (Request, Expec
 /// A request whose scratch has numbers at or above `P` where question 15 does not ask.
 fn not_asked(random: &mut Random, size: Size, entry: Entry, subject: Subject) -> Request {
     let scene = Scene::rich(random, size);
-    let outs = scene.gates_of(&[OUT]);
+    let outs = scene.gates_of(&[OUT, GIVE]);
     let first_out = outs[0];
     let chosen = scene.find(random, |gate, round| match subject {
         // After a check has passed, its entries remain as numbers that are not asked any more.
@@ -331,6 +340,23 @@ fn altered_word(random: &mut Random, size: Size, subject: Subject) -> Request {
         alter(wanted, heard, index, random.nonzero());
     }
     request
+}
+
+/// The second reveal of a give gate.
+fn given_reveal(random: &mut Random, size: Size, turn: usize) -> Request {
+    let scene = Scene::rich(random, size);
+    let is_give = |gate: usize| scene.circuit[4 * gate] == GIVE;
+    let chosen = scene.find(random, |gate, round| {
+        is_give(gate) && round == Round::RevealOutput
+    });
+    let receiver = scene.circuit[4 * scene.rounds[chosen].0 + 2];
+    let other = (receiver + 1) % scene.parties;
+    let party = if turn.is_multiple_of(2) {
+        other
+    } else {
+        receiver
+    };
+    scene.step(random, Entry::Receive, party, chosen)
 }
 
 /// A reveal that fails although its words are heard as they were sent, or although the marks fit them.

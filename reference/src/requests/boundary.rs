@@ -4,7 +4,7 @@
 use super::refuse::add_later_faults;
 use super::scene::Scene;
 use super::{Entry, Request};
-use crate::circuit::{ADD, IN, MAX_GATES, MUL, NO_KIND, OUT, PLUS, SQ, SUB, TIMES};
+use crate::circuit::{self, ADD, GIVE, IN, MAX_GATES, MUL, NO_KIND, OUT, PLUS, SQ, SUB, TIMES};
 use crate::field::P;
 use crate::random::{self, Kinds, Random};
 
@@ -277,6 +277,7 @@ impl<'a> Boundaries<'a> {
             (IN, &[0][..]),
             (OUT, &[NO_KIND, u32::MAX]),
             (SQ, &[NO_KIND]),
+            (GIVE, &[NO_KIND]),
         ];
         let asked = self.kinds;
         for (kind, outside) in kinds.into_iter().filter(|&(kind, _)| asked.has(kind)) {
@@ -284,7 +285,7 @@ impl<'a> Boundaries<'a> {
             self.gate_number(4, &base, (gate, 0), kind, outside);
         }
 
-        let with_names: [(u32, &[usize]); 7] = [
+        let with_names: [(u32, &[usize]); 8] = [
             (ADD, &[1, 2]),
             (SUB, &[1, 2]),
             (PLUS, &[1]),
@@ -292,12 +293,13 @@ impl<'a> Boundaries<'a> {
             (MUL, &[1, 2]),
             (OUT, &[1]),
             (SQ, &[1]),
+            (GIVE, &[1]),
         ];
         for (kind, fields) in with_names.into_iter().filter(|&(kind, _)| asked.has(kind)) {
             for &field in fields {
                 let (gate, scene, base) = self.gate_of(kind);
-                let (outs, wires): (Vec<usize>, Vec<usize>) =
-                    (0..gate).partition(|&earlier| scene.circuit[4 * earlier] == OUT);
+                let (wires, outs): (Vec<usize>, Vec<usize>) = (0..gate)
+                    .partition(|&earlier| circuit::has_value(&scene.circuit[4 * earlier..]));
                 let nearest = wires[wires.len() - 1] as u32;
                 let mut outside = vec![gate as u32, gate as u32 + 1, u32::MAX];
                 outside.extend(outs.last().map(|&out| out as u32));
@@ -311,12 +313,17 @@ impl<'a> Boundaries<'a> {
         let base = self.base(&scene, party);
         let outside = [scene.parties, u32::MAX];
         self.gate_number(5, &base, (0, 1), scene.parties - 1, &outside);
+        if asked.has(GIVE) {
+            let (gate, scene, base) = self.gate_of(GIVE);
+            let outside = [scene.parties, u32::MAX];
+            self.gate_number(5, &base, (gate, 2), scene.parties - 1, &outside);
+        }
 
         for kind in [PLUS, TIMES] {
             let (gate, _, base) = self.gate_of(kind);
             self.gate_number(6, &base, (gate, 3), P - 1, &NO_ELEMENTS);
         }
-        let unused: [(u32, &[usize]); 8] = [
+        let unused: [(u32, &[usize]); 9] = [
             (IN, &[2, 3]),
             (ADD, &[3]),
             (SUB, &[3]),
@@ -325,6 +332,7 @@ impl<'a> Boundaries<'a> {
             (MUL, &[3]),
             (OUT, &[2, 3]),
             (SQ, &[2, 3]),
+            (GIVE, &[3]),
         ];
         for (kind, fields) in unused.into_iter().filter(|&(kind, _)| asked.has(kind)) {
             for &field in fields {
@@ -335,8 +343,13 @@ impl<'a> Boundaries<'a> {
 
         self.gates_in_order();
 
-        let (scene, base) = self.any_base();
-        self.gate_number(7, &base, (scene.shape.gates - 1, 0), OUT, &[PLUS, TIMES]);
+        // A give gate at the end that names party 0: its second stays unused in other kinds.
+        let scene = self.scene_where(|scene| scene.circuit[scene.circuit.len() - 2] == 0);
+        let party = scene.any_party(self.random);
+        let base = self.base(&scene, party);
+        let last = scene.shape.gates - 1;
+        let kind = scene.circuit[4 * last];
+        self.gate_number(7, &base, (last, 0), kind, &[PLUS, TIMES]);
     }
 
     /// "All three are asked of line 0 before line 1": faults in the first and in the last gate; within
@@ -346,9 +359,14 @@ impl<'a> Boundaries<'a> {
             for late in 4..=6 {
                 let (scene, mut base) = self.any_base();
                 let gate = scene.shape.gates - 1;
-                // For each number the field, and what is wrong in it, of an in and of an out gate.
+                // For each number the field, and what is wrong in it, of an in and of an out or give gate.
                 let first = [(0, 0), (1, scene.parties), (2, 1)];
-                let last = [(0, NO_KIND), (1, gate as u32), (2, 1)]
+                let unused = if scene.circuit[4 * gate] == GIVE {
+                    3
+                } else {
+                    2
+                };
+                let last = [(0, NO_KIND), (1, gate as u32), (unused, 1)]
                     .map(|(field, no)| (4 * gate + field, no));
                 let (at, no) = first[early - 4];
                 let (late_at, late_no) = last[late - 4];

@@ -4,7 +4,7 @@ use super::boundary::{len_of, Boundaries, NO_ELEMENTS};
 use super::refuse::set_position;
 use super::scene::Scene;
 use super::{Entry, Request};
-use crate::circuit::{ADD, IN, MUL, OUT, PLUS, SQ, SUB, TIMES};
+use crate::circuit::{self, ADD, GIVE, IN, MUL, OUT, PLUS, SQ, SUB, TIMES};
 use crate::field::P;
 use crate::party::{Position, Round, Sort, Stage};
 
@@ -28,15 +28,15 @@ impl At {
     /// Two gates that have no round of the sort: one that needs no round, and one that has others.
     fn other_gates(&self) -> [u32; 2] {
         let others: &[u32] = match self.round {
-            Round::Input | Round::Multiply | Round::Square => &[OUT],
+            Round::Input | Round::Multiply | Round::Square => &[OUT, GIVE],
             _ => &[IN, MUL, SQ],
         };
         [&[ADD, SUB, PLUS, TIMES], others].map(|kinds| self.nearest(kinds))
     }
 
-    /// The out gate before which nothing is unchecked.
+    /// The out or give gate before which nothing is unchecked.
     fn unneeded(&self) -> u32 {
-        let mut outs = self.scene.gates_of(&[OUT]).into_iter();
+        let mut outs = self.scene.gates_of(&[OUT, GIVE]).into_iter();
         let found = outs.find(|&out| self.scene.pending(out) == 0);
         found.expect("the scene has such an out gate") as u32
     }
@@ -47,7 +47,7 @@ impl At {
         let unchecked = self.round.unchecked(self.scene.pending(self.gate));
         let circuit = &self.scene.circuit;
         let wires: Vec<usize> = (0..self.gate)
-            .filter(|wire| circuit[4 * wire] != OUT)
+            .filter(|wire| circuit::has_value(&circuit[4 * wire..]))
             .collect();
         [
             wires.iter().map(|&wire| layout.share(wire)).collect(),
@@ -309,8 +309,7 @@ mod tests {
     #[test]
     fn only_the_outside_is_refused_by_the_number() {
         let mut random = Random::new(1);
-        let each =
-            [Kinds::Base, Kinds::Squares].map(|kinds| Entry::ALL.map(|entry| (kinds, entry)));
+        let each = Kinds::ALL.map(|kinds| Entry::ALL.map(|entry| (kinds, entry)));
         for (kinds, entry) in each.into_iter().flatten() {
             let lines = kinds.rich_lines() + 2;
             let small =

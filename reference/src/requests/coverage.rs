@@ -5,7 +5,7 @@ use std::collections::{BTreeMap, BTreeSet};
 
 use super::boundary_steps::{coefficients, heard};
 use super::{neighbours, single_runs, Answer, Answered, Entry, Field, Request, Set, SingleRun};
-use crate::circuit::{self, Shape};
+use crate::circuit::{self, Shape, GIVE};
 use crate::field::{self, P};
 use crate::joint::{Ending, JointResult};
 use crate::party::Round;
@@ -39,7 +39,7 @@ pub fn measured(answered: &[Answered]) -> BTreeMap<String, [usize; 4]> {
 }
 
 /// The table of the kept sets, in the order of `Set::KEPT`: each cell has the counts in all of them.
-pub fn table(sets: [&[Answered]; 4]) -> String {
+pub fn table(sets: [&[Answered]; Set::KEPT.len()]) -> String {
     let names = Set::KEPT.map(Set::name);
     let mut text = format!(
         "| requests ({}) | `open` | `send` | `receive` | `joint` |\n|---|---|---|---|---|\n",
@@ -55,15 +55,16 @@ pub fn table(sets: [&[Answered]; 4]) -> String {
                 counts.map_or(0, |counts| counts[column])
             });
             text.push_str(&match counts {
-                [0, 0, 0, 0] => String::from(" |"),
+                none if none.iter().all(|&count| count == 0) => String::from(" |"),
                 _ => format!(" {} |", counts.map(|count| count.to_string()).join(" + ")),
             });
         }
         text.push('\n');
     }
     text.push_str(&format!(
-        "\n| whole runs by single entries | {} |\n|---|---|---|---|---|\n",
-        names.join(" | ")
+        "\n| whole runs by single entries | {} |\n|---|{}\n",
+        names.join(" | "),
+        "---|".repeat(names.len())
     ));
     let found = sets.map(single_runs);
     let runs: BTreeSet<&SingleRun> = found.iter().flat_map(BTreeMap::keys).collect();
@@ -121,7 +122,7 @@ fn features(one: &Answered) -> Vec<String> {
             if let Ok(shape) = circuit::shape(parties, circuit) {
                 found.extend(sizes(parties, circuit, &shape));
                 found.extend(excesses(one, parties, &shape));
-                found.extend(unasked(one, parties, &shape));
+                found.extend(unasked(one, circuit, &shape));
             }
             found.extend(numbers(one));
             found.extend(joint_endings(one));
@@ -232,14 +233,14 @@ fn excesses(one: &Answered, parties: u32, shape: &Shape) -> Vec<String> {
 }
 
 /// Where the scratch of an accepted request has numbers that are no elements.
-fn unasked(one: &Answered, parties: u32, shape: &Shape) -> Vec<String> {
+fn unasked(one: &Answered, circuit: &[u32], shape: &Shape) -> Vec<String> {
     let layout = shape.layout();
     let (scratch, gate, len) = match &one.request {
         Request::Open { lent } => (&lent.scratch, 0, layout.len()),
         Request::Send { lent, position, .. } | Request::Receive { lent, position, .. } => {
             (&lent.scratch, position.gate as usize, layout.len())
         }
-        Request::Joint { scratch, .. } => (scratch, 0, parties as usize * layout.len()),
+        Request::Joint { scratch, .. } => (scratch, 0, shape.parties * layout.len()),
     };
     let place = |index: usize| {
         if index >= len {
@@ -255,7 +256,9 @@ fn unasked(one: &Answered, parties: u32, shape: &Shape) -> Vec<String> {
         if index >= layout.opened(0) {
             return "among the opened entries";
         }
-        match (index % shape.gates).cmp(&gate) {
+        let slot = index % shape.gates;
+        match slot.cmp(&gate) {
+            Ordering::Less if circuit[4 * slot] == GIVE => "in the slots of a give gate",
             Ordering::Less => "in the slots of an out gate",
             Ordering::Equal => "in the slots of the gate itself",
             Ordering::Greater => "in the slots of a later gate",
@@ -314,6 +317,7 @@ fn position(one: &Answered) -> Vec<String> {
         Some(Round::Input) => " of an in gate",
         Some(Round::Multiply) => " of a mul gate",
         Some(Round::Square) => " of an sq gate",
+        Some(_) if lent.circuit[4 * position.gate as usize] == GIVE => " of a give gate",
         _ => "",
     };
     let held = match position.held {
@@ -383,6 +387,8 @@ fn fault_name(fault: Fault) -> &'static str {
         Fault::Product => "bad product in a triple",
         Fault::PairMac => "bad MAC in a pair",
         Fault::Square => "bad square in a pair",
+        Fault::GivenMac => "bad MAC of a given mask",
+        Fault::GivenMask => "bad whole mask of a receiver",
     }
 }
 

@@ -57,12 +57,12 @@ pub struct Size {
 
 impl Size {
     pub const SMALL: Size = Size {
-        kinds: Kinds::Squares,
+        kinds: Kinds::Gives,
         max_lines: 14,
         max_parties: 4,
     };
     pub const FULL: Size = Size {
-        kinds: Kinds::Squares,
+        kinds: Kinds::Gives,
         max_lines: 256,
         max_parties: 8,
     };

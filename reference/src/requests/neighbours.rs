@@ -4,7 +4,7 @@
 use std::collections::BTreeMap;
 
 use super::{Answered, Field, Request};
-use crate::circuit::{self, IN, OUT};
+use crate::circuit::{self, GIVE, IN, OUT};
 use crate::field::P;
 use crate::text;
 
@@ -103,11 +103,12 @@ fn gate_change(request: &Request, old: &[u32], new: &[u32], index: usize) -> Str
         circuit::KIND_NAMES[kind as usize - 1],
         ["first", "second", "constant"][field - 1]
     );
-    let is_name = field == 1 || (field == 2 && circuit::has_two_names(kind));
+    let is_party = (kind, field) == (IN, 1) || (kind, field) == (GIVE, 2);
+    let is_name = is_party || field == 1 || (field == 2 && circuit::has_two_names(kind));
     if !is_name {
         return format!("{place} {}->{}", shown(from), shown(to));
     }
-    let named = if kind == IN {
+    let named = if is_party {
         let Field::Numbers(parties) = request.fields()[0].1 else {
             unreachable!("the first field is the number of parties")
         };
@@ -116,6 +117,8 @@ fn gate_change(request: &Request, old: &[u32], new: &[u32], index: usize) -> Str
         String::from("the next gate")
     } else if (to as usize) < gate && old[4 * to as usize] == OUT {
         String::from("an out gate")
+    } else if (to as usize) < gate && old[4 * to as usize] == GIVE {
+        String::from("a give gate")
     } else {
         relative(to, gate as u32, "itself")
     };

@@ -5,7 +5,7 @@ use super::refuse_steps::{
 };
 use super::scene::Scene;
 use super::{Entry, Request, Size};
-use crate::circuit::{ADD, IN, MUL, NO_KIND, OUT, PLUS, SQ, SUB, TIMES};
+use crate::circuit::{ADD, GIVE, IN, MUL, NO_KIND, OUT, PLUS, SQ, SUB, TIMES};
 use crate::field::P;
 use crate::party::Position;
 use crate::random::{self, Random};
@@ -266,12 +266,13 @@ fn spoil_lent(
     }
 }
 
-/// Question 5: a named party too high, or a named gate that is the gate itself, later, an out gate or
+/// Question 5: a named party too high, or a named gate that is the gate itself, later, an out or give gate or
 /// far beyond the circuit.
 fn spoil_name(random: &mut Random, scene: &Scene, circuit: &mut [u32], variant: usize) {
     if variant == 0 {
-        let index = random.pick(&scene.gates_of(&[IN]));
-        circuit[4 * index + 1] = random.pick(&[scene.parties, u32::MAX]);
+        let index = random.pick(&scene.gates_of(&[IN, GIVE]));
+        let field = if circuit[4 * index] == IN { 1 } else { 2 };
+        circuit[4 * index + field] = random.pick(&[scene.parties, u32::MAX]);
         return;
     }
     // The last variant is any of the faults before it, in the second name.
@@ -283,10 +284,10 @@ fn spoil_name(random: &mut Random, scene: &Scene, circuit: &mut [u32], variant: 
     let kinds: &[u32] = if field == 2 {
         &[ADD, SUB, MUL]
     } else {
-        &[ADD, SUB, PLUS, TIMES, MUL, OUT, SQ]
+        &[ADD, SUB, PLUS, TIMES, MUL, OUT, SQ, GIVE]
     };
     let mut named = scene.gates_of(kinds);
-    let first_out = scene.gates_of(&[OUT])[0];
+    let first_out = scene.gates_of(&[OUT, GIVE])[0];
     if fault == 3 {
         named.retain(|&index| index > first_out);
     }
@@ -310,7 +311,7 @@ fn spoil_field(random: &mut Random, scene: &Scene, circuit: &mut [u32], variant:
         5 => (&[ADD, SUB], 3, 1),
         6 => (&[MUL], 3, P),
         7 => (&[OUT, SQ], 2, 1),
-        _ => (&[OUT, SQ], 3, u32::MAX),
+        _ => (&[OUT, SQ, GIVE], 3, u32::MAX),
     };
     let index = random.pick(&scene.gates_of(kinds));
     circuit[4 * index + field] = number;

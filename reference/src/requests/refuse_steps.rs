@@ -3,7 +3,7 @@
 use super::refuse::{set_len, set_position, spoil_elements};
 use super::scene::Scene;
 use super::{Entry, Request};
-use crate::circuit::{ADD, IN, MUL, OUT, PLUS, SQ, SUB, TIMES};
+use crate::circuit::{ADD, GIVE, IN, MUL, OUT, PLUS, SQ, SUB, TIMES};
 use crate::commitment::REVEALED;
 use crate::field::P;
 use crate::party::{Position, Round, Sort, Stage};
@@ -39,14 +39,14 @@ pub(super) fn impossible_position(
     };
     let last = scene.shape.gates - 1;
     let mut of = |kinds: &[u32]| random.pick(&scene.gates_of(kinds));
-    let outs = scene.gates_of(&[OUT]);
+    let outs = scene.gates_of(&[OUT, GIVE]);
     let (checked, unneeded): (Vec<usize>, Vec<usize>) =
         outs.iter().partition(|&&out| scene.pending(out) > 0);
     let (gate, stage, held) = match variant {
         0 => (last + 1, half(Sort::OpenOutput), 0),
         1 => (u32::MAX as usize, half(Sort::Own), 0),
         2 => (of(&[MUL, SQ]), half(Sort::CommitOpened), 0),
-        3 => (of(&[OUT]), half(Sort::Own), 0),
+        3 => (of(&[OUT, GIVE]), half(Sort::Own), 0),
         4 => (of(&[IN]), half(Sort::OpenOutput), 0),
         5 => (
             of(&[ADD, SUB, PLUS, TIMES]),
@@ -66,8 +66,8 @@ pub(super) fn impossible_position(
         12 => (random.below(last), Stage::Finished, 0),
         13 => (of(&[IN, ADD, SUB, PLUS, TIMES, MUL, SQ]), Stage::Aborted, 0),
         14 => (last, Stage::Finished, 1),
-        15 => (of(&[OUT]), Stage::Aborted, P - 1),
-        _ => (of(&[OUT]), half(Sort::OpenOutput), random.nonzero()),
+        15 => (of(&[OUT, GIVE]), Stage::Aborted, P - 1),
+        _ => (of(&[OUT, GIVE]), half(Sort::OpenOutput), random.nonzero()),
     };
     Position {
         gate: gate as u32,
@@ -88,7 +88,7 @@ pub(super) fn wrong_half(
     let gate = match variant {
         0 => 0,
         1 => scene.shape.gates - 1,
-        _ => random.pick(&scene.gates_of(&[OUT])),
+        _ => random.pick(&scene.gates_of(&[OUT, GIVE])),
     } as u32;
     match (variant, &mut request) {
         (0, Request::Send { position, .. } | Request::Receive { position, .. }) => {

@@ -117,6 +117,11 @@ mod tests {
                 max_lines: 12,
                 max_parties: 2,
             },
+            Size {
+                kinds: Kinds::Gives,
+                max_lines: 13,
+                max_parties: 2,
+            },
             Size::SMALL,
             Size::FULL,
         ] {

@@ -170,9 +170,10 @@ impl Scene {
 
     /// The kinds that its gates may have.
     pub fn kinds(&self) -> Kinds {
-        match self.shape.squares {
-            0 => Kinds::Base,
-            _ => Kinds::Squares,
+        match (self.shape.squares, self.shape.gives) {
+            (0, 0) => Kinds::Base,
+            (_, 0) => Kinds::Squares,
+            _ => Kinds::Gives,
         }
     }
 

@@ -59,7 +59,7 @@ pub const EXAMPLES: [Example; 62] = [
     (2, &[(b"(add (out (in 0)) (in 0))\n", 1)], Told::Refused(22, 6)), // never inside: the `o`
     (2, &[(b"(out (out (in 0)))\n", 1)], Told::Refused(22, 6)),
     (2, &[(b"(ov", 1)], Told::Refused(22, 2)),
-    (2, &[(b"(g", 1)], Told::Refused(22, 1)),
+    (2, &[(b"(g", 1)], Told::Refused(22, 2)), // ends within a row; may become `(give`
     // Names.
     (2, &[(b"(add (line 0) (in 0))\n", 1)], Told::Refused(22, 6)), // no earlier row: the `l`
     (2, &[(b"(out (in 0))\n(out (line 0))\n", 1)], Told::Refused(22, 19)), // no earlier row with a value: the `l`

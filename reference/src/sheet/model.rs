@@ -42,7 +42,7 @@ const SPACE: Symbol = Literal(" ");
 const CLOSE: Symbol = Literal(")");
 
 /// In the order of the kinds' numbers, and the name of a row last.
-const RULES: [Rule; 9] = [
+const RULES: [Rule; 10] = [
     rule("in", &[Literal("(in "), Number, CLOSE], true, true),
     rule(
         "add",
@@ -76,6 +76,12 @@ const RULES: [Rule; 9] = [
     ),
     rule("out", &[Literal("(out "), Form, CLOSE], false, true),
     rule("sq", &[Literal("(sq "), Form, CLOSE], true, true),
+    rule(
+        "give",
+        &[Literal("(give "), Form, SPACE, Number, CLOSE],
+        false,
+        true,
+    ),
     rule("line", &[Literal("(line "), Name, CLOSE], true, false),
 ];
 
@@ -232,7 +238,7 @@ pub fn completed(text: &[u8]) -> Option<(Vec<Tree>, String)> {
             .collect();
         assert!(readings.len() < 2, "a sheet has one reading");
         let tree = readings.pop()?;
-        rows.push(tree.word != "out");
+        rows.push(!["out", "give"].contains(&tree.word));
         trees.push(tree);
     }
     if last.is_empty() {
@@ -264,6 +270,7 @@ fn flatten(tree: &Tree, wires: &[u32], gates: &mut Vec<[u32; 4]>) -> u32 {
         .unwrap() as u32;
     gates.push(match operands[..] {
         [] => [kind, number, 0, 0],
+        [first] if tree.word == "give" => [kind, first, number, 0],
         [first] => [kind, first, 0, number],
         [first, second] => [kind, first, second, 0],
         _ => unreachable!("a form holds at most two"),

@@ -79,7 +79,7 @@ fn first_asked_offender(
         match line[0] {
             6 => unchecked += 2,
             8 => unchecked += 1,
-            7 => unchecked = 0,
+            7 | 9 => unchecked = 0,
             _ => {}
         }
     }
@@ -90,7 +90,7 @@ fn first_asked_offender(
     }
     let asked = |index: usize| {
         if index < 2 * gates {
-            index % gates < gate && circuit[4 * (index % gates)] != 7
+            index % gates < gate && ![7, 9].contains(&circuit[4 * (index % gates)])
         } else {
             index < 2 * gates + 2 * opened && (index - 2 * gates) % opened < unchecked
         }

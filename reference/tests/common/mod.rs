@@ -3,6 +3,7 @@
 #![allow(dead_code)]
 
 pub mod answers;
+pub mod matching;
 
 use reference::circuit::{self, Shape};
 use reference::random::{self, Kinds, Random};
@@ -31,10 +32,15 @@ pub struct Left {
 }
 
 impl Case {
+    /// With gates of every kind.
     pub fn random(random: &mut Random, max_lines: usize, key: u32) -> Case {
+        Case::random_of(random, Kinds::Gives, max_lines, key)
+    }
+
+    pub fn random_of(random: &mut Random, kinds: Kinds, max_lines: usize, key: u32) -> Case {
         let parties = random.between(2, 8) as u32;
         let lines = random.between(2, max_lines);
-        let circuit = random::circuit(random, Kinds::Squares, parties, lines);
+        let circuit = random::circuit(random, kinds, parties, lines);
         Case::of(random, parties, circuit, key)
     }
 
@@ -152,7 +158,7 @@ impl Case {
             left.transcript[words..words + heard.len()].copy_from_slice(&heard);
             words += heard.len();
             rounds += 1;
-            let mut released = None;
+            let mut released = Vec::new();
             for ((view, band), position) in views
                 .iter()
                 .zip(left.scratch.chunks_exact_mut(len))
@@ -165,7 +171,7 @@ impl Case {
                         output,
                         position: next,
                     } => {
-                        released = Some(output);
+                        released.push((view.party, output));
                         next
                     }
                     Received::Aborted {
@@ -183,7 +189,15 @@ impl Case {
                 .iter()
                 .all(|position| (position.gate, position.stage)
                     == (positions[0].gate, positions[0].stage)));
-            if let Some(output) = released {
+            if let Some(&(_, output)) = released.first() {
+                // At an out gate to all alike, at a give gate to the receiver alone.
+                let gate = circuit::gate(&self.circuit, at.gate as usize).unwrap();
+                let told =
+                    (0..self.parties).filter(|&one| gate.receiver().is_none_or(|it| it == one));
+                assert_eq!(
+                    released,
+                    told.map(|party| (party, output)).collect::<Vec<_>>()
+                );
                 left.outputs[outputs] = output;
                 outputs += 1;
             }
