@@ -3,7 +3,7 @@
 use std::collections::{BTreeMap, BTreeSet};
 
 use reference::requests::{SheetRequest, SheetSet};
-use reference::sheet::examples::{self, Example, Told, EXAMPLES, SQUARE_EXAMPLES};
+use reference::sheet::examples::{self, Example, Told, EXAMPLES, GIVE_EXAMPLES, SQUARE_EXAMPLES};
 use reference::text;
 
 /// The seed of the vectors that are kept, and of the larger set in the gate.
@@ -81,6 +81,41 @@ fn the_set_of_squares_has_the_answers_that_squares_can_have() {
 }
 
 #[test]
+fn the_set_of_gives_has_the_answers_that_gives_can_have() {
+    let gives = SheetSet::Give.make(SEED);
+    assert_answers(&gives, "read", &["lines"], &[3, 5, 6, 7, 18, 22, 23, 24]);
+    assert_answers(&gives, "write", &["bytes"], &[1, 4, 5, 6, 7, 18]);
+    assert_answers(&gives, "score", &["done", "stopped"], &[5, 7, 8, 22, 23]);
+}
+
+/// Refusals of gives on both sides: at the `g` within a form, at its number, of its receiver, and at its bracket.
+#[test]
+fn the_set_of_gives_has_them_refused_in_every_place() {
+    let mut places = BTreeSet::new();
+    for request in SheetSet::Give.make(SEED) {
+        let SheetRequest::Read { text, .. } = &request else {
+            continue;
+        };
+        let first = first(&request);
+        let words: Vec<&str> = first.split(' ').collect();
+        let ["refusal", number @ ("22" | "24"), index] = words[..] else {
+            continue;
+        };
+        let index: usize = index.parse().unwrap();
+        let row = text[..index].rsplit(|&byte| byte == b'\n').next().unwrap();
+        if row.starts_with(b"(give ") || text[index..].starts_with(b"give ") {
+            let byte = text.get(index).map(|&byte| byte as char);
+            places.insert((number.to_string(), byte));
+        }
+    }
+    for byte in ['g', 'l', ' ', ')', '(', '0', '6', '\n'] {
+        assert!(places.contains(&("22".to_string(), Some(byte))), "{byte:?}");
+    }
+    assert!(places.contains(&("22".to_string(), None)));
+    assert!(places.contains(&("24".to_string(), Some(')'))));
+}
+
+#[test]
 fn the_large_set_has_the_answers_of_reader_and_writer() {
     let large = SheetSet::Large.make(SEED);
     assert_eq!(large.len(), 3000);
@@ -106,6 +141,7 @@ fn the_large_set_has_the_answers_of_reader_and_writer() {
 fn the_kept_sets_have_the_examples() {
     assert_has(SheetSet::Kept, &EXAMPLES);
     assert_has(SheetSet::Square, &SQUARE_EXAMPLES);
+    assert_has(SheetSet::Give, &GIVE_EXAMPLES);
 }
 
 fn assert_has(set: SheetSet, examples: &[Example]) {

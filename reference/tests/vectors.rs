@@ -6,7 +6,7 @@ use std::collections::{BTreeMap, BTreeSet};
 use std::sync::OnceLock;
 
 use common::answers::{assert_refusal_is_right, assert_written_as_due};
-use reference::circuit::{self, KIND_NAMES, OUT, SQ};
+use reference::circuit::{self, GIVE, KIND_NAMES, OUT, SQ};
 use reference::random::Kinds;
 use reference::requests::{
     measured, neighbours, single_runs, table, Answer, Answered, Entry, Field, Request, Set,
@@ -32,6 +32,22 @@ fn square() -> &'static [Answered] {
 fn mark() -> &'static [Answered] {
     static MARK: OnceLock<Vec<Answered>> = OnceLock::new();
     MARK.get_or_init(|| Set::Mark.make(SEED))
+}
+
+fn give() -> &'static [Answered] {
+    static GIVE: OnceLock<Vec<Answered>> = OnceLock::new();
+    GIVE.get_or_init(|| Set::Give.make(SEED))
+}
+
+fn gives_large() -> &'static [Answered] {
+    static LARGE: OnceLock<Vec<Answered>> = OnceLock::new();
+    LARGE.get_or_init(|| Set::GivesLarge.make(SEED))
+}
+
+/// The requests of all sets that are kept.
+fn kept<'a>() -> impl Iterator<Item = &'a Answered> {
+    let sets = [small(), large(), square(), mark(), give()];
+    sets.into_iter().flatten()
 }
 
 fn large() -> &'static [Answered] {
@@ -460,8 +476,7 @@ fn small_covers_what_is_wanted() {
 #[test]
 fn refusals_are_those_that_the_entry_asks() {
     let made = Set::MarksLarge.make(SEED);
-    let kept = small().iter().chain(large()).chain(square()).chain(mark());
-    for one in kept.chain(&made) {
+    for one in kept().chain(&made) {
         if let Some(refusal) = one.answer.refusal() {
             assert!(asking(refusal.number).contains(&one.request.entry()));
             assert_refusal_is_right(one, refusal);
@@ -621,8 +636,7 @@ fn large_has_the_longest_runs_and_lists_and_high_indices() {
 #[test]
 fn the_text_keeps_within_the_limits_of_the_format() {
     let made = Set::MarksLarge.make(SEED);
-    let kept = small().iter().chain(large()).chain(square()).chain(mark());
-    for one in kept.chain(&made) {
+    for one in kept().chain(&made) {
         for line in text::request(&one.request).lines() {
             assert!(line.len() <= 1_048_576);
             assert!(line.split(' ').count() <= 1 + 65_536);
@@ -633,7 +647,8 @@ fn the_text_keeps_within_the_limits_of_the_format() {
 #[test]
 fn the_table_is_the_printed_one() {
     let readme = include_str!("../../vectors/README.md");
-    assert!(readme.contains(&table([small(), large(), square(), mark()])));
+    let sets = [small(), large(), square(), mark(), give()];
+    assert!(readme.contains(&table(sets)));
 }
 
 #[test]
@@ -655,8 +670,8 @@ fn the_counts_are_the_printed_ones() {
     }
 }
 
-/// Whether the request's circuit is one with a square.
-fn has_square(one: &Answered) -> bool {
+/// The squares and gives of the request's circuit, if it is accepted.
+fn squares_and_gives(one: &Answered) -> (usize, usize) {
     let (circuit, parties) = match &one.request {
         Request::Joint {
             circuit, parties, ..
@@ -665,7 +680,16 @@ fn has_square(one: &Answered) -> bool {
             (&lent.circuit, lent.parties)
         }
     };
-    circuit::shape(parties, circuit).is_ok_and(|shape| shape.squares > 0)
+    let shape = circuit::shape(parties, circuit);
+    shape.map_or((0, 0), |shape| (shape.squares, shape.gives))
+}
+
+fn has_square(one: &Answered) -> bool {
+    squares_and_gives(one).0 > 0
+}
+
+fn has_give(one: &Answered) -> bool {
+    squares_and_gives(one).1 > 0
 }
 
 #[test]
@@ -678,6 +702,20 @@ fn only_the_sets_of_squares_have_squares() {
     assert!(without.iter().all(|one| {
         let refusal = one.answer.refusal();
         refusal.is_some_and(|refusal| refusal.number <= 7)
+    }));
+}
+
+#[test]
+fn only_the_sets_of_gives_have_gives() {
+    let others = small().iter().chain(large()).chain(square()).chain(mark());
+    assert!(!others.into_iter().any(has_give));
+    let (with, without): (Vec<&Answered>, Vec<&Answered>) =
+        give().iter().partition(|one| has_give(one));
+    assert!(with.len() > 4 * without.len());
+    // The others are refused before the circuit is accepted, or have as few or as many gates as there can be.
+    assert!(without.iter().all(|one| {
+        let refusal = one.answer.refusal();
+        refusal.is_some_and(|refusal| refusal.number <= 7) || one.request.entry() != Joint
     }));
 }
 
@@ -847,5 +885,337 @@ fn the_large_set_of_squares_has_the_longest_run_and_every_refusal() {
         "bad square in a pair, another key: finished",
     ] {
         assert!(counts[feature][Joint as usize] > 0, "{feature}");
+    }
+}
+
+/// Every feature that the set of gives must have.
+#[test]
+fn give_has_every_boundary_at_a_give() {
+    let counts = measured(give());
+    let mut wanted = BTreeSet::new();
+    let mut want = |entries: &[Entry], feature: String| {
+        wanted.extend(entries.iter().map(|&entry| (entry, feature.clone())));
+    };
+    for number in questions() {
+        want(
+            &asking(number),
+            format!("refused {number:02}, beside a neighbour that is not"),
+        );
+    }
+    want(
+        &Entry::ALL,
+        String::from("accepted, with a gate of kind give"),
+    );
+    for parties in 2..=8 {
+        want(&[Joint], format!("accepted, {parties} parties"));
+    }
+    let slots = "accepted, no elements in `scratch` in the slots of a give gate";
+    want(&[Send, Receive], String::from(slots));
+    for entry in [Send, Receive] {
+        for sort in Sort::ALL.into_iter().filter(|&sort| sort != Sort::Own) {
+            let (here, other) = (half(entry, sort), other_half(entry, sort));
+            let held = if holds(here) {
+                ", a check share held"
+            } else {
+                ""
+            };
+            let name = text::stage(here);
+            let answers: &[&str] = match here {
+                // The receiver, another party, and both sorts of abort.
+                Stage::Receive(Sort::RevealOutput) => {
+                    &["output", "next", "abort", "abort, a party named"]
+                }
+                Stage::Receive(Sort::RevealOpened) => &["next", "abort", "abort, a party named"],
+                _ => &["next"],
+            };
+            for answer in answers {
+                want(
+                    &[entry],
+                    format!("at `{name}` of a give gate{held}: {answer}"),
+                );
+            }
+            let other = text::stage(other);
+            want(&[entry], format!("at `{other}` of a give gate: refused 14"));
+        }
+        for sort in [Sort::OpenOutput, Sort::CommitOutput] {
+            let name = text::stage(half(entry, sort));
+            let above = "a held number above p-1: refused 13";
+            want(&[entry], format!("at `{name}` of a give gate, {above}"));
+        }
+    }
+    for ending in [
+        "good preprocessing, key 0: finished",
+        "good preprocessing, another key: finished",
+        "bad MAC of a given mask, another key: aborted at the second check",
+        "bad whole mask of a receiver, key 0: finished",
+        "bad whole mask of a receiver, another key: finished",
+        "aborted after an output",
+    ] {
+        want(&[Joint], String::from(ending));
+    }
+    let has = |(entry, feature): &(Entry, String)| {
+        let count = counts.get(feature).map(|counts| counts[*entry as usize]);
+        count.is_some_and(|count| count > 0)
+    };
+    assert_eq!(missing(wanted, has), []);
+
+    let mut wanted = BTreeSet::new();
+    for entry in Entry::ALL {
+        for (number, change) in [
+            (4, "kind 9->10"),
+            (5, "give first names itself"),
+            (5, "give first names the next gate"),
+            (5, "give first names 4294967295"),
+            (5, "give second names the number of parties"),
+            (5, "give second names 4294967295"),
+            (6, "give constant 0->1"),
+            (6, "give constant 0->4294967295"),
+            (7, "kind 9->4"),
+            (7, "kind 9->5"),
+        ] {
+            wanted.insert((entry.name(), number, String::from(change)));
+        }
+    }
+    for entry in [Send, Receive] {
+        for end in [Stage::Finished, Stage::Aborted] {
+            let stages = [half(entry, Sort::RevealOutput), end].map(text::stage);
+            wanted.insert((entry.name(), 14, format!("stage {}", stages.join("->"))));
+        }
+        let stages = [Sort::OpenOutput, Sort::Own].map(|sort| text::stage(half(entry, sort)));
+        wanted.insert((entry.name(), 13, format!("stage {}", stages.join("->"))));
+    }
+    for (number, change) in [
+        (18, "outputs one shorter"),
+        (18, "outputs of no number"),
+        (25, "nonces one shorter"),
+        (16, "coefficients one shorter"),
+    ] {
+        wanted.insert(("joint", number, String::from(change)));
+    }
+    let found = neighbours(give());
+    assert_eq!(missing(wanted, |one| found.contains_key(one)), []);
+    // A give gate names one without a value.
+    for entry in Entry::ALL {
+        for what in ["an out gate", "a give gate"] {
+            let key = (entry.name(), 5, format!("give first names {what}"));
+            assert!(found.contains_key(&key), "{key:?}");
+        }
+    }
+    let named = |kind: &str| (Joint.name(), 5, format!("{kind} first names a give gate"));
+    let large = neighbours(gives_large());
+    for kind in ["add", "mul", "out", "sq", "give"] {
+        assert!(large.contains_key(&named(kind)), "{kind}");
+    }
+}
+
+/// The whole mask of a give gate that is no element is refused at its receiver and at another party, in every entry; the index of
+/// question 15 is that of a share, of a MAC share, and of both numbers of the opened entry.
+#[test]
+fn give_has_refusals_in_every_place_of_a_give() {
+    let mut masks = BTreeSet::new();
+    let mut places = BTreeSet::new();
+    for one in give() {
+        let Some(refusal) = one.answer.refusal() else {
+            continue;
+        };
+        let entry = one.request.entry();
+        let (party, parties, circuit) = match &one.request {
+            Request::Joint {
+                parties, circuit, ..
+            } => (None, *parties, circuit),
+            Request::Open { lent } | Request::Send { lent, .. } | Request::Receive { lent, .. } => {
+                (Some(lent.party), lent.parties, &lent.circuit)
+            }
+        };
+        let Ok(shape) = circuit::shape(parties, circuit) else {
+            continue;
+        };
+        if refusal.number == 9 {
+            let len = shape.prep_len();
+            let party = party.unwrap_or((refusal.index / len) as u32);
+            for gate in 0..shape.gates {
+                let record = circuit::before(circuit, party, gate).record;
+                let receiver = circuit::gate(circuit, gate).unwrap().receiver();
+                if let Some(receiver) = receiver.filter(|_| refusal.index % len == record + 2) {
+                    masks.insert((entry, receiver == party));
+                }
+            }
+        }
+        if let (15, Request::Send { position, .. } | Request::Receive { position, .. }) =
+            (refusal.number, &one.request)
+        {
+            let layout = shape.layout();
+            let gate = position.gate as usize;
+            let round = position.round(circuit).unwrap();
+            if circuit[4 * gate] == GIVE {
+                let wire = circuit[4 * gate + 1] as usize;
+                let of_the_give = [
+                    ("share", layout.share(wire)),
+                    ("MAC share", layout.mac(wire)),
+                    ("entry", layout.opened(0)),
+                    ("MAC share of the entry", layout.opened_mac(0)),
+                ];
+                let named = of_the_give.iter();
+                let found = named.filter(|(_, place)| *place == refusal.index);
+                places.extend(found.map(|(name, _)| (entry, round, *name)));
+            }
+        }
+    }
+    assert_eq!(masks.len(), 2 * 4, "{masks:?}");
+    for entry in [Send, Receive] {
+        for (round, names) in [
+            (Round::OpenOutput, ["share", "MAC share"]),
+            (Round::CommitOutput, ["entry", "MAC share of the entry"]),
+        ] {
+            for name in names {
+                assert!(places.contains(&(entry, round, name)), "{entry:?} {name}");
+            }
+        }
+    }
+}
+
+/// Whole runs of all parties, with words of every round of a give tampered with; gives to party 0, to the last one, to the
+/// owner and to another; joint runs that list gives and outs in turns.
+#[test]
+fn give_has_whole_runs_and_every_receiver() {
+    let found = single_runs(give());
+    for wanted in [
+        run(true, None, false, None),
+        run(false, None, false, None),
+        run(true, Some(Round::RevealOutput), false, None),
+        tampered(Round::Multiply),
+        tampered(Round::CommitOpened),
+        tampered(Round::RevealOpened),
+        tampered(Round::OpenOutput),
+        tampered(Round::CommitOutput),
+        tampered(Round::RevealOutput),
+    ] {
+        assert!(found.contains_key(&wanted), "{wanted:?}");
+    }
+
+    let mut receivers = BTreeSet::new();
+    let mut released = BTreeSet::new();
+    let mut mixed = 0;
+    for one in give() {
+        match (&one.request, &one.answer) {
+            (
+                Request::Joint {
+                    parties, circuit, ..
+                },
+                Answer::Joint {
+                    result: Ok(result), ..
+                },
+            ) if result.ending == Ending::Finished => {
+                let lines: Vec<&[u32]> = circuit.chunks_exact(4).collect();
+                let gives = lines.iter().filter(|line| line[0] == GIVE);
+                for line in gives {
+                    let wire = lines[line[1] as usize];
+                    let owner = wire[0] == 1 && wire[1] == line[2];
+                    receivers.insert((line[2] == 0, line[2] + 1 == *parties, owner));
+                }
+                let outputs: Vec<u32> = lines
+                    .iter()
+                    .map(|line| line[0])
+                    .filter(|kind| [OUT, GIVE].contains(kind))
+                    .collect();
+                mixed += usize::from(outputs.windows(2).filter(|two| two[0] != two[1]).count() > 2);
+            }
+            (
+                Request::Receive { lent, position, .. },
+                Answer::Receive {
+                    result: Ok(result), ..
+                },
+            ) => {
+                let line = lent.circuit.chunks_exact(4).nth(position.gate as usize);
+                let line = line.unwrap();
+                let passed = position.stage == Stage::Receive(Sort::RevealOutput);
+                if line[0] == GIVE && passed && !matches!(result, Received::Aborted { .. }) {
+                    let told = matches!(result, Received::Released { .. });
+                    assert_eq!(told, line[2] == lent.party);
+                    released.insert((told, lent.party));
+                }
+            }
+            _ => {}
+        }
+    }
+    for wanted in [
+        (true, false, false),
+        (false, true, false),
+        (true, false, true),
+        (false, true, true),
+        (false, false, false),
+    ] {
+        assert!(receivers.contains(&wanted), "{wanted:?}");
+    }
+    for wanted in [(true, 0), (true, 1), (true, 2), (false, 0), (false, 1)] {
+        assert!(released.contains(&wanted), "{wanted:?}");
+    }
+    assert!(mixed > 1, "{mixed}");
+}
+
+#[test]
+fn the_large_set_of_gives_has_the_longest_runs_and_every_refusal() {
+    let large = gives_large();
+    let counts = measured(large);
+    for number in questions() {
+        let refused = &counts[&format!("refused {number:02}")];
+        for entry in asking(number) {
+            assert!(refused[entry as usize] > 1, "{number} {entry:?}");
+        }
+    }
+    for feature in [
+        "accepted, with a gate of kind give",
+        "accepted, 256 gates and 8 parties",
+        "finished after 766 rounds",
+        "bad MAC of a given mask, another key: aborted at the second check",
+        "bad whole mask of a receiver, another key: finished",
+    ] {
+        assert!(counts[feature][Joint as usize] > 0, "{feature}");
+    }
+    // 766 rounds by gives alone, and by gives after products and after squares, of two parties and of eight.
+    let mut longest = BTreeSet::new();
+    for one in large {
+        if let (
+            Request::Joint {
+                parties, circuit, ..
+            },
+            Answer::Joint {
+                result: Ok(result), ..
+            },
+        ) = (&one.request, &one.answer)
+        {
+            let last = circuit[circuit.len() - 4];
+            if (result.rounds, result.ending, last) == (766, Ending::Finished, GIVE) {
+                longest.insert((*parties, circuit[4]));
+            }
+        }
+    }
+    for parties in [2, 8] {
+        for kind in [6, SQ, GIVE] {
+            assert!(longest.contains(&(parties, kind)), "{parties} {kind}");
+        }
+    }
+    let lengths = longest_lists(large);
+    for (name, longest) in [
+        ("circuit", 4 * 256),
+        ("prep", 1 + 3 + 6 * 254 + 3),
+        ("preps", 8 * (1 + 3 + 6 * 254 + 3)),
+        ("coefficients", 2 * 254 + 1),
+        ("outputs", 255),
+        ("nonces", 65_280),
+        ("transcript", 37_744),
+        ("heard", 72),
+    ] {
+        assert_eq!(lengths[name], longest, "{name}");
+    }
+    for one in large {
+        if let Some(refusal) = one.answer.refusal() {
+            assert!(asking(refusal.number).contains(&one.request.entry()));
+            assert_refusal_is_right(one, refusal);
+        }
+        assert_written_as_due(one);
+        for line in text::request(&one.request).lines() {
+            assert!(line.len() <= 1_048_576);
+        }
     }
 }

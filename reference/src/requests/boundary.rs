@@ -302,7 +302,10 @@ impl<'a> Boundaries<'a> {
                     .partition(|&earlier| circuit::has_value(&scene.circuit[4 * earlier..]));
                 let nearest = wires[wires.len() - 1] as u32;
                 let mut outside = vec![gate as u32, gate as u32 + 1, u32::MAX];
-                outside.extend(outs.last().map(|&out| out as u32));
+                for kind in [OUT, GIVE] {
+                    let named = outs.iter().rfind(|&&out| scene.circuit[4 * out] == kind);
+                    outside.extend(named.map(|&out| out as u32));
+                }
                 self.gate_number(5, &base, (gate, field), nearest, &outside);
             }
         }

@@ -91,7 +91,8 @@ pub(super) fn words(request: &mut Request) -> &mut Vec<u32> {
     }
 }
 
-fn outputs(request: &mut Request) -> &mut Vec<u32> {
+/// The list of a run's outputs.
+pub(super) fn outputs(request: &mut Request) -> &mut Vec<u32> {
     match request {
         Request::Joint { outputs, .. } => outputs,
         _ => unreachable!("the entry has no list of outputs"),

@@ -678,7 +678,7 @@ pub(super) fn large(random: &mut Random) -> Vec<Request> {
 /// The longest lists of nonces and words, and both sides of the questions about them.
 fn longest(random: &mut Random) -> Vec<Request> {
     let mut requests = Vec::new();
-    for kinds in [filled(OUT), longest_run(MUL), longest_run(SQ)] {
+    for kinds in [filled(OUT), longest_run(MUL, OUT), longest_run(SQ, OUT)] {
         for parties in [2, 3, 8] {
             let circuit = random::from_kinds(random, parties, &kinds);
             let mut scene = scene_of(random, &circuit, parties);
@@ -696,7 +696,7 @@ fn longest(random: &mut Random) -> Vec<Request> {
             requests.push(scene.joint(random));
         }
     }
-    let circuit = random::from_kinds(random, 8, &longest_run(MUL));
+    let circuit = random::from_kinds(random, 8, &longest_run(MUL, OUT));
     let mut scene = scene_of(random, &circuit, 8);
     scene.zeros = true;
     let base = scene.joint(random);

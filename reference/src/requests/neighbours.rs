@@ -9,7 +9,7 @@ use crate::field::P;
 use crate::text;
 
 /// How many requests before a refused one its neighbour is looked for.
-const REACH: usize = 4;
+const REACH: usize = 5;
 
 /// For each entry, refusal number and change from the neighbour to the refused request, how often it
 /// occurs: `open 01 parties 8->9`.

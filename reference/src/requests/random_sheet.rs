@@ -29,8 +29,13 @@ pub fn random_sheet(random: &mut Random, rows: usize) -> Vec<u8> {
             _ => maker.random.between(1, 3),
         };
         if out {
-            maker.text.push_str("(out ");
+            let give = maker.random.once_in(3);
+            maker.text.push_str(if give { "(give " } else { "(out " });
             maker.form(2, depth.max(2));
+            if give {
+                let seat = maker.seat();
+                maker.text.push_str(&format!(" {seat}"));
+            }
             maker.text.push(')');
         } else {
             maker.form(1, depth);
@@ -80,14 +85,17 @@ impl Maker<'_> {
         let leaf = if !outermost && !self.names.is_empty() && !self.random.once_in(3) {
             format!("(line {})", self.random.pick(&self.names))
         } else {
-            let seat = if self.random.once_in(300) {
-                self.random.number()
-            } else {
-                self.random.below(2) as u32
-            };
-            format!("(in {seat})")
+            format!("(in {})", self.seat())
         };
         self.text.push_str(&leaf);
+    }
+
+    fn seat(&mut self) -> u32 {
+        if self.random.once_in(300) {
+            self.random.number()
+        } else {
+            self.random.below(2) as u32
+        }
     }
 
     fn constant(&mut self) -> u32 {

@@ -3,7 +3,7 @@
 
 use super::scene::{Scene, Tamper};
 use super::Request;
-use crate::circuit::{self, IN, MUL, SQ};
+use crate::circuit::{self, GIVE, IN, MUL, SQ};
 use crate::field;
 use crate::party::Round;
 use crate::random::{self, Kinds, Random};
@@ -25,6 +25,12 @@ pub(super) enum Wrong {
     Pair(usize),
     /// c is not a times a, but its MAC is right. No check sees it.
     Square,
+    /// A number of a give gate's record: share, MAC share.
+    Given(usize),
+    /// The whole mask that the receiver reads. No check sees it.
+    GivenMask,
+    /// What another party has in the place of that whole mask. It is never read, and the preprocessing stays good.
+    OtherMask,
 }
 
 pub(super) const TRIPLE_WRONGS: [Wrong; 11] = [
@@ -49,6 +55,13 @@ pub(super) const PAIR_WRONGS: [Wrong; 5] = [
     Wrong::Square,
 ];
 
+pub(super) const GIVE_WRONGS: [Wrong; 4] = [
+    Wrong::Given(0),
+    Wrong::Given(1),
+    Wrong::GivenMask,
+    Wrong::OtherMask,
+];
+
 /// Spoils the preprocessing at the last gate of the kind that can be spoilt so.
 pub(super) fn spoil(random: &mut Random, scene: &mut Scene, wrong: Wrong) {
     let len = scene.shape.prep_len();
@@ -68,6 +81,13 @@ pub(super) fn spoil(random: &mut Random, scene: &mut Scene, wrong: Wrong) {
         }
         Wrong::Triple(number) => vec![(party, record(MUL).0 + number, by)],
         Wrong::Pair(number) => vec![(party, record(SQ).0 + number, by)],
+        Wrong::Given(number) => vec![(party, record(GIVE).0 + number, by)],
+        Wrong::GivenMask | Wrong::OtherMask => {
+            let gate = scene.gates_of(&[GIVE]).pop().expect("there is a give gate");
+            let other = u32::from(matches!(wrong, Wrong::OtherMask));
+            let knower = (scene.circuit[4 * gate + 2] + other) % scene.parties;
+            vec![(knower, record(GIVE).0 + 2, by)]
+        }
         Wrong::Product | Wrong::Square => {
             let key = field::sum(scene.preps.iter().step_by(len));
             let c = match wrong {

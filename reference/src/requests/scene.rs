@@ -158,6 +158,14 @@ impl Scene {
         Scene::new(random, parties, circuit, key)
     }
 
+    /// Fills the preprocessing with zeros too, which is good and short as text, where lists to be written hold zeros.
+    pub fn shortened(mut self) -> Scene {
+        if self.zeros {
+            self.preps.fill(0);
+        }
+        self
+    }
+
     /// Makes party 1 the owner of party 0's in gates. Their whole masks are then any elements.
     pub fn disown(&mut self) {
         for line in self.circuit.chunks_exact_mut(4) {

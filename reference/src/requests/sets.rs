@@ -4,7 +4,7 @@ use super::boundary::{boundaries, Boundary, ListOf, NO_ELEMENTS};
 use super::boundary_steps::coefficients;
 use super::runs::{self, Wrong, TRIPLE_WRONGS};
 use super::scene::Scene;
-use super::{marks, products, rotation, squares, Answered, Entry, Request, Size};
+use super::{gives, marks, products, rotation, squares, Answered, Entry, Request, Size};
 use crate::circuit::{IN, MAX_GATES, MUL, OUT, PLUS};
 use crate::docket;
 use crate::random::{self, Kinds, Random};
@@ -15,22 +15,26 @@ pub enum Set {
     Large,
     Square,
     Mark,
+    Give,
     SquaresLarge,
     Products,
     MarksLarge,
+    GivesLarge,
 }
 
 impl Set {
-    pub const ALL: [Set; 7] = [
+    pub const ALL: [Set; 9] = [
         Set::Small,
         Set::Large,
         Set::Square,
         Set::Mark,
+        Set::Give,
         Set::SquaresLarge,
         Set::Products,
         Set::MarksLarge,
+        Set::GivesLarge,
     ];
-    pub const KEPT: [Set; 4] = [Set::Small, Set::Large, Set::Square, Set::Mark];
+    pub const KEPT: [Set; 5] = [Set::Small, Set::Large, Set::Square, Set::Mark, Set::Give];
 
     pub fn name(self) -> &'static str {
         match self {
@@ -38,9 +42,11 @@ impl Set {
             Set::Large => "large",
             Set::Square => "square",
             Set::Mark => "mark",
+            Set::Give => "give",
             Set::SquaresLarge => "squares-large",
             Set::Products => "products",
             Set::MarksLarge => "marks-large",
+            Set::GivesLarge => "gives-large",
         }
     }
 
@@ -50,9 +56,11 @@ impl Set {
             Set::Large => "circuits of up to 256 gates and 8 parties; the longest runs and lists, refusals at high indices",
             Set::Square => "squares among other gates; both sides of every question's boundary, squares of every kind of wire, tampered words, bad preprocessing",
             Set::Mark => "commitments of short circuits; nonces of every wrong length, marks and nonces of any words, every part of a check altered, heard and in the scratch",
+            Set::Give => "gives among other gates; both sides of every question's boundary, gives to every party, what receiver and others are answered, tampered words, bad masks",
             Set::SquaresLarge => "squares in circuits of up to 256 gates and 8 parties; every boundary, whole runs, the longest run",
             Set::Products => "products at the edges of a reduction: by constants, by the key share, of opened values; the largest sums of products",
             Set::MarksLarge => "commitments in circuits of up to 256 gates and 8 parties; every part of a check altered, the longest nonce lists and transcripts",
+            Set::GivesLarge => "gives in circuits of up to 256 gates and 8 parties; every boundary, whole runs, the longest runs",
         }
     }
 
@@ -64,9 +72,11 @@ impl Set {
             Set::Large => large(&mut random),
             Set::Square => squares::kept(&mut random),
             Set::Mark => marks::kept(&mut random),
+            Set::Give => gives::kept(&mut random),
             Set::SquaresLarge => squares::large(&mut random),
             Set::Products => products::all(&mut random),
             Set::MarksLarge => marks::large(&mut random),
+            Set::GivesLarge => gives::large(&mut random),
         };
         requests.into_iter().map(Request::answered).collect()
     }
@@ -82,7 +92,7 @@ fn small(random: &mut Random) -> Vec<Request> {
         let lines = random.between(kinds.rich_lines(), 12);
         let mut scene = Scene::rich_of(random, kinds, parties, lines);
         scene.zeros = random.once_in(2);
-        scene
+        scene.shortened()
     };
     for entry in Entry::ALL {
         for boundary in boundaries(random, entry, kinds, &scene_of) {
@@ -92,7 +102,7 @@ fn small(random: &mut Random) -> Vec<Request> {
         }
     }
     let scene_of = runs::two_products;
-    requests.extend(runs::good(random, kinds, 30));
+    requests.extend(runs::good(random, kinds, 16));
     requests.extend(runs::bad_preps(random, &TRIPLE_WRONGS, scene_of));
     requests.extend(runs::tampered(random, kinds.rounds(), 2, scene_of));
     let size = Size {
@@ -115,20 +125,25 @@ fn scene(random: &mut Random, parties: u32, kinds: &[u32]) -> Scene {
     scene
 }
 
-/// As many gates as there can be, of one kind between the first and the last.
+/// As many gates as there can be, of one kind between the first and the last, which is an out gate.
 pub(super) fn filled(kind: u32) -> Vec<u32> {
+    filled_to(kind, OUT)
+}
+
+/// The same with a last gate of a kind.
+pub(super) fn filled_to(kind: u32, last: u32) -> Vec<u32> {
     let mut kinds = vec![kind; MAX_GATES];
     kinds[0] = IN;
-    kinds[MAX_GATES - 1] = OUT;
+    kinds[MAX_GATES - 1] = last;
     kinds
 }
 
 /// The kinds of a circuit that takes 766 rounds, with a gate of the given kind, which opens, before every
-/// output but the last.
-pub(super) fn longest_run(kind: u32) -> Vec<u32> {
+/// output but the last; the outputs are out or give gates.
+pub(super) fn longest_run(kind: u32, output: u32) -> Vec<u32> {
     let mut kinds = vec![IN];
-    kinds.extend([kind, OUT].repeat((MAX_GATES - 2) / 2));
-    kinds.push(OUT);
+    kinds.extend([kind, output].repeat((MAX_GATES - 2) / 2));
+    kinds.push(output);
     kinds
 }
 
@@ -149,15 +164,13 @@ fn large(random: &mut Random) -> Vec<Request> {
         (8, filled(IN)),
         (8, filled(MUL)),
         (2, filled(OUT)),
-        (2, longest_run(MUL)),
+        (2, longest_run(MUL, OUT)),
     ] {
         requests.push(scene(random, parties, &kinds).joint(random));
     }
-    for parties in [2, 4] {
-        let mut scene = Scene::rich_of(random, Kinds::Base, parties, MAX_GATES);
-        scene.zeros = true;
-        requests.push(scene.joint(random));
-    }
+    let mut rich = Scene::rich_of(random, Kinds::Base, 3, MAX_GATES);
+    rich.zeros = true;
+    requests.push(rich.joint(random));
     // Lists to be written that hold any numbers and have an excess.
     let mut used = scene(random, 4, &filled(PLUS));
     used.zeros = false;
@@ -175,7 +188,7 @@ fn large(random: &mut Random) -> Vec<Request> {
     }
     requests.push(used);
     // Aborts at the first check of the last product, late in a run, and in the largest check.
-    for kinds in [longest_run(MUL), filled(MUL)] {
+    for kinds in [longest_run(MUL, OUT), filled(MUL)] {
         let mut scene = scene(random, 2, &kinds);
         runs::spoil(random, &mut scene, Wrong::Triple(1));
         requests.push(scene.joint(random));
@@ -184,7 +197,7 @@ fn large(random: &mut Random) -> Vec<Request> {
     // Single entries: a whole run, and rounds at the start, in the middle and at the end of long ones.
     let whole = scene(random, 8, &few_rounds());
     requests.extend(whole.whole_and_after(random, Some(7), None));
-    let long = scene(random, 8, &longest_run(MUL));
+    let long = scene(random, 8, &longest_run(MUL, OUT));
     requests.extend(long.halves(random, 0, &[0, 1, 382, 761, 764, 765]));
     let largest_check = scene(random, 8, &filled(MUL));
     requests.extend(largest_check.halves(random, 7, &[1, 128, 255]));
@@ -211,11 +224,16 @@ fn large(random: &mut Random) -> Vec<Request> {
         scene
     };
     for entry in Entry::ALL {
-        let all = boundaries(random, entry, Kinds::Base, &scene_of);
-        requests.extend(highest(all).into_iter().flat_map(Boundary::requests));
+        let mut all = highest(boundaries(random, entry, Kinds::Base, &scene_of));
+        // Of the questions whose refusals have index 0, in joint runs alone.
+        all.retain(|boundary| entry == Entry::Joint || WITH_INDEX.contains(&boundary.number));
+        requests.extend(all.into_iter().flat_map(Boundary::requests));
     }
     requests
 }
+
+/// The questions that tell a gate or the index of a number.
+const WITH_INDEX: [u32; 8] = [4, 5, 6, 9, 11, 15, 17, 20];
 
 /// For each number the boundary that is refused with the highest index.
 fn highest(all: Vec<Boundary>) -> Vec<Boundary> {

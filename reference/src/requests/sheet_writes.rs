@@ -72,7 +72,7 @@ pub(super) fn write_boundaries() -> Vec<SheetRequest> {
         // Several questions say no.
         [1, 9, 9, 9, NO_KIND, 0, 0, 0],
         [NO_KIND, 9, 9, 9, 7, 9, 9, 9],
-        [1, 0, 9, 0, 9, 0, 0, 0],
+        [1, 0, 9, 0, NO_KIND, 0, 0, 0],
         [1, 0, 0, 0, 2, 1, 1, 1],
     ] {
         requests.push(write(2, &circuit));

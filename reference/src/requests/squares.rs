@@ -6,7 +6,7 @@ use super::runs::{self, Wrong, PAIR_WRONGS};
 use super::scene::Scene;
 use super::sets::{filled, longest_run};
 use super::{rotation, Entry, Request, Size};
-use crate::circuit::{MAX_GATES, SQ};
+use crate::circuit::{MAX_GATES, OUT, SQ};
 use crate::party::Round;
 use crate::random::{self, Kinds, Random};
 use crate::square;
@@ -115,7 +115,7 @@ fn rich(random: &mut Random, parties: u32) -> Scene {
     let lines = random.between(KINDS.rich_lines(), KINDS.rich_lines() + 2);
     let mut scene = Scene::rich_of(random, KINDS, parties, lines);
     scene.zeros = random.once_in(2);
-    scene
+    scene.shortened()
 }
 
 pub(super) fn kept(random: &mut Random) -> Vec<Request> {
@@ -302,7 +302,7 @@ pub(super) fn large(random: &mut Random) -> Vec<Request> {
     }
 
     // The longest lists that squares make, and the longest run.
-    for kinds in [filled(SQ), longest_run(SQ)] {
+    for kinds in [filled(SQ), longest_run(SQ, OUT)] {
         for parties in [2, 8] {
             let key = random.nonzero();
             let circuit = random::from_kinds(random, parties, &kinds);

@@ -141,3 +141,81 @@ pub const SQUARE_EXAMPLES: [Example; 36] = [
     (2, &[(b"(in 0)\n", 256), (b"(sq (line 0)", 1)], Told::Refused(22, 1804)), // ends within a row
     (2, &[(b"(in 0)\n", 256), (b"(sq )", 1)], Told::Refused(22, 1796)),
 ];
+
+/// Sheets with gives.
+#[rustfmt::skip]
+pub const GIVE_EXAMPLES: [Example; 63] = [
+    // What is read.
+    (2, &[(b"(in 0)\n(give (line 0) 1)\n", 1)], Told::Circuit(&[[1, 0, 0, 0], [9, 0, 1, 0]])), // may be last
+    (2, &[(b"(give (in 0) 1)\n", 1)], Told::Circuit(&[[1, 0, 0, 0], [9, 0, 1, 0]])), // one row, two gates
+    (2, &[(b"(give (in 1) 0)\n", 1)], Told::Circuit(&[[1, 1, 0, 0], [9, 0, 0, 0]])),
+    (8, &[(b"(give (in 0) 7)\n(out (in 1))\n", 1)], Told::Circuit(&[[1, 0, 0, 0], [9, 0, 7, 0], [1, 1, 0, 0], [7, 2, 0, 0]])),
+    (2, &[(b"(in 0)\n(give (mul (in 1) (sq (line 0))) 1)\n(give (line 0) 0)\n", 1)], Told::Circuit(&[[1, 0, 0, 0], [1, 1, 0, 0], [8, 0, 0, 0], [6, 1, 2, 0], [9, 3, 1, 0], [9, 0, 0, 0]])),
+    // The word.
+    (2, &[(b"(g", 1)], Told::Refused(22, 2)), // ends within a row
+    (2, &[(b"(gi", 1)], Told::Refused(22, 3)),
+    (2, &[(b"(giv", 1)], Told::Refused(22, 4)),
+    (2, &[(b"(give", 1)], Told::Refused(22, 5)),
+    (2, &[(b"(give ", 1)], Told::Refused(22, 6)),
+    (2, &[(b"(G", 1)], Told::Refused(22, 1)),
+    (2, &[(b"(g ", 1)], Told::Refused(22, 2)),
+    (2, &[(b"(gx", 1)], Told::Refused(22, 2)),
+    (2, &[(b"(gave", 1)], Told::Refused(22, 2)),
+    (2, &[(b"(givE", 1)], Told::Refused(22, 4)),
+    (2, &[(b"(giver", 1)], Told::Refused(22, 5)),
+    (2, &[(b"(give)", 1)], Told::Refused(22, 5)),
+    (2, &[(b"(give(in 0) 1)\n", 1)], Told::Refused(22, 5)),
+    // What it holds: one form and a number.
+    (2, &[(b"(give  (in 0) 1)\n", 1)], Told::Refused(22, 6)), // second space
+    (2, &[(b"(give 0 1)\n", 1)], Told::Refused(22, 6)),
+    (2, &[(b"(give (in 0))\n", 1)], Told::Refused(22, 12)),
+    (2, &[(b"(give (in 0) )\n", 1)], Told::Refused(22, 13)),
+    (2, &[(b"(give (in 0) (in 1))\n", 1)], Told::Refused(22, 13)),
+    (2, &[(b"(give (in 0) 01)\n", 1)], Told::Refused(22, 14)),
+    (2, &[(b"(give (in 0) 1 )\n", 1)], Told::Refused(22, 14)),
+    (2, &[(b"(give (in 0) 1", 1)], Told::Refused(22, 14)), // ends within a row
+    (2, &[(b"(give (in 0) 1)", 1)], Told::Refused(22, 15)), // without its line feed
+    (2, &[(b"(give (in 0) 1) \n", 1)], Told::Refused(22, 15)),
+    // The receiver.
+    (2, &[(b"(in 0)\n(give (line 0) 4294967296)\n", 1)], Told::Refused(22, 31)), // tenth digit
+    (2, &[(b"(in 0)\n(give (line 0) 42949672950)\n", 1)], Told::Refused(22, 32)), // eleventh digit
+    (2, &[(b"(in 0)\n(give (line 0) 4294967295)\n", 1)], Told::Refused(5, 1)),
+    (2, &[(b"(give (in 0) 2)\n", 1)], Told::Refused(5, 1)),
+    (3, &[(b"(give (in 0) 2)\n", 1)], Told::Circuit(&[[1, 0, 0, 0], [9, 0, 2, 0]])),
+    // Where it may stand: outermost only.
+    (2, &[(b"(add (give (in 0) 1) (in 0))\n", 1)], Told::Refused(22, 6)), // never inside: the `g`
+    (2, &[(b"(give (give (in 0) 1) 1)\n", 1)], Told::Refused(22, 7)),
+    (2, &[(b"(out (give (in 0) 1))\n", 1)], Told::Refused(22, 6)),
+    (2, &[(b"(give (out (in 0)) 1)\n", 1)], Told::Refused(22, 7)),
+    (2, &[(b"(sq (g", 1)], Told::Refused(22, 5)),
+    // Names: a give has no value, and its row counts.
+    (2, &[(b"(in 0)\n(give (in 0) 1)\n(out (line 1))\n", 1)], Told::Refused(22, 34)), // a give has no value
+    (2, &[(b"(give (line 0) 1)\n", 1)], Told::Refused(22, 7)), // no earlier row: the `l`
+    (2, &[(b"(give (in 0) 1)\n(out (line 0))\n", 1)], Told::Refused(22, 22)), // no earlier row with a value: the `l`
+    (2, &[(b"(in 0)\n(give (line 0) 1)\n(give (line 1) 0)\n", 1)], Told::Refused(22, 37)),
+    (2, &[(b"(in 0)\n(give (line 0) 1)\n(give (line 2) 0)\n", 1)], Told::Refused(22, 37)),
+    (2, &[(b"(give (in 0) 1)\n(in 1)\n(give (line 1) 0)\n", 1)], Told::Circuit(&[[1, 0, 0, 0], [9, 0, 1, 0], [1, 1, 0, 0], [9, 2, 0, 0]])),
+    (2, &[(b"(in 0)\n(give (in 0) 1)\n", 1), (b"(in 0)\n", 8), (b"(out (line 1))\n", 1)], Told::Refused(22, 90)), // there is no 10: the `1`
+    (2, &[(b"(in 0)\n(give (in 0) 1)\n", 1), (b"(in 0)\n", 9), (b"(out (line 1))\n", 1)], Told::Refused(22, 98)), // 10 has a value: the `)`
+    (2, &[(b"(in 0)\n(give (in 0) 1)\n", 1), (b"(in 0)\n", 9), (b"(give (line 10) 0)\n", 1)], Told::Gates(13)),
+    // The circuit.
+    (2, &[(b"(give (in 0) 1)\n(in 0)\n", 1)], Told::Refused(7, 0)), // no output at the end
+    (2, &[(b"(give (in 2) 2)\n", 1)], Told::Refused(5, 0)), // gate 0 before gate 1
+    (2, &[(b"(give (in 0) 1)\n(give (in 9) 0)\n", 1)], Told::Refused(5, 2)),
+    (2, &[(b"(give (plus (in 0) 2147483647) 2)\n", 1)], Told::Refused(6, 1)),
+    // Depth.
+    (2, &[(b"(give ", 1), (b"(plus ", 14), (b"(in 0)", 1), (b" 1)", 15), (b"\n", 1)], Told::Gates(16)),
+    (2, &[(b"(give ", 1), (b"(plus ", 15), (b"(in 0)", 1), (b" 1)", 16), (b"\n", 1)], Told::Refused(23, 96)),
+    (2, &[(b"(give ", 1), (b"(plus ", 15), (b"x", 1)], Told::Refused(22, 96)),
+    (2, &[(b"(in 0)\n(give ", 1), (b"(plus ", 15), (b"(line 0)", 1)], Told::Refused(23, 103)), // a (line J) counts
+    // Count.
+    (2, &[(b"(in 0)\n", 255), (b"(give (line 0) 1)\n", 1)], Told::Gates(256)),
+    (2, &[(b"(in 0)\n", 256), (b"(give (line 0) 1)\n", 1)], Told::Refused(24, 1808)), // the bracket of give; that of (line 0), 1805, closes no gate
+    (2, &[(b"(in 0)\n", 255), (b"(give (in 0) 1)\n", 1)], Told::Refused(24, 1799)),
+    (2, &[(b"(in 0)\n", 256), (b"(give (line 0) 1", 1)], Told::Refused(22, 1808)), // ends within a row
+    (2, &[(b"(in 0)\n", 256), (b"(give (line 0) )", 1)], Told::Refused(22, 1807)), // 22 and 24 on one byte
+    (2, &[(b"(give (in 0) 1)\n", 128)], Told::Gates(256)), // 128 rows
+    (2, &[(b"(give (in 0) 1)\n", 129)], Told::Refused(24, 2059)),
+    // The text before the circuit.
+    (2, &[(b"(give (in 9) 9)\nx", 1)], Told::Refused(22, 16)),
+];

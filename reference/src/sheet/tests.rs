@@ -1,4 +1,4 @@
-use super::examples::{self, Told, EXAMPLES, SQUARE_EXAMPLES};
+use super::examples::{self, Told, EXAMPLES, GIVE_EXAMPLES, SQUARE_EXAMPLES};
 use super::{model, read_sheet, write_sheet};
 use crate::circuit::MAX_GATES;
 use crate::random::{self, Kinds, Random};
@@ -20,7 +20,8 @@ fn refused<T>(number: u32, index: usize) -> Result<T, Refusal> {
 
 #[test]
 fn examples_are_answered_as_told() {
-    for (parties, parts, told) in EXAMPLES.into_iter().chain(SQUARE_EXAMPLES) {
+    let later = SQUARE_EXAMPLES.into_iter().chain(GIVE_EXAMPLES);
+    for (parties, parts, told) in EXAMPLES.into_iter().chain(later) {
         let text = examples::text(parts);
         let found = read(parties, &text);
         match told {
@@ -140,7 +141,7 @@ fn all_texts(start: &[u8], alphabet: &[u8], longer: usize) -> usize {
 #[test]
 fn short_texts_live_as_in_the_model() {
     let every: Vec<u8> = (0..=255).collect();
-    let few = b"()\n 019abdeilmnopqstu";
+    let few = b"()\n 019abdegilmnopqstuv";
     assert!(all_texts(b"", &every, 6) > 50);
     assert!(all_texts(b"", few, 13) > 5000);
     for start in [
@@ -152,6 +153,9 @@ fn short_texts_live_as_in_the_model() {
         "(mul (add (in 0) (in 0)) ",
         "(in 0)\n(sub (s",
         "(sq (in 0)",
+        "(give (in 0)",
+        "(give (in 0) 1)\n(give (i",
+        "(in 0)\n(give (in 0) 1)\n(give (",
         "(plus (in 0) ",
         "(out (times (in 0) 1",
     ] {
@@ -167,6 +171,7 @@ fn large_numbers_live_as_in_the_model() {
         "(in 42949672",
         "(in 9",
         "(times (in 0) 429496729",
+        "(give (in 0) 429496729",
     ] {
         all_texts(start.as_bytes(), b"0123456789) ", 3);
     }
@@ -181,10 +186,10 @@ fn names_live_as_in_the_model() {
             let mut text = Vec::new();
             for _ in 0..rows {
                 let without = outs > 0 && random.once_in(outs);
-                text.extend(if without {
-                    &b"(out (in 0))\n"[..]
-                } else {
-                    b"(in 0)\n"
+                text.extend(match (without, random.once_in(2)) {
+                    (true, true) => &b"(out (in 0))\n"[..],
+                    (true, false) => b"(give (in 0) 1)\n",
+                    (false, _) => b"(in 0)\n",
                 });
             }
             text.extend(b"(out (line ");
@@ -218,7 +223,7 @@ fn random_sheets_are_read_as_in_the_model() {
             let at = random.below(text.len());
             match random.below(3) {
                 0 => text.truncate(at),
-                1 => text[at] = random.pick(b"() \nadilmopqst0129x"),
+                1 => text[at] = random.pick(b"() \nadgilmopqstv0129x"),
                 _ => drop(text.remove(at)),
             }
         }
@@ -230,7 +235,7 @@ fn random_sheets_are_read_as_in_the_model() {
 
 #[test]
 fn the_kept_requests_are_read_as_in_the_model() {
-    let kept = [SheetSet::Kept, SheetSet::Square].map(|set| set.make(1));
+    let kept = [SheetSet::Kept, SheetSet::Square, SheetSet::Give].map(|set| set.make(1));
     for request in kept.into_iter().flatten() {
         if let SheetRequest::Read { parties, text, .. } = request {
             // The model is slow, and a text that breaks at once is as good shorter.
@@ -255,7 +260,7 @@ fn what_is_written_reads_back() {
         } else {
             random.between(2, 30)
         };
-        let circuit = random::circuit(random, Kinds::Squares, parties, lines);
+        let circuit = random::circuit(random, Kinds::Gives, parties, lines);
         let mut text = vec![b'x'; 30 * lines];
         let len = write_sheet(parties, &circuit, &mut text).unwrap();
         assert!(text[len..].iter().all(|&byte| byte == b'x'));
