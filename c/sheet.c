@@ -151,11 +151,21 @@ static void reader_refuses(void)
         {"(sq (in 0) (in 0))\n", SHAPE, 10},
         {"(sx", SHAPE, 2},
         {"(sq", SHAPE, 3},
+        {"(gx", SHAPE, 2},
+        {"(giv", SHAPE, 4},
+        {"(give (in 0))\n", SHAPE, 12},
+        {"(give (give (in 0) 1) 1)\n", SHAPE, 7},
+        {"(in 0)\n(give (line 0) 4294967296)\n", SHAPE, 31},
+        {"(in 0)\n(give (in 0) 1)\n(out (line 1))\n", SHAPE, 34},
+        {"(give (in 0) 2)\n", 5, 1},
+        {"(give (in 0) 1)\n(in 0)\n", 7, 0},
         {"(in 4294967296)\n", SHAPE, 13},
         {"(plus (plus (plus (plus (plus (plus (plus (plus (plus (plus (plus (plus (plus (plus (plus (plus (", DEEP, 96},
     };
     for (size_t i = 0; i < LENGTH(cases); i++)
         refused_first("read_sheet", read_sheet, lent_text(cases[i].text), cases[i].number, cases[i].index);
+
+    accepted("read_sheet", read_sheet, lent_text("(in 0)\n(give (line 0) 1)\n"), SPDZ_READ, 2);
 
     struct lent x = lent_text("(in 0)\n(out (line 0))\n");
     accepted("read_sheet", read_sheet, x, SPDZ_READ, 2);
@@ -183,17 +193,23 @@ static struct lent lent_circuit(const uint32_t circuit[8])
 static void writer_refuses(void)
 {
     static const struct { uint32_t circuit[8], number; size_t index; } cases[] = {
-        {{1, 0, 0, 0, 9, 0, 0, 0}, 4, 1},
+        {{1, 0, 0, 0, 10, 0, 0, 0}, 4, 1},
         {{1, 2, 0, 0, 7, 0, 0, 0}, 5, 0},
         {{1, 0, 0, 0, 7, 1, 0, 0}, 5, 1},
         {{1, 0, 0, 0, 8, 1, 0, 0}, 5, 1},
+        {{1, 0, 0, 0, 9, 0, 2, 0}, 5, 1},
+        {{1, 0, 0, 0, 9, 1, 1, 0}, 5, 1},
         {{1, 0, 0, 1, 7, 0, 0, 0}, 6, 0},
         {{1, 0, 0, 0, 8, 0, 1, 0}, 6, 1},
+        {{1, 0, 0, 0, 9, 0, 1, 1}, 6, 1},
         {{1, 0, 0, 0, 1, 1, 0, 0}, 7, 0},
         {{1, 0, 0, 0, 8, 0, 0, 0}, 7, 0},
     };
     for (size_t i = 0; i < LENGTH(cases); i++)
         refused_first("write_sheet", write_sheet, lent_circuit(cases[i].circuit), cases[i].number, cases[i].index);
+
+    static const uint32_t give[8] = {1, 0, 0, 0, 9, 0, 1, 0};
+    accepted("write_sheet", write_sheet, lent_circuit(give), SPDZ_WRITTEN, 25);
 
     static const uint32_t two[8] = {1, 0, 0, 0, 7, 0, 0, 0};
     struct lent x = lent_circuit(two);
@@ -214,6 +230,7 @@ static void writer_refuses(void)
 int main(int count, char **arguments)
 {
     static const char squares[] = "(in 0)\n(out (sub (sq (line 0)) (sq (sq (in 1)))))\n";
+    static const char gives[] = "(in 0)\n(give (mul (line 0) (in 4)) 3)\n(out (line 0))\n(give (line 0) 4)\n";
     static uint8_t text[SPDZ_MOST_BYTES];
     if (count != 2) {
         fprintf(stderr, "usage: sheet FILE\n");
@@ -228,6 +245,7 @@ int main(int count, char **arguments)
     fclose(file);
     there_and_back(text, len);
     there_and_back((const uint8_t *)squares, strlen(squares));
+    there_and_back((const uint8_t *)gives, strlen(gives));
     reader_refuses();
     writer_refuses();
     return faults != 0;

@@ -36,6 +36,8 @@ struct spdz_refusal {
  *   a sheet is read as a circuit             SPDZ_READ         gates   0      0      0      0
  *   a circuit is written as a sheet          SPDZ_WRITTEN      bytes   0      0      0      0
  *
+ * At an out gate (kind 7) every party is told the output; at a give gate (kind 9) its receiver alone, and every other party gets the next position.
+ *
  * Where a run is aborted, `party` is one more than the number of the lowest party whose revealed words do not hash to its mark, and 0 where all do and the
  * check shares do not sum to zero. In a joint run every mark is made of the very words that are revealed, so that it is always 0 there.
  */
@@ -56,7 +58,7 @@ enum { SPDZ_SEND = 0, SPDZ_RECEIVE = 1, SPDZ_FINISHED = 2, SPDZ_ABORTED = 3 };
 enum {
     SPDZ_NO_ROUND = 0,
     SPDZ_OWN = 0,           /* an in, a mul or an sq gate's own */
-    SPDZ_OPEN = 1,          /* an output's opening */
+    SPDZ_OPEN = 1,          /* an output's opening: of an out or a give gate */
     SPDZ_COMMIT_FIRST = 2,  /* the check of what is opened and unchecked before an output */
     SPDZ_REVEAL_FIRST = 3,
     SPDZ_COMMIT_SECOND = 4, /* the check of the output's opening */
@@ -98,7 +100,7 @@ struct spdz_refusal spdz_receive(size_t parties, size_t me,
                                  uint64_t *answer, size_t answer_len);
 
 /* All parties in one run: preprocessing, inputs and scratch are joined in party order, coefficients in order of use; nonces in the order of the checks,
- * the parties in order within each. */
+ * the parties in order within each. `outputs` has a place for each out and each give gate, in the order of the gates. */
 struct spdz_refusal spdz_joint_run(size_t parties,
                                    const uint32_t *circuit, size_t circuit_len,
                                    const uint32_t *preps, size_t preps_len,
@@ -110,7 +112,7 @@ struct spdz_refusal spdz_joint_run(size_t parties,
                                    uint32_t *outputs, size_t outputs_len,
                                    uint64_t *answer, size_t answer_len);
 
-/* A circuit as text, a sheet: bracketed forms, one on each line. The numbers that refuse a text are 22 (it breaks the shape), 23 (a bracket opens depth
+/* A circuit as text, a sheet: bracketed forms, one on each line; (out F) and (give F S) stand outermost only. The numbers that refuse a text are 22 (it breaks the shape), 23 (a bracket opens depth
  * 17) and 24 (a bracket closes gate 257), each with the index of the byte; then come 3 to 7 of the circuit that is read, and 18.
  *
  * Reading a sheet: the gates' numbers go to the start of `circuit`, four for each gate. SPDZ_MOST_NUMBERS are enough for any sheet. */
