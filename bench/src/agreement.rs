@@ -1,7 +1,7 @@
 //! The entries written for speed against the readable ones, on many requests: sets of test vectors, requests of which most are
 //! damaged in one place or in several, and the longest runs.
 
-use reference::circuit::{self, ADD, IN, MAX_GATES, MUL, OUT, PLUS, SQ, SUB, TIMES};
+use reference::circuit::{self, ADD, GIVE, IN, MAX_GATES, MUL, OUT, PLUS, SQ, SUB, TIMES};
 use reference::prep;
 use reference::random::{from_kinds, Random};
 use reference::requests::{blank_joint, generate, Answer, Answered, Request, Set, Size};
@@ -86,11 +86,11 @@ const FULL: usize = 800;
 fn longest(seed: u64) -> impl Iterator<Item = Answered> {
     let random = &mut Random::new(seed);
     let mut runs = Vec::new();
-    for kind in [IN, ADD, SUB, PLUS, TIMES, MUL, OUT, SQ] {
+    for kind in [IN, ADD, SUB, PLUS, TIMES, MUL, OUT, SQ, GIVE] {
         for parties in [2, 3, 8] {
             let mut kinds = [kind; MAX_GATES];
             kinds[0] = IN;
-            kinds[MAX_GATES - 1] = OUT;
+            kinds[MAX_GATES - 1] = if parties == 3 { GIVE } else { OUT };
             let circuit = from_kinds(random, parties, &kinds);
             let shape = circuit::shape(parties, &circuit).expect("an accepted circuit");
             let key = random.element();
@@ -113,8 +113,10 @@ pub fn compare() -> usize {
             Set::Small,
             Set::Square,
             Set::Mark,
+            Set::Give,
             Set::SquaresLarge,
             Set::MarksLarge,
+            Set::GivesLarge,
         ];
         let sets = sets.into_iter().flat_map(|set| set.make(seed));
         let short = generate(seed, SMALL, Size::SMALL);

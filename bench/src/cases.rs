@@ -1,6 +1,6 @@
 //! What is timed: circuits with their lists, and single rounds of them.
 
-use reference::circuit::{self, Shape, ADD, IN, MUL, OUT, PLUS, SQ, SUB, TIMES};
+use reference::circuit::{self, Shape, ADD, GIVE, IN, MUL, OUT, PLUS, SQ, SUB, TIMES};
 use reference::commitment::NONCE_BYTES;
 use reference::random::{from_kinds, Random};
 use reference::{prep, Party, Position, Received, Round, Stage};
@@ -29,6 +29,16 @@ fn kinds(gates: usize, kind: u32) -> Vec<u32> {
         _ => row[gate % 8],
     };
     (0..gates).map(kind).collect()
+}
+
+/// A circuit of in gates, of products and sums, and of gives after every three of these.
+fn many_outputs(random: &mut Random, parties: u32, gates: usize) -> Vec<u32> {
+    let kind = |gate: usize| match gate {
+        0..4 => IN,
+        _ => [MUL, ADD, MUL, GIVE][gate % 4],
+    };
+    let kinds: Vec<u32> = (0..gates).map(kind).collect();
+    from_kinds(random, parties, &kinds)
 }
 
 impl Run {
@@ -61,6 +71,37 @@ impl Run {
             line.copy_from_slice(&[MUL, line[1], line[1], 0]);
         }
         Run::of(random, parties, circuit)
+    }
+
+    /// A circuit in which every fourth gate is an output, by give gates.
+    pub fn gives(parties: u32, gates: usize) -> Run {
+        let random = &mut generator(parties, gates);
+        let circuit = many_outputs(random, parties, gates);
+        Run::of(random, parties, circuit)
+    }
+
+    /// The same circuit by out gates.
+    pub fn gives_by_outputs(parties: u32, gates: usize) -> Run {
+        let random = &mut generator(parties, gates);
+        let mut circuit = many_outputs(random, parties, gates);
+        for line in circuit.chunks_exact_mut(4).filter(|line| line[0] == GIVE) {
+            line.copy_from_slice(&[OUT, line[1], 0, 0]);
+        }
+        Run::of(random, parties, circuit)
+    }
+
+    /// A product that is given to one party, whose opening and checks are then the last ones.
+    pub fn give_to(parties: u32, receiver: u32) -> Run {
+        let random = &mut generator(parties, receiver as usize);
+        let circuit = [
+            [IN, 0, 0, 0],
+            [MUL, 0, 0, 0],
+            [GIVE, 1, receiver, 0],
+            [PLUS, 1, 0, 7],
+            [MUL, 3, 0, 0],
+            [GIVE, 4, receiver, 0],
+        ];
+        Run::of(random, parties, circuit.concat())
     }
 
     fn of(random: &mut Random, parties: u32, circuit: Vec<u32>) -> Run {
@@ -219,11 +260,15 @@ impl Sheet {
 
     /// A row for each gate of a circuit, as the writer makes it.
     pub fn plain(parties: u32, gates: usize) -> Sheet {
-        let run = Run::new(parties, gates);
-        let mut text = vec![0; LONGEST_ROW * gates];
-        let len = reference::write_sheet(parties, &run.circuit, &mut text).expect("accepted");
+        Sheet::of(&Run::new(parties, gates))
+    }
+
+    /// The same of a run's circuit.
+    pub fn of(run: &Run) -> Sheet {
+        let mut text = vec![0; LONGEST_ROW * run.shape.gates];
+        let len = reference::write_sheet(run.parties, &run.circuit, &mut text).expect("accepted");
         text.truncate(len);
-        Sheet::new("a gate a line", parties, text)
+        Sheet::new("a gate a line", run.parties, text)
     }
 
     /// Rows of eleven gates, nested to depth 4, and an output of the first and the last.

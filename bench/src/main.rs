@@ -19,7 +19,7 @@ use reference::{field, Round, P};
 
 use cases::{Halves, Lists, Run, Sheet, LONGEST_ROW};
 use measure::{compare, Sides};
-use report::{Facts, JointRow, Report, SheetRow, SingleRow, SquareRow};
+use report::{Facts, JointRow, KindRow, Report, SheetRow, SingleRow};
 
 const PARTIES: [u32; 3] = [2, 5, 8];
 const GATES: [usize; 4] = [64, 128, 192, 256];
@@ -35,7 +35,8 @@ const SINGLE_ROUNDS: [Round; 5] = [
 ];
 /// The check of one opened entry, in a circuit of two gates.
 const CHECK_ROUNDS: [Round; 2] = [Round::CommitOutput, Round::RevealOutput];
-const SQUARE_GATES: usize = 256;
+/// Gates of the circuits that are timed by gates of two kinds.
+const KIND_GATES: usize = 256;
 const PRODUCTS: usize = 4096;
 const SHEET_PARTIES: u32 = 5;
 const SHEET_GATES: usize = 256;
@@ -82,10 +83,27 @@ fn tuned_joint(run: &Run, lists: &mut Lists) -> answers::Answer {
     ))
 }
 
-/// Whether the proved entries know squares. If not, question 4 refuses the circuit.
-fn knows_squares() -> bool {
-    let run = Run::squares(2, 64);
-    proved_joint(&run, &mut run.lists())[..2] != answers::refused(4, 0)[..2]
+/// Whether the proved entries know a circuit's kinds. If not, question 4 refuses it.
+fn knows(run: &Run) -> bool {
+    proved_joint(run, &mut run.lists())[..2] != answers::refused(4, 0)[..2]
+}
+
+/// Both halves of the last round of each sort in a run that ends with a give, at its receiver and at another party, and sheets with
+/// gives: all sides must agree. They are not timed.
+fn gives_agree() {
+    for receiver in [SINGLE_PARTY, SINGLE_PARTY + 1] {
+        let run = Run::give_to(SINGLE_PARTIES, receiver);
+        for halves in cases::last_rounds(&run, SINGLE_PARTY) {
+            send(&run, &halves);
+            receive(&run, &halves);
+        }
+        joint(&run);
+    }
+    for parties in PARTIES {
+        let sheet = Sheet::of(&Run::gives(parties, 64));
+        reading(&sheet);
+        writing(&sheet);
+    }
 }
 
 /// A joint run, on which all must agree.
@@ -381,16 +399,30 @@ fn measured(repetitions: usize) -> Report {
     };
     let squares: Vec<(&str, Run)> = PARTIES
         .into_iter()
-        .filter(|_| knows_squares())
+        .filter(|_| knows(&Run::squares(2, 64)))
         .flat_map(|parties| {
             [
-                ("sq", Run::squares(parties, SQUARE_GATES)),
-                ("mul", Run::squares_by_products(parties, SQUARE_GATES)),
+                ("sq", Run::squares(parties, KIND_GATES)),
+                ("mul", Run::squares_by_products(parties, KIND_GATES)),
             ]
         })
         .collect();
+    let gives: Vec<(&str, Run)> = PARTIES
+        .into_iter()
+        .filter(|_| knows(&Run::give_to(2, 0)))
+        .flat_map(|parties| {
+            [
+                ("give", Run::gives(parties, KIND_GATES)),
+                ("out", Run::gives_by_outputs(parties, KIND_GATES)),
+            ]
+        })
+        .collect();
+    if !gives.is_empty() {
+        gives_agree();
+    }
     let mut sides: Vec<Sides<'_>> = runs.iter().map(joint).collect();
     sides.extend(squares.iter().map(|(_, run)| joint(run)));
+    sides.extend(gives.iter().map(|(_, run)| joint(run)));
     for (run, halves) in singles() {
         sides.push(send(run, halves));
         sides.push(receive(run, halves));
@@ -406,7 +438,11 @@ fn measured(repetitions: usize) -> Report {
         joint: runs.iter().map(|run| JointRow::new(run, next())).collect(),
         squares: squares
             .iter()
-            .map(|(by, run)| SquareRow::new(by, run, next()))
+            .map(|(by, run)| KindRow::squares(by, run, next()))
+            .collect(),
+        gives: gives
+            .iter()
+            .map(|(by, run)| KindRow::gives(by, run, next()))
             .collect(),
         single: singles()
             .map(|(run, halves)| SingleRow {
@@ -437,6 +473,7 @@ fn main() {
         ["--smoke"] => {
             let report = measured(1);
             assert!(!report.squares.is_empty(), "question 4 admits kind 8");
+            assert!(!report.gives.is_empty(), "question 4 admits kind 9");
             let requests = agreement::compare();
             println!("bench: equal answers and lists on every case, and tuned on {requests} requests more");
         }

@@ -42,12 +42,15 @@ impl JointRow {
     }
 }
 
-/// A circuit of squares, by gates of one kind.
-pub struct SquareRow {
+/// Nanoseconds of a microsecond.
+const MICRO: f64 = 1000.0;
+
+/// A circuit of squares or of many outputs, by gates of one kind.
+pub struct KindRow {
     parties: u32,
     by: &'static str,
-    /// How many gates square.
-    squares: usize,
+    /// How many gates square, or are outputs.
+    count: usize,
     rounds: usize,
     /// Words and numbers of preprocessing of one party.
     words: usize,
@@ -55,12 +58,20 @@ pub struct SquareRow {
     times: Times,
 }
 
-impl SquareRow {
-    pub fn new(by: &'static str, run: &Run, times: Times) -> SquareRow {
-        SquareRow {
+impl KindRow {
+    pub fn squares(by: &'static str, run: &Run, times: Times) -> KindRow {
+        KindRow::new(by, run, run.shape.squares + run.shape.products, times)
+    }
+
+    pub fn gives(by: &'static str, run: &Run, times: Times) -> KindRow {
+        KindRow::new(by, run, run.shape.outputs, times)
+    }
+
+    fn new(by: &'static str, run: &Run, count: usize, times: Times) -> KindRow {
+        KindRow {
             parties: run.parties,
             by,
-            squares: run.shape.squares + run.shape.products,
+            count,
             rounds: plain::rounds(&run.circuit),
             words: run.shape.words(),
             prep: run.shape.prep_len(),
@@ -88,7 +99,8 @@ pub struct SheetRow {
 pub struct Report {
     pub joint: Vec<JointRow>,
     /// None where the proved entries do not know squares.
-    pub squares: Vec<SquareRow>,
+    pub squares: Vec<KindRow>,
+    pub gives: Vec<KindRow>,
     pub single: Vec<SingleRow>,
     pub sheets: Vec<SheetRow>,
     pub product: Times,
@@ -129,6 +141,31 @@ fn heads(unit: &str) -> String {
     format!("proved {unit} | Rust {unit} | tuned {unit} | proved / Rust | proved / tuned")
 }
 
+/// A table of the same circuits by gates of two kinds.
+fn by_kinds(out: &mut String, title: &str, what: &str, rows: &[KindRow]) {
+    if rows.is_empty() {
+        return;
+    }
+    let _ = writeln!(out, "### {title}\n");
+    let _ = writeln!(out, "| parties | gates | {what} | by | rounds | words of a party | preprocessing of a party | {} |", heads("µs"));
+    let _ = writeln!(out, "{}", rule(12));
+    for row in rows {
+        let _ = writeln!(
+            out,
+            "| {} | {} | {} | {} | {} | {} | {} | {} |",
+            row.parties,
+            crate::KIND_GATES,
+            row.count,
+            row.by,
+            row.rounds,
+            row.words,
+            row.prep,
+            cells(row.times, MICRO, 2)
+        );
+    }
+    let _ = writeln!(out);
+}
+
 /// The line below the heads of so many columns.
 fn rule(columns: usize) -> String {
     "|---".repeat(columns) + "|"
@@ -143,7 +180,6 @@ fn span(numbers: impl Iterator<Item = f64>) -> (f64, f64) {
 
 impl Report {
     pub fn table(&self) -> String {
-        const MICRO: f64 = 1000.0;
         let mut text = String::new();
         let out = &mut text;
         let _ = writeln!(out, "### Joint run\n");
@@ -162,28 +198,18 @@ impl Report {
             );
         }
         let _ = writeln!(out, "\n{}\n", self.linear());
-        if !self.squares.is_empty() {
-            let _ = writeln!(out, "### Joint run of a circuit of squares, by sq gates and by mul gates of a wire with itself\n");
-            let _ = writeln!(out, "| parties | gates | squares | by | rounds | words of a party | preprocessing of a party | {} |", heads("µs"));
-            let _ = writeln!(out, "{}", rule(12));
-        }
-        for row in &self.squares {
-            let _ = writeln!(
-                out,
-                "| {} | {} | {} | {} | {} | {} | {} | {} |",
-                row.parties,
-                crate::SQUARE_GATES,
-                row.squares,
-                row.by,
-                row.rounds,
-                row.words,
-                row.prep,
-                cells(row.times, MICRO, 2)
-            );
-        }
-        if !self.squares.is_empty() {
-            let _ = writeln!(out);
-        }
+        by_kinds(
+            out,
+            "Joint run of a circuit of squares, by sq gates and by mul gates of a wire with itself",
+            "squares",
+            &self.squares,
+        );
+        by_kinds(
+            out,
+            "Joint run of a circuit of many outputs, by give gates and by out gates",
+            "outputs",
+            &self.gives,
+        );
         let _ = writeln!(out, "### One send, one receive, with all questions\n");
         let _ = writeln!(
             out,
@@ -272,7 +298,7 @@ impl Report {
              ## What is measured\n\n\
              All sides get the same requests and their own lists of equal length, cleared alike; before a case is timed, all must give equal answers and leave equal\n\
              lists. Batches of at least half a millisecond are timed in turns, all cases one after another and {} times over, and the medians are told. Five of eight gates of each circuit multiply; the\n\
-             others are linear, in and out gates, with an out gate every 32 gates. A circuit of squares is of the same shape, with squares for its products. Single halves are those of the last round of each sort, at party 1 of 5.\n\
+             others are linear, in and out gates, with an out gate every 32 gates. A circuit of squares is of the same shape, with squares for its products; a circuit of many outputs has one for every fourth gate, after two products and a sum, by give gates to parties at random or by out gates. Single halves are those of the last round of each sort, at party 1 of 5.\n\
              A check takes a hash for each party in a joint run; a seal that is sent takes one, and a reveal that is received one for each of the 5 parties. The circuit of 2 gates is an input that is given out: its check has one entry, so that a seal sent there is little more than one hash.\n\
              Sheets are for 5 parties; each is read, and the circuit that it is read as is written, a gate a line.\n\
              A field product is one of {} that multiply a list in place, once all its numbers are asked.\n\n\

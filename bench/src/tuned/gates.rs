@@ -1,6 +1,6 @@
 //! Questions 3 to 7 of whole blocks of gates, and what is counted of an accepted circuit.
 
-use reference::circuit::{ADD, IN, MAX_GATES, MUL, OUT, PLUS, SQ, SUB, TIMES};
+use reference::circuit::{ADD, GIVE, IN, MAX_GATES, MUL, OUT, PLUS, SQ, SUB, TIMES};
 use reference::{Refusal, P};
 
 use super::field::ask;
@@ -13,6 +13,7 @@ pub const TIMES8: u8 = TIMES as u8;
 pub const MUL8: u8 = MUL as u8;
 pub const OUT8: u8 = OUT as u8;
 pub const SQ8: u8 = SQ as u8;
+pub const GIVE8: u8 = GIVE as u8;
 
 /// One field of each gate, as a byte: an index of a list of 256 that needs no question.
 type Plane = [u8; MAX_GATES];
@@ -23,7 +24,7 @@ pub struct Gates {
     kinds: Plane,
     /// The first named wires; 0 for in gates.
     firsts: Plane,
-    /// The second named wires; 0 for gates that name one.
+    /// The second named wires; 0 for gates that name one, and for a give gate, whose second is a party.
     seconds: Plane,
     /// The owners of in gates; 255 for others and after the last gate.
     owners: Plane,
@@ -86,13 +87,15 @@ pub struct Counts {
     pub inputs: usize,
     pub products: usize,
     pub squares: usize,
+    /// Out and give gates.
     pub outputs: usize,
+    pub gives: usize,
 }
 
 impl Counts {
     /// Numbers of the key share and of all records.
     pub fn prep_len(self) -> usize {
-        1 + 3 * self.inputs + 6 * self.products + 4 * self.squares
+        1 + 3 * (self.inputs + self.gives) + 6 * self.products + 4 * self.squares
     }
 
     /// Entries that the gates open in their own rounds.
@@ -104,19 +107,27 @@ impl Counts {
 /// Counts kinds, at most 255 of each.
 #[inline]
 fn count(kinds: impl Iterator<Item = u8>) -> Counts {
-    let (mut inputs, mut products, mut squares, mut outputs) = (0u8, 0u8, 0u8, 0u8);
+    let (mut inputs, mut products, mut squares) = (0u8, 0u8, 0u8);
+    let (mut outs, mut gives) = (0u8, 0u8);
     for kind in kinds {
         inputs = inputs.wrapping_add(u8::from(kind == IN8));
         products = products.wrapping_add(u8::from(kind == MUL8));
         squares = squares.wrapping_add(u8::from(kind == SQ8));
-        outputs = outputs.wrapping_add(u8::from(kind == OUT8));
+        outs = outs.wrapping_add(u8::from(kind == OUT8));
+        gives = gives.wrapping_add(u8::from(kind == GIVE8));
     }
     Counts {
         inputs: inputs.into(),
         products: products.into(),
         squares: squares.into(),
-        outputs: outputs.into(),
+        outputs: usize::from(outs) + usize::from(gives),
+        gives: gives.into(),
     }
+}
+
+/// Ones where the gate is an out or a give gate.
+fn is_output(kind: u8) -> u8 {
+    mask(kind == OUT8) | mask(kind == GIVE8)
 }
 
 impl Gates {
@@ -142,7 +153,7 @@ impl Gates {
         let yes = narrow
             && self.fields_fit(parties as u8)
             && self.values_named()
-            && lines[self.len - 1][0] == OUT;
+            && is_output(self.kinds[self.len - 1]) != 0;
         if yes {
             Ok(())
         } else {
@@ -172,31 +183,34 @@ impl Gates {
         }
     }
 
-    /// Whether kinds, names and unused fields are right, that no out gate is named aside.
+    /// Whether kinds, names and unused fields are right, that no out or give gate is named aside.
     fn fields_fit(&mut self, parties: u8) -> bool {
         let mut bad = 0;
-        let fields = self.kinds.iter().zip(&mut self.firsts).zip(&self.seconds);
+        let fields = self.kinds.iter().zip(&mut self.firsts);
+        let fields = fields.zip(&mut self.seconds);
         let fields = fields.zip(&mut self.owners).zip(&self.constants);
         let fields = fields.zip(&INDICES).take(self.len);
-        for (((((&kind, first), &second), owner), &constant), &index) in fields {
+        for (((((&kind, first), second), owner), &constant), &index) in fields {
             let input = mask(kind == IN8);
+            let give = mask(kind == GIVE8);
             let two = mask(kind & !1 == ADD8) | mask(kind == MUL8);
             let has_constant = mask(kind & !1 == PLUS8);
             let first_end = (parties & input) | (index & !input);
-            let second_end = (index & two) | (1 & !two);
-            bad |= (kind.wrapping_sub(1) & !7)
+            let second_end = (index & two) | (parties & give) | (1 & !(two | give));
+            bad |= mask(kind.wrapping_sub(1) >= GIVE8)
                 | mask(*first >= first_end)
-                | mask(second >= second_end)
+                | mask(*second >= second_end)
                 | (constant & !has_constant);
             *owner = *first | !input;
             *first &= !input;
+            *second &= !give;
         }
         bad == 0
     }
 
-    /// Whether no gate names an out gate.
+    /// Whether no gate names an out or a give gate.
     fn values_named(&self) -> bool {
-        let out = self.kinds.map(|kind| mask(kind == OUT8));
+        let out = self.kinds.map(is_output);
         let blocks = |plane| <[u8]>::as_chunks::<BLOCK>(plane).0.iter();
         let firsts = blocks(&self.firsts[..self.padded()]);
         let seconds = blocks(&self.seconds[..self.padded()]);
@@ -254,19 +268,19 @@ impl Gates {
         owners.filter(|&&owner| owner == party).count()
     }
 
-    /// How many out gates have something opened and unchecked before them.
+    /// How many out and give gates have something opened and unchecked before them.
     pub fn checked_outputs(&self) -> usize {
         let (mut checked, mut unchecked) = (0, 0);
         let opens = |kind: u8| mask(kind == MUL8) | mask(kind == SQ8);
         for kinds in &self.kinds.as_chunks::<BLOCK>().0[..self.padded() / BLOCK] {
             // Most blocks have no out gate.
-            let outputs = kinds.iter().fold(0, |any, &kind| any | mask(kind == OUT8));
+            let outputs = kinds.iter().fold(0, |any, &kind| any | is_output(kind));
             if outputs == 0 {
                 unchecked |= kinds.iter().fold(0, |any, &kind| any | opens(kind)) & 1;
                 continue;
             }
             for &kind in kinds {
-                if kind == OUT8 {
+                if is_output(kind) != 0 {
                     checked += usize::from(unchecked);
                     unchecked = 0;
                 } else {
@@ -281,7 +295,7 @@ impl Gates {
     pub fn pending(&self, index: usize) -> usize {
         let kinds = self.kinds[..index].iter().rev();
         kinds
-            .take_while(|&&kind| kind != OUT8)
+            .take_while(|&&kind| is_output(kind) == 0)
             .map(|&kind| usize::from(kind == MUL8) * 2 + usize::from(kind == SQ8))
             .sum()
     }
@@ -292,21 +306,22 @@ impl Gates {
 fn first_no(parties: u32, lines: &[[u32; 4]]) -> Refusal {
     for (index, &[kind, first, second, constant]) in lines.iter().enumerate() {
         let no = |number| Refusal { number, index };
-        let is_wire = |name: u32| (name as usize) < index && lines[name as usize][0] != OUT;
+        let is_wire =
+            |name: u32| (name as usize) < index && ![OUT, GIVE].contains(&lines[name as usize][0]);
         let two = [ADD, SUB, MUL].contains(&kind);
-        if !(IN..=SQ).contains(&kind) {
+        if !(IN..=GIVE).contains(&kind) {
             return no(4);
         }
-        let named = if kind == IN {
-            first < parties
-        } else {
-            is_wire(first) && (!two || is_wire(second))
+        let named = match kind {
+            IN => first < parties,
+            GIVE => is_wire(first) && second < parties,
+            _ => is_wire(first) && (!two || is_wire(second)),
         };
         if !named {
             return no(5);
         }
         let end = if [PLUS, TIMES].contains(&kind) { P } else { 1 };
-        if constant >= end || (!two && second != 0) {
+        if constant >= end || (!two && kind != GIVE && second != 0) {
             return no(6);
         }
     }

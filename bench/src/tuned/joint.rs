@@ -8,7 +8,7 @@ use reference::{Ending, JointResult, Refusal, P};
 use super::field::{
     add, ask, ask_elements, fold, inner_product, product, quad, reduce, remainder, sub, times, Quad,
 };
-use super::gates::{Gates, ADD8, IN8, MUL8, PLUS8, SQ8, SUB8, TIMES8};
+use super::gates::{Gates, ADD8, GIVE8, IN8, MUL8, PLUS8, SQ8, SUB8, TIMES8};
 use super::sha256::{self, Schedule, MARK, NONCE, REVEALED};
 
 /// Opened entries that are held on the stack, as a power of 2.
@@ -390,7 +390,17 @@ impl Run<'_> {
                     at += (1 + CHECK) * N;
                     used += N;
                     held = held.max(1);
-                    let shown_row: [[u32; 2]; N] = from_fn(|i| pair(&wires[left], i));
+                    // A give gate opens the wire less its mask, which its receiver knows.
+                    let (mut opened_row, mut whole_mask) = (wires[left], 0);
+                    if kind == GIVE8 {
+                        for q in 0..Q {
+                            let (l, a) = (wires[left][q], part(&lists[q], from));
+                            opened_row[q] = quad(|k| sub(l[k], a[k]));
+                        }
+                        whole_mask = prep(lines[index][2] as usize)[from + 2];
+                        at_record += 3;
+                    }
+                    let shown_row: [[u32; 2]; N] = from_fn(|i| pair(&opened_row, i));
                     let mut sum = 0;
                     for i in 0..N {
                         shown[i] = shown_row[i][0];
@@ -408,9 +418,9 @@ impl Run<'_> {
                         done = index;
                         break;
                     }
-                    outputs[released] = sum;
+                    outputs[released] = add(sum, whole_mask);
                     released += 1;
-                    // An out gate's slots stay as they are.
+                    // An out or a give gate's slots stay as they are.
                     for i in 0..N {
                         let slots = i * band + index;
                         row[2 * i] = scratch[slots];

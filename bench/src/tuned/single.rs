@@ -6,7 +6,7 @@ use reference::{Party, Position, Received, Refusal, Sort, Stage, P};
 use super::field::{
     add, all_elements, ask, ask_elements, inner_product, product, reduce, remainder, sub, times,
 };
-use super::gates::{Gates, ADD8, IN8, MUL8, OUT8, PLUS8, SQ8, SUB8, TIMES8};
+use super::gates::{Gates, ADD8, GIVE8, IN8, MUL8, OUT8, PLUS8, SQ8, SUB8, TIMES8};
 use super::sha256::{self, Schedule, MARK, NONCE, REVEALED};
 
 /// An accepted step.
@@ -72,10 +72,11 @@ fn can_occur(kind: u8, is_last: bool, pending: usize, position: Position) -> boo
                 Stage::Receive(_) => matches!(sort, Sort::CommitOpened | Sort::CommitOutput),
                 _ => matches!(sort, Sort::RevealOpened | Sort::RevealOutput),
             };
-            (kind == OUT8 && (!first_check || pending > 0), holds)
+            let output = [OUT8, GIVE8].contains(&kind);
+            (output && (!first_check || pending > 0), holds)
         }
         Stage::Finished => (is_last, false),
-        Stage::Aborted => (kind == OUT8, false),
+        Stage::Aborted => ([OUT8, GIVE8].contains(&kind), false),
     };
     exists && (position.held == 0 || (holds && position.held < P))
 }
@@ -152,12 +153,13 @@ fn ask_scratch(step: &Step<'_>, scratch: &[u32]) -> Result<(), Refusal> {
     }
 }
 
-/// The first number asked by question 15 that is no element; those of out gates are not asked.
+/// The first number asked by question 15 that is no element; those of out and give gates are not asked.
 #[cold]
 fn first_no(step: &Step<'_>, scratch: &[u32], lists: [(usize, usize); 4]) -> Result<(), Refusal> {
     for (first, len) in lists {
         for (place, &number) in scratch[first..][..len].iter().enumerate() {
-            let asked = first >= step.opened || step.gates.gate(place).0 != OUT8;
+            let kind = || step.gates.gate(place).0;
+            let asked = first >= step.opened || ![OUT8, GIVE8].contains(&kind());
             if number >= P && asked {
                 let index = first + place;
                 return Err(Refusal { number: 15, index });
@@ -209,6 +211,7 @@ pub fn send(
             out[1] = sub(scratch[step.right], record[2]);
         }
         (Sort::Own, _) => out[0] = sub(scratch[step.left], record[0]),
+        (Sort::OpenOutput, GIVE8) => out[0] = sub(scratch[step.left], record[0]),
         (Sort::OpenOutput, _) => out[0] = scratch[step.left],
         (Sort::CommitOpened | Sort::CommitOutput, _) => {
             let opened = &scratch[step.opened..][..wanted];
@@ -320,8 +323,9 @@ pub fn receive(
             Received::Moved(next_gate(lent, &step, scratch, entry + 1))
         }
         (Sort::OpenOutput, _) => {
+            let mask_mac = if step.kind == GIVE8 { record[1] } else { 0 };
             scratch[opened] = sum(heard.iter());
-            scratch[opened_macs] = scratch[macs + left];
+            scratch[opened_macs] = sub(scratch[macs + left], mask_mac);
             same_gate(Sort::CommitOutput, 0)
         }
         (Sort::CommitOpened, _) => {
@@ -341,9 +345,16 @@ pub fn receive(
             party: failing.flatten(),
         },
         (Sort::RevealOpened, _) => same_gate(Sort::OpenOutput, 0),
-        (Sort::RevealOutput, _) => {
-            let output = scratch[opened];
+        (Sort::RevealOutput, kind) => {
+            let shown = scratch[opened];
             let position = next_gate(lent, &step, scratch, 0);
+            let output = match kind {
+                GIVE8 if lent.circuit[4 * index + 2] != lent.party => {
+                    return Ok(Received::Moved(position));
+                }
+                GIVE8 => add(shown, record[2]),
+                _ => shown,
+            };
             Received::Released { output, position }
         }
     })
@@ -381,8 +392,8 @@ fn next_gate(lent: &Party<'_>, step: &Step<'_>, scratch: &mut [u32], pending: us
                 SUB8 => sub(x, y),
                 PLUS8 => reduce(u64::from(x) + product(public, constant)),
                 TIMES8 => times(x, 2 * constant),
-                OUT8 if pending > 0 => return at(index, Stage::Send(Sort::CommitOpened)),
-                OUT8 => return at(index, Stage::Send(Sort::OpenOutput)),
+                OUT8 | GIVE8 if pending > 0 => return at(index, Stage::Send(Sort::CommitOpened)),
+                OUT8 | GIVE8 => return at(index, Stage::Send(Sort::OpenOutput)),
                 _ => return at(index, Stage::Send(Sort::Own)),
             };
         }

@@ -1,4 +1,4 @@
-//! The parts against the remainder operator and the readable implementation, and all entries on the largest set of requests.
+//! The parts against the remainder operator and the readable implementation, and all entries on the largest sets of requests.
 
 use reference::circuit::{self, MAX_GATES};
 use reference::commitment;
@@ -116,13 +116,14 @@ fn counts_are_those_of_the_readable_implementation() {
     let random = &mut Random::new(3);
     for len in 2..=MAX_GATES {
         let parties = random.between(2, 8) as u32;
-        let circuit = random::circuit(random, Kinds::Squares, parties, len);
+        let circuit = random::circuit(random, Kinds::Gives, parties, len);
         let shape = circuit::shape(parties, &circuit).expect("an accepted circuit");
         let mut gates = Gates::new();
         gates.read(parties, &circuit).expect("an accepted circuit");
         let counts = gates.counts();
         assert_eq!(counts.inputs, shape.inputs);
         assert_eq!(counts.outputs, shape.outputs);
+        assert_eq!(counts.gives, shape.gives);
         assert_eq!(counts.prep_len(), shape.prep_len());
         assert_eq!(counts.entries() + counts.outputs, shape.coefficients());
         assert_eq!(gates.checked_outputs(), shape.checked_outputs);
@@ -145,7 +146,7 @@ fn altered_circuits_are_refused_alike() {
     for _ in 0..40 {
         let parties = random.between(2, 8) as u32;
         let len = random.pick(&[2, 3, 15, 16, 17, 31, 32, 33, 64, 255, 256]);
-        let circuit = random::circuit(random, Kinds::Squares, parties, len);
+        let circuit = random::circuit(random, Kinds::Gives, parties, len);
         for _ in 0..200 {
             let mut altered = circuit.clone();
             let place = random.below(altered.len());
@@ -162,6 +163,7 @@ fn altered_circuits_are_refused_alike() {
                 7,
                 8,
                 9,
+                10,
                 16,
                 255,
                 256,
@@ -188,8 +190,9 @@ fn altered_circuits_are_refused_alike() {
 }
 
 #[test]
-fn the_largest_set_is_answered_alike() {
-    for one in Set::Large.make(1) {
+fn the_largest_sets_are_answered_alike() {
+    let sets = [Set::Large, Set::Give, Set::GivesLarge];
+    for one in sets.into_iter().flat_map(|set| set.make(1)) {
         if let Some(answer) = agreement::tuned_answer(&one.request) {
             assert_eq!(answer, one.answer, "{:?}", one.request);
         }
