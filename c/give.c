@@ -24,7 +24,7 @@ static const uint32_t inputs[] = {5};
 static const uint32_t coefficients[] = {1};
 static const uint8_t nonces[PARTIES * SPDZ_NONCE];
 
-/* The words of each round, its number, and how many each party sends. */
+/* The words of all rounds; the number of each round, and how many words each party sends in it. */
 static const uint32_t transcript[WORDS] = {
     3, 0,
     2147483645, 2147483644,
@@ -69,12 +69,12 @@ static bool by_single_entries(const uint32_t preps[PARTIES][PREP], uint32_t by, 
         if (refused("opening", spdz_open_run(PARTIES, i, circuit, LENGTH(circuit), preps[i], PREP, inputs, i == 0, scratch[i], SCRATCH, answers[i], SPDZ_PLACES), 0))
             return false;
     for (size_t round = 0; round < ROUNDS; round++) {
-        const size_t words = words_of[round], draws = rounds[round] == SPDZ_COMMIT_SECOND, bytes = draws * SPDZ_NONCE;
+        const size_t words = words_of[round], checked = rounds[round] == SPDZ_COMMIT_SECOND, bytes = checked * SPDZ_NONCE;
         for (size_t i = 0; i < PARTIES; i++) {
             uint64_t *at = answers[i];
             expect("a position", (uint64_t[SPDZ_PLACES]){at[0], at[2], at[3], at[4]}, SPDZ_NEXT, round > 0, SPDZ_SEND, rounds[round]);
             if (refused("sending", spdz_send(PARTIES, i, circuit, LENGTH(circuit), preps[i], PREP, inputs, i == 0, scratch[i], SCRATCH, (size_t)at[2],
-                                             (uint32_t)at[3], (uint32_t)at[4], (uint32_t)at[5], coefficients, draws, nonces, bytes, &heard[i * words], words,
+                                             (uint32_t)at[3], (uint32_t)at[4], (uint32_t)at[5], coefficients, checked, nonces, bytes, &heard[i * words], words,
                                              at, SPDZ_PLACES), 0))
                 return false;
         }

@@ -211,7 +211,7 @@ pub fn rich_circuit(random: &mut Random, of: Kinds, parties: u32, lines: usize) 
     rich(random, of, parties, lines, |kind| kind)
 }
 
-/// The same with three out gates, so that a long circuit's run takes few checks.
+/// The same with as few out gates as that, so that a long circuit's run takes few checks.
 pub fn rich_circuit_of_few_checks(
     random: &mut Random,
     of: Kinds,

@@ -186,7 +186,7 @@ fn sort(sort: Sort) -> &'static str {
     }
 }
 
-/// The name that tells an out gate's two checks apart.
+/// The name that tells an output's two checks apart.
 pub fn round(round: Round) -> String {
     match round {
         Round::CommitOutput | Round::RevealOutput => format!("output-{}", round.name()),

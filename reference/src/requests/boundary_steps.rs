@@ -38,7 +38,7 @@ impl At {
     fn unneeded(&self) -> u32 {
         let mut outs = self.scene.gates_of(&[OUT, GIVE]).into_iter();
         let found = outs.find(|&out| self.scene.pending(out) == 0);
-        found.expect("the scene has such an out gate") as u32
+        found.expect("the scene has such a gate") as u32
     }
 
     /// The indices of the scratch that question 15 asks, by its four parts.
@@ -211,7 +211,7 @@ impl Boundaries<'_> {
         self.position(14, &at.base, unheld, &[Position { stage, ..unheld }]);
     }
 
-    /// Questions 13 and 14 of an out gate with nothing unchecked and of the ends.
+    /// Questions 13 and 14 of an out or give gate with nothing unchecked and of the ends.
     fn ends(&mut self) {
         let at = self.at(Round::OpenOutput);
         let unneeded = Position {

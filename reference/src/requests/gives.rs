@@ -173,7 +173,7 @@ fn at_a_give(random: &mut Random, most: usize) -> Vec<Request> {
         Round::RevealOutput,
     ] {
         let parties = random.between(2, most) as u32;
-        // Two numbers of a product less, where the round is one of the second check.
+        // The rounds of the second check need no product before the give.
         let second = [Round::OpenOutput, Round::CommitOutput, Round::RevealOutput];
         let circuit = match second.contains(&round) {
             true => vec![1, 1, 0, 0, 9, 0, 0, 0],

@@ -174,7 +174,7 @@ fn scores(random: &mut Random) -> Vec<SheetRequest> {
         score("(in 0)\n(give (line 0) 1)\n", &worked),
         // To the other party, whose whole mask is 0.
         score("(give (in 0) 0)\n", &worked),
-        // Refused by the reader, and by the run: an output wants other material.
+        // Refused by the reader, and by the run: an output wants other preprocessing.
         score("(give (in 0) 1)", &worked),
         score("(give (in 0) 2)\n", &worked),
         score("(give (in 0) 1)\n(in 0)\n", &worked),
