@@ -23,6 +23,7 @@ pub mod Steps
 pub mod Readiness
 pub mod Sent
 pub mod Squares
+pub mod Gives
 pub mod Received
 pub mod Scoring
 pub mod Keeping

@@ -16,6 +16,7 @@ pub mod JointEntry
 pub mod Plain
 pub mod Good
 pub mod Square
+pub mod Give
 pub mod Formula
 pub mod Docket
 pub mod Holding
