@@ -7,7 +7,7 @@ use native.Mathlib.Omega.{arith}
 use lib.Dec.{eqb}
 use borrow.Author.Tests.{eqb-true, eq-eqb}
 use Rattle.circuit.specs.Gate.{Kind, In, Add, Sub, Plus, Times, Mul, Out, Sq, Give, Gate}
-use Rattle.circuit.specs.Kind.{Class, Local, Owned, Opens, Output, Party, Wire, Shape, maskSize, kindShape, shape, classNumber, isClass, isLinear, isIn, isOut, isGive, seenBy, everyone, receiver, ownedBy}
+use Rattle.circuit.specs.Kind.{Class, Local, Owned, Opens, Output, Party, Wire, Shape, maskSize, kindShape, shape, classNumber, isClass, isLinear, isIn, isOut, isGive, seenBy, everyone, ownedBy}
 use Rattle.circuit.specs.Code.{classOf, shapeOf}
 use Rattle.circuit.proofs.Tests.{false-no, both-left, both-right}
 use Rattle.circuit.specs.declared.Shape as code

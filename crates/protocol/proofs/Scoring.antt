@@ -1,7 +1,7 @@
 -- The score of an output: what reading it asks, and that it is what is defined.
 -- Assumes nothing.
 use Prim.Native.Nat.{ℕ, _+_, _*_, _<_, _≤_}
-use mathlib.Core.Path.{_≡_, sym, _∙_}
+use mathlib.Core.Path.{_≡_, _∙_}
 use mathlib.Core.Bool.{Bool, true}
 use mathlib.Core.List.{List}
 use native.Mathlib.Omega.{arith}
@@ -18,10 +18,10 @@ use Rattle.protocol.specs.Code.{layoutOf}
 use Rattle.protocol.specs.Ready.{Ready}
 use Rattle.protocol.specs.declared.Layout.{Layout}
 use Rattle.protocol.specs.declared.Site.{Site}
-use Rattle.protocol.proofs.Readiness.{gate-there, mask-there, mask-long, part-low, room-there, opened-there}
+use Rattle.protocol.proofs.Readiness.{gate-there, mask-there, room-there, opened-there}
 
 module _ {q : ℕ} (P : Party) (l : List ℕ) (y : Layout) (at : Site) (k : Ready q P l y at (Reveal Second)) where
-  -- the score of a gate, from the whole preprocessing
+  -- what reading the score of a gate asks
   pub score-asks :
       (gateSize * (at .gate) + gateSize ≤ length (P .circuit))
       × (at .prep ≤ length (P .prep))
@@ -39,14 +39,7 @@ module _ {q : ℕ} (P : Party) (l : List ℕ) (y : Layout) (at : Site) (k : Read
         opened-there P l y at (Reveal Second) k 0 (omega arith),
       )
 
-  -- and from its record
-  pub record-asks : {give : Bool} {m : List ℕ}
-      → give ≡ isGive (gate (P .circuit) (at .gate))
-      → m ≡ drop (at .prep) (P .prep)
-      → (S.slotsSize (layoutOf y) ≤ length l) × Opened q (layoutOf y) l 0 × (give ≡ true → 2 < length m) × Below q m
-  record-asks eg em =
-      (score-asks .4, score-asks .5, (λ e. mask-long P l y at (Reveal Second) k em (sym eg ∙ e)), part-low P l y at (Reveal Second) k em)
-
+-- what is read is the score that is defined
 pub score-made : (O : Ops) (P : Party) (l : List ℕ) (y : Layout) (at : Site) (r : Round) → Ready (O .size) P l y at r
     → {give : Bool} {m : List ℕ} {s : ℕ}
     → give ≡ isGive (gate (P .circuit) (at .gate))

@@ -17,7 +17,7 @@ use Rattle.protocol.specs.Scratch.{Layout, slotsSize, wire, putWire, put
 use Rattle.protocol.specs.Party.{aAt, bAt, cAt}
 use Rattle.protocol.specs.Send.{masked}
 use Rattle.protocol.specs.Receive.{afterInput, putDifferences, afterOpening, afterOpenOutput}
-use Rattle.protocol.specs.Holding.{Held, Worked}
+use Rattle.protocol.specs.Holding.{Worked}
 use Rattle.protocol.proofs.Slots.{length-opened, length-put, opened-twice, opened-either}
 use Rattle.protocol.proofs.Writing.{OpenedTo, Elements, worked-put, opened-put, worked-opened, opened-more, minus-elements, shift-elements, product-elements}
 use Rattle.protocol.proofs.Settling.{Keeps, written-keeps}

@@ -1,7 +1,6 @@
 -- `party::output_at` meets its contract: the score is read where it is told.
 -- Assumes nothing.
 use mathlib.Core.Path.{sym, _∙_}
-use borrow.Author.Needs.{needs}
 use Rattle.circuit.proofs.Tests.{false-no}
 use Rattle.party.proofs.output_at.Statement.{statement}
 use Rattle.party.proofs.output_at.Tie as tie

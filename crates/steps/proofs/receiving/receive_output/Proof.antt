@@ -3,9 +3,8 @@
 use borrow.Author.Needs.{needs}
 use native.Mathlib.Omega.{arith}
 use denote.Ref.{now}
-use Rattle.field.specs.Words.{ops}
 use Rattle.circuit.specs.Round.{Open}
-use Rattle.protocol.proofs.Readiness.{tail-part, gate-there, mask-there}
+use Rattle.protocol.proofs.Readiness.{tail-part, mask-there}
 use Rattle.protocol.proofs.Received.{output-asks}
 use Rattle.steps.proofs.Concluding.{shown-asks, shown-received}
 use Rattle.steps.proofs.receiving.receive_output.Statement.{statement}
