@@ -111,7 +111,7 @@ fn scan(parties: usize, size: usize, c: &[Word], count: usize) -> Verdict
     Verdict::Accepted
 }
 
-// Question 4 of a gate of that shape, whose kind is that number. A number that is no kind counts as out, so only an out gate is asked.
+// Question 4 of a gate of that shape, whose kind is that number. A number that is no kind counts as out, so only an output is asked.
 fn kind_well(s: Shape, number: usize) -> bool
     requires { ⌜ shapeOf s ≡ kindShape (decode number) ⌝ }
     ensures { λ r. ⌜ r ≡ isKind number ⌝ }
