@@ -1,9 +1,7 @@
 -- `steps::receiving::score_of` meets its contract: the opened number is read, and a give adds its whole mask.
 -- Assumes nothing.
 use mathlib.Core.Path.{_∙_}
-use borrow.Author.Needs.{needs}
 use native.Mathlib.Omega.{arith}
-use Rattle.protocol.specs.Code.{layoutOf}
 use Rattle.protocol.specs.Receive.{score}
 use Rattle.steps.proofs.receiving.score_of.Statement.{statement}
 use Rattle.steps.proofs.receiving.score_of.Tie as tie
@@ -12,10 +10,10 @@ read-slot-requires : tie.Need-read-slot-requires
 read-slot-requires c κs = (c .before .before .pre .0, c .before .before .pre .1 .within)
 
 shared-slice-read-add : tie.Need-shared-slice-read-add
-shared-slice-read-add c = c .before .before .before .before .before .pre .2 (c .before .if1 .taken)
+shared-slice-read-add c = omega (arith, c .before .before .before .before .before .pre .2 (c .before .if1 .taken))
 
 add-requires : tie.Need-add-requires
-add-requires c κs = (rw (c .before .before .read-slot .ensures) (c .before .before .before .before .before .pre .1 .value), c .before .before .before .before .before .pre .3 2)
+add-requires c κs = (rw (c .before .before .read-slot .ensures) (c .before .before .before .before .before .pre .1 .value), c .before .before .before .before .before .pre .3 _)
 
 returns : tie.Need-returns
 unfolding score
