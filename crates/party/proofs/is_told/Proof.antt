@@ -7,5 +7,8 @@ use Rattle.party.proofs.is_told.Tie as tie
 returns : tie.Need-returns
 returns c = rw (← c .before .before .releases .ensures, c .before .if1 .taken) (c .is-seen-by .ensures)
 
+returns-2 : tie.Need-returns-2
+returns-2 c = search needs
+
 pub is-told-spec : {M : Type 1} → statement M
-is-told-spec = tie.close (tie.spec (λ c κs. search needs) (λ c κs. search needs) returns (λ c. search needs))
+is-told-spec = tie.close (tie.spec (λ c κs. search needs) (λ c κs. search needs) returns returns-2)
