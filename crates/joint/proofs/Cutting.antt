@@ -8,6 +8,7 @@ use native.Mathlib.Omega.{arith}
 use lib.ListN.{length, getD, take, drop, length-drop}
 use lib.Seq.{length-take-le, take-add, drop-at, drop-drop, getD-take, getD-drop}
 use Rattle.field.specs.Words.{size}
+use Rattle.circuit.specs.Kind.{maskSize}
 use Rattle.circuit.specs.Round.{commitWords, nonceSize}
 use Rattle.protocol.specs.Scratch.{slotsSize, band, nonceAt, marksAt}
 use Rattle.protocol.specs.Holding.{Below}
@@ -56,6 +57,12 @@ module _ {f : Frame} {preps : List ℕ} {a k : ℕ} (q : Prepared f preps a k) (
 
   pub key-low : keyIn f preps i < size
   key-low = band-low 0
+
+-- the mask of a give
+pub mask-cut : {f : Frame} {preps : List ℕ} {a : ℕ} → Prepared f preps a 0 → a + maskSize ≤ f .prep → (i : ℕ) → i < f .parties → maskSize ≤ length (prepFrom f preps a i)
+mask-cut {f} {preps} {a} q fits i h =
+    let whole : Prepared f preps a maskSize = record { long = q .long; low = q .low; fits = fits } in
+    cut-long whole i h
 
 -- the slots lie in a band
 pub banded-slots : {f : Frame} {l : List ℕ} → Banded f l → slotsSize (layoutOf (f .layout)) ≤ f .scratch

@@ -23,7 +23,7 @@ use Rattle.protocol.specs.Code.{layoutOf}
 use Rattle.protocol.specs.Joint.{party}
 use Rattle.protocol.specs.Run.{mostRounds}
 use Rattle.protocol.specs.JointEntry as E
-use Rattle.protocol.proofs.Bands.{joined-bands}
+use Rattle.protocol.proofs.Bands.{band-end, joined-bands}
 use Rattle.protocol.proofs.Readiness.{settles-here}
 use Rattle.protocol.proofs.Settling.{reach-here, settle-none}
 use Rattle.protocol.proofs.Words.{joined-ext}
@@ -52,6 +52,10 @@ module _ {f : Frame} {c preps inputs coefficients nonces l₀ t₀ o₀ : List �
   -- the gates of the frame are those of the circuit
   pub gates-same : f .layout .gates ≡ gates c
   gates-same = gates-are (able .lent .valid) (able .lent .framed)
+
+  -- a party's preprocessing lies in that of all
+  pub preps-long : f .prep ≤ length preps
+  preps-long = omega (arith, band-end (f .parties) (f .prep) 0 (omega (arith, able .lent .some)), lent-key (able .lent) .long)
 
   -- a gate that has rounds has no linear gates before it that are to be done
   module _ {s : Stop} {places l t o : List ℕ} (inv : Standing (lentAll f c preps inputs coefficients nonces) f l₀ t₀ o₀ s places l t o) (h : s .gate < gates c) where

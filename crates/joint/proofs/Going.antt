@@ -10,7 +10,7 @@ use lib.ListN.{length, getD}
 use Rattle.field.specs.Words.{ops, size}
 use Rattle.field.proofs.Laws.{laws}
 use Rattle.circuit.specs.Gate.{gate, gates}
-use Rattle.circuit.specs.Count.{unchecked}
+use Rattle.circuit.specs.Count.{prepAt, unchecked}
 use Rattle.circuit.specs.Round.{Round, isCommit, isReveal, rounds, among, nonceSize, words, coefficientsIn, commitsIn, nonceIn}
 use Rattle.circuit.proofs.Tests.{by-cases}
 use Rattle.protocol.specs.Scratch.{band, scratchSize}

@@ -48,12 +48,11 @@ module _ (c : List ℕ) where
 
   -- Where a run goes on after gate j with a round, the records before that gate are those up to gate j.
   pub resumed-prep : (j : ℕ) → j < gates c → (r : Round) → resume c (suc j) .stage ≡ Send r → prepAt c (resume c (suc j) .gate) ≡ prepAt c (suc j)
-  unfolding resume
+  unfolding resume finished
   resumed-prep j h r =
       let k : Reached c (suc j) (reach c (gates c - suc j) (suc j)) = reached c (gates c - suc j) (suc j) (omega arith) in
       go _ (entered c (reach c (gates c - suc j) (suc j)) (k .within) (k .stands))
     where
       go : (x : Point) → Entered c (reach c (gates c - suc j) (suc j)) x → x .stage ≡ Send r → prepAt c (x .gate) ≡ prepAt c (suc j)
-      unfolding finished
       go x (ended e q) w = let z : Finished ≡ Send r = sym (ap (λ (x : Point). x .stage) q) ∙ w in let o : _≡_ {A = ℕ} 0 1 = cc in absurd (omega arith)
       go x (begun r rs m e b q) w = rw q (rw (add-one j) at (prep-stop j h))

@@ -17,6 +17,7 @@ use Rattle.circuit.specs.Count.{prepAt}
 use Rattle.circuit.specs.Round.{Round, isCommit, words, commitsIn}
 use Rattle.protocol.specs.Scratch.{band, writtenAt}
 use Rattle.protocol.specs.Party.{Party}
+use Rattle.protocol.specs.Position.{Send}
 use Rattle.protocol.specs.Send.{noted}
 use Rattle.protocol.specs.Receive.{Nobody, passed, left}
 use Rattle.protocol.specs.Ready.{Ready, HeardLow, Receives}

@@ -20,7 +20,7 @@ use Rattle.circuit.proofs.KindLaws.{class-is, owned-no-out, opens-no-in, opens-
 use Rattle.circuit.proofs.Counts.{unchecked-few}
 use Rattle.circuit.proofs.RoundLaws.{class-at-round}
 use Rattle.protocol.specs.Scratch.{band}
-use Rattle.protocol.specs.Position.{Point, resume}
+use Rattle.protocol.specs.Position.{Point, Send, resume}
 use Rattle.protocol.specs.Receive.{Nobody, passed, heardSum}
 use Rattle.protocol.specs.Holding.{Below, Held}
 use Rattle.protocol.specs.Code.{layoutOf}

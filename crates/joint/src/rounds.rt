@@ -13,7 +13,7 @@ use circuit::rounds::REVEAL_WORDS;
 use field::Word;
 use protocol::Blame;
 ghost use mathlib.Core.Path.{_≡_};
-ghost use Prim.Native.Nat.{suc, _+_, _*_, _<_};
+ghost use Prim.Native.Nat.{suc, _+_, _*_, _≤_};
 ghost use Rattle.circuit.specs.Gate.{gate};
 ghost use Rattle.circuit.specs.Kind.{Owned, Opens, shape};
 ghost use Rattle.circuit.specs.Count.{unchecked};
@@ -200,7 +200,7 @@ fn check(
     transcript: &mut [Word],
 ) -> Checkup
     requires { ⌜ Checks f (now preps) (now scratch) k (s .used) (now coefficients) (s .checks) (now nonces) (s .written) (now transcript)
-        × (s .rounds < 5 * mostGates) ⌝ }
+        × (s .rounds ≤ 5 * mostGates) ⌝ }
     ensures { λ r. ⌜ Checked f (now (preps .entry)) (now (scratch .entry)) k (s .used) (now (coefficients .entry)) (s .checks) (now (nonces .entry)) (s .written) (now (transcript .entry)) (r .sum) (now (scratch .exit)) (now (transcript .exit))
         × (r .next ≡ checkedStop f k s) ⌝ }
 {
