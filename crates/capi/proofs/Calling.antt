@@ -12,16 +12,16 @@ use Rattle.algebra.specs.Ops.{Ops}
 use Rattle.field.specs.Words.{size, ops}
 use Rattle.circuit.specs.Verdict.{Verdict, Accepted, Refused, ask, _then_, elements}
 use Rattle.circuit.specs.Gate.{gate, gates}
-use Rattle.circuit.specs.Kind.{isOut}
+use Rattle.circuit.specs.Kind.{isOut, seenBy, alone}
 use Rattle.circuit.specs.Count.{total, count, outCount, prepSize, inCount}
 use Rattle.circuit.specs.Round.{Round, nonceSize, wordCount, coefficientCount, checkCount}
 use Rattle.circuit.specs.Accept.{askCircuit}
 use Rattle.circuit.proofs.Valid.{valid}
 use Rattle.circuit.proofs.Verdicts.{ask-yes, ask-no}
-use Rattle.protocol.specs.Scratch.{layout, scratchSize, Value, read}
+use Rattle.protocol.specs.Scratch.{scratchSize}
 use Rattle.protocol.specs.Position.{Position, Stage, Send, Receive, Finished, Aborted, whenReceiving}
 use Rattle.protocol.specs.Send.{overwrite}
-use Rattle.protocol.specs.Receive.{Blame, Ruling, Passed, Stopped, finds}
+use Rattle.protocol.specs.Receive.{Blame, Ruling, Passed, Stopped, scored, finds}
 use Rattle.protocol.specs.Party.{Party}
 use Rattle.protocol.specs.Ask.{askParties, askLent, askSend, askReceive}
 use Rattle.protocol.specs.Entry as E
@@ -130,8 +130,8 @@ module _ (O : Ops) (P : Party) (l : List ℕ) where
         released output next true = refl
         released output next false = refl
 
-        by : (v : Ruling) → answerVerdict (E.concludes O P (read (layout (P .circuit)) l (Value 0)) (at .gate) (at .held) r v) ≡ Accepted
-        by Passed = released _ _ (E.releases r)
+        by : (v : Ruling) → answerVerdict (E.concludes O P (scored O P l (at .gate)) (at .gate) (at .held) r v) ≡ Accepted
+        by Passed = released _ _ (E.releases r && seenBy (alone (P .me)) (gate (P .circuit) (at .gate)))
         by (Stopped b) = refl
 
     accepted-at : (s : Stage) → answerVerdict (whenReceiving s (E.Next at) (E.outcome O P l (at .gate) (at .held) heard)) ≡ Accepted

@@ -1,17 +1,19 @@
 -- Who is named is one of the parties, so that there is a number for it.
 -- Assumes nothing.
 use Prim.Native.Nat.{ℕ, zero, suc, _<_}
-use mathlib.Core.Bool.{Bool, true, false, cond}
+use mathlib.Core.Bool.{Bool, true, false, cond, _&&_}
 use mathlib.Core.List.{List}
 use native.Mathlib.Omega.{arith}
 use lib.Dec.{eqb}
 use Rattle.algebra.specs.Ops.{Ops}
 use Rattle.circuit.specs.Verdict.{Verdict, Accepted, Refused}
 use Rattle.circuit.specs.Round.{Round, isReveal, revealWords}
-use Rattle.protocol.specs.Scratch.{layout, Value, read, marksOf}
+use Rattle.circuit.specs.Gate.{gate}
+use Rattle.circuit.specs.Kind.{seenBy, alone}
+use Rattle.protocol.specs.Scratch.{layout, marksOf}
 use Rattle.protocol.specs.Position.{Position, Stage, Send, Receive, Finished, Aborted, whenSending, whenReceiving}
 use Rattle.protocol.specs.Party.{Party}
-use Rattle.protocol.specs.Receive.{Blame, Nobody, Blames, Ruling, Passed, Stopped, firstBlame, fits, misfit, weighs, heardSum, ruling, finds}
+use Rattle.protocol.specs.Receive.{Blame, Nobody, Blames, Ruling, Passed, Stopped, firstBlame, fits, misfit, weighs, heardSum, ruling, scored, finds}
 use Rattle.protocol.specs.Entry as E
 use Rattle.protocol.specs.Entry.{openAnswer, sendAnswer, receiveAnswer}
 use Rattle.protocol.specs.Joint.{Joint, party}
@@ -86,12 +88,12 @@ module _ (O : Ops) where
         released output next false = tt
 
         concluded : (output : ℕ) (r : Round) (v : Ruling) → AmongOf (P .parties) v → Tellable (E.concludes O P output (at .gate) (at .held) r v)
-        concluded output r Passed h = released output (E.nextPosition O P (at .gate) (at .held) r Passed) (E.releases r)
+        concluded output r Passed h = released output (E.nextPosition O P (at .gate) (at .held) r Passed) (E.releases r && seenBy (alone (P .me)) (gate (P .circuit) (at .gate)))
         concluded output r (Stopped b) h = among-number (P .parties) b small h
 
         stage : (s : Stage) → Tellable (whenReceiving s (E.Next at) (E.outcome O P l (at .gate) (at .held) heard))
         stage (Send r) = tt
-        stage (Receive r) = concluded (read (layout (P .circuit)) l (Value 0)) r (finds O P l r heard) (finds-among P l r heard)
+        stage (Receive r) = concluded (scored O P l (at .gate)) r (finds O P l r heard) (finds-among P l r heard)
         stage Finished = tt
         stage Aborted = tt
 
