@@ -1,7 +1,7 @@
 use std::io::Read;
 use std::process::ExitCode;
 
-use reference::example::{self, Example};
+use reference::example::Example;
 use reference::requests::{self, Answered, Set, SheetSet, Size};
 use reference::{docket, replay, text, theorems};
 
@@ -12,7 +12,7 @@ const USAGE: &str = "usage:
     reference vectors small|large|square|mark|give|squares-large|products|marks-large|gives-large SEED requests|answers
     reference vectors sheet|square-sheet|give-sheet|sheets-large SEED requests|answers
     reference vectors SEED coverage
-    reference example SEED request|sheet|answer
+    reference example|rank SEED request|sheet|answer
     reference replay < REQUESTS";
 
 fn main() -> ExitCode {
@@ -62,13 +62,15 @@ fn output(arguments: &[&str]) -> Option<String> {
                 _ => return None,
             }
         }
-        ["example", seed, part] => {
+        [command, seed, part] => {
+            let example = Example::ALL
+                .into_iter()
+                .find(|example| example.command() == command)?;
             let seed = seed.parse().ok()?;
-            let example = Example::make(seed);
             match part {
-                "request" => example.request(seed),
-                "sheet" => example::sheet(),
-                "answer" => example.answer(),
+                "request" => example.make(seed).request(seed),
+                "sheet" => example.sheet(),
+                "answer" => example.make(seed).answer(),
                 _ => return None,
             }
         }

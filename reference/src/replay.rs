@@ -314,7 +314,7 @@ pub fn replay(input: &[u8]) -> String {
 #[cfg(test)]
 mod tests {
     use super::*;
-    use crate::example::{self, Example};
+    use crate::example::Example;
     use crate::requests::{Set, SheetSet};
 
     #[test]
@@ -333,14 +333,15 @@ mod tests {
         }
     }
 
-    /// The worked example with its sheet put in.
+    /// The worked examples with their sheets put in.
     #[test]
-    fn the_example_is_answered_as_it_was_made() {
-        let example = Example::make(1);
-        let bytes: Vec<u32> = example::sheet().bytes().map(u32::from).collect();
-        let sheet = text::line("text", &bytes);
-        let request = example.request(1).replace("sheet harbour.sheet\n", &sheet);
-        assert_eq!(replay(request.as_bytes()), example.answer());
+    fn the_examples_are_answered_as_they_were_made() {
+        for example in Example::ALL {
+            let worked = example.make(1);
+            let sheet = text::bytes_line("text", example.sheet().as_bytes());
+            let request = worked.request(1).replace(&example.sheet_line(), &sheet);
+            assert_eq!(replay(request.as_bytes()), worked.answer());
+        }
     }
 
     /// The messages of docs/REPLAY.md, where NAME is one of the fields.

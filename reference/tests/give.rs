@@ -6,8 +6,10 @@ mod common;
 use common::matching::{moves, Two};
 use common::Case;
 use reference::circuit::{self, Gate};
+use reference::example::Example;
 use reference::field::{add, mul, sub};
 use reference::random::{self, Kinds, Random};
+use reference::requests::Request;
 use reference::{give, joint_run, open, plain, prep, receive, send, text};
 use reference::{Ending, Party, Position, Received, Refusal, Sort, Stage, P};
 
@@ -353,6 +355,38 @@ fn the_receiver_alone_is_released_the_value() {
             assert_eq!(case.single(|_, _, _| ()), left);
         }
     }
+}
+
+/// The example of the rank by single entries: every firm is released the score, and firm 2 alone its points.
+#[test]
+fn the_rank_by_single_entries() {
+    let Request::Joint {
+        parties,
+        circuit,
+        preps,
+        inputs,
+        coefficients,
+        nonces,
+        ..
+    } = Example::Rank.make(1).run.request
+    else {
+        panic!("the example is a joint run");
+    };
+    let last = circuit::gates(&circuit).last().unwrap();
+    assert_eq!(last.receiver(), Some(2));
+    let case = Case {
+        shape: circuit::shape(parties, &circuit).unwrap(),
+        parties,
+        circuit,
+        preps,
+        inputs,
+        coefficients,
+        nonces,
+    };
+    let left = case.joint();
+    assert_eq!(left.outputs[..2], [363, 46]);
+    // Asserts at each gate who is released what.
+    assert_eq!(case.single(|_, _, _| ()), left);
 }
 
 /// An altered word that a give gate opens aborts at its second check; one of a product before it at its first. What has been released
