@@ -55,9 +55,6 @@ module _ {f : Frame} {preps : List ℕ} {a k : ℕ} (q : Prepared f preps a k) (
   unfolding band
   key-is s = sym (getD-take (f .prep) (drop (i * f .prep) preps) 0 0 (omega (arith, q .fits)) ∙ getD-drop (i * f .prep) preps 0 0 ∙ ap (λ (z : ℕ). getD preps z 0) (omega arith))
 
-  pub key-low : keyIn f preps i < size
-  key-low = band-low 0
-
 -- the mask of a give
 pub mask-cut : {f : Frame} {preps : List ℕ} {a : ℕ} → Prepared f preps a 0 → a + maskSize ≤ f .prep → (i : ℕ) → i < f .parties → maskSize ≤ length (prepFrom f preps a i)
 mask-cut {f} {preps} {a} q fits i h =

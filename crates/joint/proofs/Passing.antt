@@ -18,7 +18,6 @@ use Rattle.protocol.specs.Position.{Point, reach, resume}
 use Rattle.protocol.specs.Entry.{releases}
 use Rattle.protocol.specs.Joint.{Joint}
 use Rattle.protocol.specs.Run.{released}
-use Rattle.protocol.specs.JointEntry as E
 use Rattle.joint.specs.declared.Frame.{Frame}
 use Rattle.joint.specs.declared.Stop.{Stop}
 use Rattle.joint.specs.Code.{Course, courseOf, dueAt, dueIn, cameTo, Placed, stateOf, noneHeld, Moving, Moved, Turned, Kept, Passed, SettlesAll, settledAll, Runnable, Common}
