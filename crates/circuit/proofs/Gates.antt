@@ -6,7 +6,7 @@ use mathlib.Core.Bool.{true, false, cond, not}
 use mathlib.Core.List.{List}
 use native.Mathlib.Nat.{not-suc-le-zero}
 use native.Mathlib.Omega.{arith}
-use lib.Dec.{eqb, leb}
+use lib.Dec.{eqb, leb, ltb}
 use borrow.Author.Tests.{eqb-true, ne-eqb, leb-true}
 use Rattle.circuit.specs.Gate.{Kind, kindOut, kindSq, kindGive, firstKind, lastKind, decode, Out, Gate, gateOf, gate, gates}
 use Rattle.circuit.specs.Kind.{Class, Local, Owned, Opens, Output, Role, kindShape, isClass, shape, isGive, receiver, factor}
@@ -30,8 +30,8 @@ kind-high : (k : ℕ) → isKind k ≡ true → k ≤ lastKind
 unfolding isKind
 kind-high k e = leb-true k lastKind (both-right (leb firstKind k) (leb k lastKind) e)
 
--- of the kinds' numbers, two are numbers of kinds without a value
-pub kind-valued : (k : ℕ) → isKind k ≡ true → cond (eqb k kindOut) false (not (eqb k kindGive)) ≡ not (isClass Output (kindShape (decode k) .class))
+-- the kinds before out have a value, and of those from it on sq alone
+pub kind-valued : (k : ℕ) → isKind k ≡ true → cond (ltb k kindOut) true (eqb k kindSq) ≡ not (isClass Output (kindShape (decode k) .class))
 unfolding isKind decode kindShape isClass
 kind-valued zero e = false-no e
 kind-valued (suc zero) e = refl

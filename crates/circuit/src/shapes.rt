@@ -150,10 +150,10 @@ pub fn has_value(number: usize) -> bool
     requires { ⌜ isKind number ≡ true ⌝ }
     ensures { λ r. ⌜ r ≡ not (isClass Output (kindShape (decode number) .class)) ⌝ }
 {
-    if number == KIND_OUT {
-        return false;
+    if number < KIND_OUT {
+        return true;
     }
-    number != KIND_GIVE
+    number == KIND_SQ
 }
 
 fn class_number(class: Class) -> usize
