@@ -112,8 +112,9 @@ struct spdz_refusal spdz_joint_run(size_t parties,
                                    uint32_t *outputs, size_t outputs_len,
                                    uint64_t *answer, size_t answer_len);
 
-/* A circuit as text, a sheet: bracketed forms, one on each line; (out F) and (give F S) stand outermost only. The numbers that refuse a text are 22 (it breaks the shape), 23 (a bracket opens depth
- * 17) and 24 (a bracket closes gate 257), each with the index of the byte; then come 3 to 7 of the circuit that is read, and 18.
+/* A circuit as text, a sheet: bracketed forms, one on each line; (out F) and (give F S) stand outermost only. The numbers that refuse a text are
+ * 22 (it breaks the shape), 23 (a bracket opens depth 17) and 24 (a bracket closes gate 257), each with the index of the byte; then come 3 to 7 of
+ * the circuit that is read, and 18.
  *
  * Reading a sheet: the gates' numbers go to the start of `circuit`, four for each gate. SPDZ_MOST_NUMBERS are enough for any sheet. */
 struct spdz_refusal spdz_read_sheet(size_t parties,

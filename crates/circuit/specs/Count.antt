@@ -16,8 +16,7 @@ unfoldable pub count : (Gate → Bool) → List ℕ → ℕ → ℕ
 count has c j = total (λ g. cond (has g) 1 0) c j
 
 -- "Material: its key share; then, in line order, three numbers for each in line .. and six for each mul line", four for each sq line
--- and three for each give line:
--- where the record of gate j starts
+-- and three for each give line: where the record of gate j starts
 unfoldable pub prepAt : List ℕ → ℕ → ℕ
 prepAt c j = 1 + total (λ g. shape g .prep) c j
 

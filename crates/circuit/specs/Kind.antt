@@ -88,7 +88,7 @@ alone i k = eqb k i
 abbrev pub everyone : ℕ → Bool
 everyone k = true
 
--- the party whose score of output g is listed: the receiver's; that of an out, which all have, from party 0
+-- the party from which the score of output g is listed: of a give its receiver; of an out, whose score all have, party 0
 unfoldable pub receiver : Gate → ℕ
 receiver g = cond (isGive g) (g .second) 0
 

@@ -145,7 +145,7 @@ pub fn shape_of(kind: Kind) -> Shape
     }
 }
 
-// Has a gate of this kind a value? The number is a kind.
+// Has a gate of this kind a value? The number is a kind. One test tells the kinds before out, which most gates are: every name in a circuit comes here.
 pub fn has_value(number: usize) -> bool
     requires { ⌜ isKind number ≡ true ⌝ }
     ensures { λ r. ⌜ r ≡ not (isClass Output (kindShape (decode number) .class)) ⌝ }

@@ -10,7 +10,7 @@ use lib.Dec.{eqb}
 use borrow.Author.Tests.{eqb-true}
 use Rattle.field.specs.Words.{size}
 use Rattle.circuit.specs.Verdict.{Accepted}
-use Rattle.circuit.specs.Gate.{kindMul, kindSq, Gate, gate, gates}
+use Rattle.circuit.specs.Gate.{kindMul, kindOut, kindSq, kindGive, Gate, gate, gates}
 use Rattle.circuit.specs.Kind.{Class, Local, Owned, Opens, Output, shape, isClass, isIn, opens, isOut, isGive}
 use Rattle.circuit.specs.Count.{total, count, prepAt, prepSize, capacity, inCount, outCount, unchecked, uncheckedAfter}
 use Rattle.circuit.specs.Round.{Round, checkRounds, classRounds, rounds, shapeWords, words, coefficientsIn, overRounds, overRun, roundCount, wordCount, coefficientCount, commitsIn, checkCount, commitWords, revealWords}
@@ -243,21 +243,26 @@ pub scratch-is : (n : ℕ) (c : List ℕ) → scratchSize n c ≡ 2 * gates c + 
 unfolding scratchSize marksAt nonceAt slotsSize layout capacity mulCount squareCount
 scratch-is n c = omega (arith, opened-before c (gates c))
 
--- k times a gate of a kind, of gate 0 and perhaps gate 0 again, and an out gate
-kindOuts : ℕ → ℕ → List ℕ
-kindOuts kind zero = []
-kindOuts kind (suc k) = kind ∷ 0 ∷ 0 ∷ 0 ∷ 7 ∷ 0 ∷ 0 ∷ 0 ∷ kindOuts kind k
+-- k times a gate of one kind, of gate 0 and perhaps gate 0 again, and a gate of another, of gate 0 and perhaps for party 0
+kindPairs : ℕ → ℕ → ℕ → List ℕ
+kindPairs opening output zero = []
+kindPairs opening output (suc k) = opening ∷ 0 ∷ 0 ∷ 0 ∷ output ∷ 0 ∷ 0 ∷ 0 ∷ kindPairs opening output k
 
--- 766 is reached: an in gate, 127 times a gate that opens values and an out gate, and an out gate, 256 gates in all
-pub longest : ℕ → List ℕ
-longest kind = 1 ∷ 0 ∷ 0 ∷ 0 ∷ (kindOuts kind 127 ++ (7 ∷ 0 ∷ 0 ∷ 0 ∷ []))
+-- 766 is reached: an in gate, 127 times a gate that opens values and an output, and an output, 256 gates in all
+pub longest : ℕ → ℕ → List ℕ
+longest opening output = 1 ∷ 0 ∷ 0 ∷ 0 ∷ (kindPairs opening output 127 ++ (output ∷ 0 ∷ 0 ∷ 0 ∷ []))
 
 -- It is accepted, and it takes 766 rounds.
-pub record Longest (kind : ℕ) : Type 0 where
-  pub accepted : askCircuit 2 size (longest kind) ≡ Accepted
-  pub rounds : roundFormula (longest kind) ≡ mostRoundsOfAll
+pub record Longest (opening output : ℕ) : Type 0 where
+  pub accepted : askCircuit 2 size (longest opening output) ≡ Accepted
+  pub rounds : roundFormula (longest opening output) ≡ mostRoundsOfAll
 
--- With mul gates and with sq gates.
-pub longest-rounds : Longest kindMul × Longest kindSq
-unfolding computing kindOuts longest
-longest-rounds = (record { accepted = refl; rounds = refl }, record { accepted = refl; rounds = refl })
+-- With mul gates and with sq gates, by out gates and by gives.
+pub longest-rounds : Longest kindMul kindOut × Longest kindSq kindOut × Longest kindMul kindGive × Longest kindSq kindGive
+unfolding computing kindPairs longest
+longest-rounds = (
+  record { accepted = refl; rounds = refl },
+  record { accepted = refl; rounds = refl },
+  record { accepted = refl; rounds = refl },
+  record { accepted = refl; rounds = refl },
+)
