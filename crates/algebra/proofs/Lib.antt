@@ -2,3 +2,4 @@
 pub mod Ring
 pub mod Solver
 pub mod Sums
+pub mod Inverse

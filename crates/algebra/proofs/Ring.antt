@@ -7,7 +7,7 @@ use Rattle.algebra.specs.Ops.{Ops}
 use Rattle.algebra.specs.Field.{Field}
 
 module _ {O : Ops} (F : Field O) where
-  open Ops O using (size, norm, add, neg, sub, mul)
+  open Ops O using (size, norm, add, neg, sub, mul, inv)
   open Field F using (
     one-lt,
     norm-lt,
@@ -15,6 +15,7 @@ module _ {O : Ops} (F : Field O) where
     norm-add,
     norm-neg,
     norm-mul,
+    norm-inv,
     add-norm,
     neg-norm,
     mul-norm,
@@ -218,3 +219,7 @@ module _ {O : Ops} (F : Field O) where
   -- A product is below size.
   pub mul-lt : (x y : ℕ) → mul x y < size
   mul-lt x y = lt-of-norm (norm-mul x y)
+
+  -- An inverse is below size.
+  pub inv-lt : (x : ℕ) → inv x < size
+  inv-lt x = lt-of-norm (norm-inv x)

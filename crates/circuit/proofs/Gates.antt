@@ -8,7 +8,7 @@ use native.Mathlib.Nat.{not-suc-le-zero}
 use native.Mathlib.Omega.{arith}
 use lib.Dec.{eqb, leb, ltb}
 use borrow.Author.Tests.{eqb-true, ne-eqb, leb-true}
-use Rattle.circuit.specs.Gate.{Kind, kindOut, kindSq, kindGive, firstKind, lastKind, decode, Out, Gate, gateOf, gate, gates}
+use Rattle.circuit.specs.Gate.{Kind, kindOut, kindSq, kindGive, kindOver, firstKind, lastKind, decode, Out, Gate, gateOf, gate, gates}
 use Rattle.circuit.specs.Kind.{Class, Local, Owned, Opens, Output, Role, kindShape, isClass, shape, isGive, receiver, factor}
 use Rattle.circuit.specs.Accept.{isKind}
 use Rattle.circuit.specs.Valid.{Ref, Fits, Valid}
@@ -16,12 +16,13 @@ use Rattle.circuit.proofs.Tests.{by-cases, both-right, false-no}
 use Rattle.circuit.proofs.KindLaws.{gate-facts, give-second}
 
 -- below sq are the kinds before it, and above the last kind is none
-pub other-kinds : (k : ℕ) → k < kindSq → (eqb k kindSq ≡ false) × (eqb k kindGive ≡ false)
-other-kinds k h = (ne-eqb k kindSq (λ e. absurd (omega (arith, h, e))), ne-eqb k kindGive (λ e. absurd (omega (arith, h, e))))
+pub other-kinds : (k : ℕ) → k < kindSq → (eqb k kindSq ≡ false) × (eqb k kindGive ≡ false) × (eqb k kindOver ≡ false)
+other-kinds k h =
+    (ne-eqb k kindSq (λ e. absurd (omega (arith, h, e))), ne-eqb k kindGive (λ e. absurd (omega (arith, h, e))), ne-eqb k kindOver (λ e. absurd (omega (arith, h, e))))
 
 pub decode-past : (k : ℕ) → lastKind < k → decode k ≡ Out
 unfolding decode
-decode-past k h = rw (other 1 (omega arith), other 2 (omega arith), other 3 (omega arith), other 4 (omega arith), other 5 (omega arith), other 6 (omega arith), other 8 (omega arith), other 9 (omega arith))
+decode-past k h = rw (other 1 (omega arith), other 2 (omega arith), other 3 (omega arith), other 4 (omega arith), other 5 (omega arith), other 6 (omega arith), other 8 (omega arith), other 9 (omega arith), other 10 (omega arith))
   where
     other : (m : ℕ) → m ≤ lastKind → eqb k m ≡ false
     other m l = ne-eqb k m (λ e. absurd (omega (arith, h, l, e)))
@@ -30,8 +31,8 @@ kind-high : (k : ℕ) → isKind k ≡ true → k ≤ lastKind
 unfolding isKind
 kind-high k e = leb-true k lastKind (both-right (leb firstKind k) (leb k lastKind) e)
 
--- the kinds before out have a value, and of those from it on sq alone
-pub kind-valued : (k : ℕ) → isKind k ≡ true → cond (ltb k kindOut) true (eqb k kindSq) ≡ not (isClass Output (kindShape (decode k) .class))
+-- the kinds before out have a value, and of those from it on sq and over
+pub kind-valued : (k : ℕ) → isKind k ≡ true → cond (ltb k kindOut) true (cond (eqb k kindSq) true (eqb k kindOver)) ≡ not (isClass Output (kindShape (decode k) .class))
 unfolding isKind decode kindShape isClass
 kind-valued zero e = false-no e
 kind-valued (suc zero) e = refl
@@ -43,7 +44,8 @@ kind-valued (suc (suc (suc (suc (suc (suc zero)))))) e = refl
 kind-valued (suc (suc (suc (suc (suc (suc (suc zero))))))) e = refl
 kind-valued (suc (suc (suc (suc (suc (suc (suc (suc zero)))))))) e = refl
 kind-valued (suc (suc (suc (suc (suc (suc (suc (suc (suc zero))))))))) e = refl
-kind-valued (suc (suc (suc (suc (suc (suc (suc (suc (suc (suc k)))))))))) e = absurd (omega (arith, kind-high (suc (suc (suc (suc (suc (suc (suc (suc (suc (suc k)))))))))) e))
+kind-valued (suc (suc (suc (suc (suc (suc (suc (suc (suc (suc zero)))))))))) e = refl
+kind-valued (suc (suc (suc (suc (suc (suc (suc (suc (suc (suc (suc k))))))))))) e = absurd (omega (arith, kind-high (suc (suc (suc (suc (suc (suc (suc (suc (suc (suc (suc k))))))))))) e))
 
 module _ {n q : ℕ} {c : List ℕ} (v : Valid n q c) where
   -- what gate j names first and second, by what the numbers are for

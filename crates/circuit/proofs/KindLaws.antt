@@ -6,7 +6,7 @@ use mathlib.Core.Bool.{Bool, true, false, cond, _&&_}
 use native.Mathlib.Omega.{arith}
 use lib.Dec.{eqb}
 use borrow.Author.Tests.{eqb-true, eq-eqb}
-use Rattle.circuit.specs.Gate.{Kind, In, Add, Sub, Plus, Times, Mul, Out, Sq, Give, Gate}
+use Rattle.circuit.specs.Gate.{Kind, In, Add, Sub, Plus, Times, Mul, Out, Sq, Give, Over, Gate}
 use Rattle.circuit.specs.Kind.{Class, Local, Owned, Opens, Output, Party, Wire, Shape, maskSize, kindShape, shape, classNumber, isClass, isLinear, isIn, isOut, isGive, seenBy, everyone, ownedBy}
 use Rattle.circuit.specs.Code.{classOf, shapeOf}
 use Rattle.circuit.proofs.Tests.{false-no, both-left, both-right}
@@ -59,6 +59,7 @@ facts Mul = record { some = omega arith; few = omega arith; words = refl; prep =
 facts Out = record { bare = λ e. refl; masked = λ e. false-no e; low = omega arith; openings = refl; words = refl; first = refl }
 facts Sq = record { some = omega arith; few = omega arith; words = refl; prep = refl; first = refl; second = λ e. absurd (omega (arith, e)) }
 facts Give = record { bare = λ e. false-no (sym e); masked = λ e. refl; low = omega arith; openings = refl; words = refl; first = refl }
+facts Over = record { prep = refl; openings = refl; words = refl; first = refl }
 
 -- the class of a number
 classAt : ℕ → Class

@@ -11,7 +11,7 @@ use lib.Dec.{ltb, leb, eqb}
 use borrow.Author.Tests.{ltb-true, leb-true, eqb-true, lt-ltb, le-leb, eq-eqb}
 use Rattle.circuit.specs.Verdict.{Accepted, _then_, each, ask}
 use Rattle.circuit.specs.Gate.{gateSize, entry, gate, gates, firstKind, lastKind}
-use Rattle.circuit.specs.Kind.{hasValue, Role, Unused, Party, Wire, Constant, shape, role}
+use Rattle.circuit.specs.Kind.{hasValue, Role, Unused, Party, Wire, Constant, Divisor, shape, role}
 use Rattle.circuit.specs.Accept.{fewestGates, mostGates, isKind, mayName, nameOk, restOk, askName, askRest, askGate, askSize, askLast, askCircuit}
 use Rattle.circuit.specs.Valid.{Ref, Fits, ValidGate, Valid}
 use Rattle.circuit.proofs.Tests.{both-left, both-right, both-true}
@@ -40,6 +40,7 @@ module _ (n q : ℕ) (c : List ℕ) (j : ℕ) where
   number-fits Party x a b = ltb-true x n a
   number-fits Wire x a b = ref c j x a
   number-fits Constant x a b = ltb-true x q b
+  number-fits Divisor x a b = (ltb-true 0 x (both-left (ltb 0 x) (ltb x q) b), ltb-true x q (both-right (ltb 0 x) (ltb x q) b))
 
   fits-name : (r : Role) (x : ℕ) → Fits n q c j r x → nameOk n c j x r ≡ true
   unfolding nameOk
@@ -47,6 +48,7 @@ module _ (n q : ℕ) (c : List ℕ) (j : ℕ) where
   fits-name Party x f = lt-ltb x n f
   fits-name Wire x f = may-name c j x f
   fits-name Constant x f = refl
+  fits-name Divisor x f = refl
 
   fits-rest : (r : Role) (x : ℕ) → Fits n q c j r x → restOk q x r ≡ true
   unfolding restOk
@@ -54,6 +56,7 @@ module _ (n q : ℕ) (c : List ℕ) (j : ℕ) where
   fits-rest Party x f = refl
   fits-rest Wire x f = refl
   fits-rest Constant x f = lt-ltb x q f
+  fits-rest Divisor x f = both-true (lt-ltb 0 x (f .0)) (lt-ltb x q (f .1))
 
   -- what questions 5 and 6 ask of number k + 1
   NameOk : ℕ → Type 0

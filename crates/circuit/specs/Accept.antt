@@ -7,7 +7,7 @@ use lib.ListN.{length}
 use lib.Dec.{ltb, leb, eqb}
 use Rattle.circuit.specs.Verdict.{Verdict, ask, _then_, each}
 use Rattle.circuit.specs.Gate.{gateSize, entry, gate, gates, firstKind, lastKind}
-use Rattle.circuit.specs.Kind.{shape, hasValue, isOut, role, Role, Unused, Party, Wire, Constant}
+use Rattle.circuit.specs.Kind.{shape, hasValue, isOut, role, Role, Unused, Party, Wire, Constant, Divisor}
 
 -- "L from 2 to 256"
 abbrev pub fewestGates : ℕ
@@ -16,7 +16,8 @@ fewestGates = 2
 abbrev pub mostGates : ℕ
 mostGates = 256
 
--- "is the kind 1 to 7? 4."; document 02: "question 4 admits kind 8", "4 to 9 read with kind 9 included"
+-- "is the kind 1 to 7? 4."; document 02: "question 4 admits kind 8", "4 to 9 read with kind 9 included",
+-- "question 4 admits kind 10"
 unfoldable pub isKind : ℕ → Bool
 isKind kind = leb firstKind kind && leb kind lastKind
 
@@ -30,13 +31,15 @@ nameOk n c j x Unused = true
 nameOk n c j x Party = ltb x n
 nameOk n c j x Wire = mayName c j x
 nameOk n c j x Constant = true
+nameOk n c j x Divisor = true
 
--- "Is the constant below p and each unused field 0? 6."
+-- "Is the constant below p and each unused field 0? 6."; of over, "question 6 refuses a constant 0 there"
 unfoldable pub restOk : ℕ → ℕ → Role → Bool
 restOk q x Unused = eqb x 0
 restOk q x Party = true
 restOk q x Wire = true
 restOk q x Constant = ltb x q
+restOk q x Divisor = ltb 0 x && ltb x q
 
 -- n parties, and a field of q elements
 module _ (n q : ℕ) (c : List ℕ) where

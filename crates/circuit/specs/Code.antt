@@ -11,11 +11,11 @@ use Rattle.circuit.specs.Round as R
 use Rattle.circuit.specs.declared.Verdict.{Verdict}
 use Rattle.circuit.specs.declared.Verdict.the-variants.{Accepted, Refused}
 use Rattle.circuit.specs.declared.Kind.{Kind}
-use Rattle.circuit.specs.declared.Kind.the-variants.{In, Add, Sub, Plus, Times, Mul, Out, Sq, Give}
+use Rattle.circuit.specs.declared.Kind.the-variants.{In, Add, Sub, Plus, Times, Mul, Out, Sq, Give, Over}
 use Rattle.circuit.specs.declared.Class.{Class}
 use Rattle.circuit.specs.declared.Class.the-variants.{Local, Owned, Opens, Output}
 use Rattle.circuit.specs.declared.Role.{Role}
-use Rattle.circuit.specs.declared.Role.the-variants.{Unused, Party, Wire, Constant}
+use Rattle.circuit.specs.declared.Role.the-variants.{Unused, Party, Wire, Constant, Divisor}
 use Rattle.circuit.specs.declared.Check.{Check}
 use Rattle.circuit.specs.declared.Check.the-variants.{First, Second}
 use Rattle.circuit.specs.declared.Round.{Round}
@@ -39,6 +39,7 @@ kindOf Mul = G.Mul
 kindOf Out = G.Out
 kindOf Sq = G.Sq
 kindOf Give = G.Give
+kindOf Over = G.Over
 
 abbrev pub classOf : Class → K.Class
 classOf Local = K.Local
@@ -51,6 +52,7 @@ roleOf Unused = K.Unused
 roleOf Party = K.Party
 roleOf Wire = K.Wire
 roleOf Constant = K.Constant
+roleOf Divisor = K.Divisor
 
 abbrev pub checkOf : Check → R.Check
 checkOf First = R.First

@@ -8,9 +8,10 @@ use lib.Dec.{eqb}
 
 -- "kind 1, in: first is the owner's seat. kind 2, add; kind 3, sub: first and second name earlier lines.
 -- kind 4, plus; kind 5, times: first names a line, and the constant is added or multiplied. kind 6, mul: first and second, perhaps equal.
--- kind 7, out: first." Document 02: "Kind 8, sq, first names a line."; "Kind 9, give: first names a line, second the receiver's seat."
+-- kind 7, out: first." Document 02: "Kind 8, sq, first names a line."; "Kind 9, give: first names a line, second the receiver's seat.";
+-- "Kind 10, over, undoes times by a constant": first names a line, and there is the constant.
 pub data Kind : Type 0 where
-  In Add Sub Plus Times Mul Out Sq Give : Kind
+  In Add Sub Plus Times Mul Out Sq Give Over : Kind
 
 -- the numbers of the kinds
 abbrev pub kindIn : ℕ
@@ -40,12 +41,15 @@ kindSq = 8
 abbrev pub kindGive : ℕ
 kindGive = 9
 
+abbrev pub kindOver : ℕ
+kindOver = 10
+
 -- the first and the last of them
 abbrev pub firstKind : ℕ
 firstKind = kindIn
 
 abbrev pub lastKind : ℕ
-lastKind = kindGive
+lastKind = kindOver
 
 -- the kind of a number. One that is no kind counts as out; question 4 refuses it
 unfoldable pub decode : ℕ → Kind
@@ -57,7 +61,8 @@ decode number =
     (cond (eqb number kindTimes) Times
     (cond (eqb number kindMul) Mul
     (cond (eqb number kindSq) Sq
-    (cond (eqb number kindGive) Give Out)))))))
+    (cond (eqb number kindGive) Give
+    (cond (eqb number kindOver) Over Out))))))))
 
 -- Document 01's "line". What first, second and the constant are for is told by the kind
 pub record Gate : Type 0 where

@@ -1,18 +1,18 @@
 -- What a gate's kind tells of it: one table. Every test, length and count is made of it.
 -- Assumes nothing.
 use Prim.Native.Nat.{ℕ}
-use mathlib.Core.Bool.{Bool, true, cond, not, _&&_}
+use mathlib.Core.Bool.{Bool, true, false, cond, not, _&&_}
 use lib.Dec.{eqb}
-use Rattle.circuit.specs.Gate.{Kind, In, Add, Sub, Plus, Times, Mul, Out, Sq, Give, Gate}
+use Rattle.circuit.specs.Gate.{Kind, In, Add, Sub, Plus, Times, Mul, Out, Sq, Give, Over, Gate}
 
 -- Local: "They need no round", each party works them out by itself. Owned: one party's input. Opens: differences with the masks of a record
 -- are opened. Output: a value is opened and checked; "An out line has no value and cannot be named.", "A give has no value".
 pub data Class : Type 0 where
   Local Owned Opens Output : Class
 
--- what a number of a gate is for
+-- what a number of a gate is for. A divisor is a constant other than 0
 pub data Role : Type 0 where
-  Unused Party Wire Constant : Role
+  Unused Party Wire Constant Divisor : Role
 
 -- what a kind reads of the preprocessing, opens and sends, and what its numbers are for. "What a line takes from the material and opens is now
 -- told by its kind, and every length and count follows."
@@ -47,6 +47,15 @@ kindShape Mul = shaped Opens 6 2 2 Wire Wire Unused
 kindShape Out = shaped Output 0 0 1 Wire Unused Unused
 kindShape Sq = shaped Opens 4 1 1 Wire Unused Unused
 kindShape Give = shaped Output maskSize 0 1 Wire Party Unused
+kindShape Over = shaped Local 0 0 0 Wire Unused Divisor
+
+-- is a number for dividing by?
+abbrev pub isDivisor : Role → Bool
+isDivisor Unused = false
+isDivisor Party = false
+isDivisor Wire = false
+isDivisor Constant = false
+isDivisor Divisor = true
 
 abbrev pub shape : Gate → Shape
 shape g = kindShape (g .kind)

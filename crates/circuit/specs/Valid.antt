@@ -6,7 +6,7 @@ use mathlib.Core.Bool.{true}
 use mathlib.Core.List.{List}
 use lib.ListN.{length}
 use Rattle.circuit.specs.Gate.{gateSize, entry, gate, gates, firstKind, lastKind}
-use Rattle.circuit.specs.Kind.{shape, hasValue, isOut, Role, Unused, Party, Wire, Constant}
+use Rattle.circuit.specs.Kind.{shape, hasValue, isOut, Role, Unused, Party, Wire, Constant, Divisor}
 use Rattle.circuit.specs.Accept.{fewestGates, mostGates}
 
 -- gate j may name gate x: it is earlier and has a value
@@ -14,12 +14,14 @@ pub record Ref (c : List ℕ) (j x : ℕ) : Type 0 where
   pub earlier : x < j
   pub valued : hasValue (gate c x) ≡ true
 
--- a number x of gate j is what it is for: 0, a party, a gate that may be named, or an element; n parties, q elements
+-- a number x of gate j is what it is for: 0, a party, a gate that may be named, an element, or an element other than 0;
+-- n parties, q elements
 abbrev pub Fits : ℕ → ℕ → List ℕ → ℕ → Role → ℕ → Type 0
 Fits n q c j Unused x = x ≡ 0
 Fits n q c j Party x = x < n
 Fits n q c j Wire x = Ref c j x
 Fits n q c j Constant x = x < q
+Fits n q c j Divisor x = (0 < x) × (x < q)
 
 -- gate j is one of the kinds, and each of its numbers is what it is for
 pub record ValidGate (n q : ℕ) (c : List ℕ) (j : ℕ) : Type 0 where

@@ -19,6 +19,7 @@ pub enum Kind {
     Out,
     Sq,
     Give,
+    Over,
 }
 
 // Worked out alone; an input of one party; opens values; an output.
@@ -29,12 +30,13 @@ pub enum Class {
     Output,
 }
 
-// What a number of a gate is for.
+// What a number of a gate is for. A divisor is a constant other than 0.
 pub enum Role {
     Unused,
     Party,
     Wire,
     Constant,
+    Divisor,
 }
 
 // What a kind tells: its class, the numbers that it reads of the preprocessing, how many values it opens, its words, and what its

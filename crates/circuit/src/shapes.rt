@@ -7,7 +7,7 @@ ghost use mathlib.Core.Path.{_≡_};
 ghost use mathlib.Core.Bool.{true, not, _&&_};
 ghost use lib.Dec.{eqb};
 ghost use Rattle.circuit.specs.Gate.{decode};
-ghost use Rattle.circuit.specs.Kind.{Local, Owned, Opens, Output, Wire, maskSize, kindShape, classNumber, isClass, role};
+ghost use Rattle.circuit.specs.Kind.{Local, Owned, Opens, Output, Wire, maskSize, kindShape, classNumber, isClass, isDivisor, role};
 ghost use Rattle.circuit.specs.Accept.{isKind};
 ghost use Rattle.circuit.specs.Code.{kindOf, classOf, roleOf, shapeOf};
 
@@ -28,6 +28,8 @@ const KIND_OUT: usize = 7;
 const KIND_SQ: usize = 8;
 
 const KIND_GIVE: usize = 9;
+
+const KIND_OVER: usize = 10;
 
 // Numbers of a mask's record.
 const MASK_SIZE: usize = 3;
@@ -70,6 +72,9 @@ pub fn decode(number: usize) -> Kind
     }
     if number == KIND_GIVE {
         return Kind::Give;
+    }
+    if number == KIND_OVER {
+        return Kind::Over;
     }
     Kind::Out
 }
@@ -142,6 +147,7 @@ pub fn shape_of(kind: Kind) -> Shape
             second: Role::Party,
             constant: Role::Unused,
         },
+        Kind::Over => local(Role::Unused, Role::Divisor),
     }
 }
 
@@ -153,7 +159,10 @@ pub fn has_value(number: usize) -> bool
     if number < KIND_OUT {
         return true;
     }
-    number == KIND_SQ
+    if number == KIND_SQ {
+        return true;
+    }
+    number == KIND_OVER
 }
 
 fn class_number(class: Class) -> usize
@@ -204,6 +213,19 @@ pub fn is_give(s: Shape) -> bool
         return s.prep == MASK_SIZE;
     }
     false
+}
+
+// Is a number for dividing by?
+pub fn is_divisor(role: Role) -> bool
+    ensures { λ r. ⌜ r ≡ isDivisor (roleOf role) ⌝ }
+{
+    match role {
+        Role::Unused => false,
+        Role::Party => false,
+        Role::Wire => false,
+        Role::Constant => false,
+        Role::Divisor => true,
+    }
 }
 
 // What number k of a gate is for: 1 its first, 2 its second, 3 its constant.

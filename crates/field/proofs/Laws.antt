@@ -15,6 +15,7 @@ laws =
       norm-add = prime.norm-add;
       norm-neg = prime.norm-neg;
       norm-mul = prime.norm-mul;
+      norm-inv = prime.norm-inv;
       add-norm = prime.add-norm;
       neg-norm = prime.neg-norm;
       mul-norm = prime.mul-norm;

@@ -2,7 +2,7 @@
 ghost use mathlib.Core.Path.{_≡_};
 ghost use Prim.Native.Nat.{_+_, _*_, _/_, _%_, _<_};
 ghost use Rattle.algebra.specs.Element.{Is};
-ghost use Rattle.field.specs.Prime.{norm, add, sub, mul};
+ghost use Rattle.field.specs.Prime.{norm, add, sub, mul, inv};
 ghost use Rattle.field.specs.Words.{size, sumSize, sumRoom, termSize};
 
 // A number that may be an element.
@@ -81,6 +81,27 @@ pub fn reduce(x: Sum) -> Word
     ensures { λ r. ⌜ Is size (norm x) r ⌝ }
 {
     element(fold(x))
+}
+
+// The inverse, by Euclid's rule: s * k stands for x and t * k for y throughout. Each turn halves x * y, so that there are at most 62.
+pub fn inverse(k: Word) -> Word
+    requires { ⌜ k < size ⌝ }
+    ensures { λ r. ⌜ Is size (inv k) r ⌝ }
+{
+    let mut x = SIZE;
+    let mut y = k;
+    let mut s: Word = 0;
+    let mut t: Word = 1;
+    while y != 0 {
+        let quotient = x / y;
+        let rest = x % y;
+        let u = sub(s, reduce((quotient as u64) * (t as u64)));
+        x = y;
+        y = rest;
+        s = t;
+        t = u;
+    }
+    s
 }
 
 // A running sum with an element added.

@@ -7,7 +7,7 @@ use Rattle.protocol.specs.Scratch.{layout, offset, slotsSize, read, writ
 use Rattle.protocol.specs.Position.{holding, finished, aborted, begin, reach, enter, resume, start, proceed, follow, keep, whenSending, whenReceiving, stageOccurs, mayHold, occurs}
 use Rattle.protocol.specs.Party.{key, recordIn, recordOf, inputOf}
 use Rattle.protocol.specs.Send.{overwrite, inputWord, masked, shown, checkShare, opening, ownWords, showing, sent, holds, mark, noted}
-use Rattle.protocol.specs.Receive.{heardSum, afterInput, putDifferences, afterOpening, afterOpenOutput, score, linear, afterLinear, settle, fits, misfit, ruling, next, onward, ownReceived, checkPassed, received, scored, finds, left}
+use Rattle.protocol.specs.Receive.{heardSum, afterInput, putDifferences, afterOpening, afterOpenOutput, score, operand, linear, putLinear, afterLinear, settle, fits, misfit, ruling, next, onward, ownReceived, checkPassed, received, scored, finds, left}
 use Rattle.protocol.specs.Ask.{askParties, askLent, slotQuestion, askSlots, askWorked, askSendRound, askReceiveRound, askSend, askReceive}
 use Rattle.protocol.specs.Entry.{answer, leave, openAnswer, sendAnswer, sendOut, sendScratch, nextPosition, concludes, outcome, receiveAnswer, receiveScratch}
 use Rattle.protocol.specs.Joint.{joined, inputsAt, party, nonceFor}
@@ -20,5 +20,5 @@ use Rattle.protocol.specs.Formula.{mulCount, squareCount, giveCount, bar
 use Rattle.protocol.specs.Docket.{doubles, after₁, after₂, after₃, after₄, after₅, misheard}
 
 unfoldable pub computing : Unit {0}
-unfolding sum below partAt plus minus scale known shift product layout offset slotsSize read write wire putWire putOpened writtenAt nonceAt marksAt scratchSize nonceOf marksOf putNonce putMarks holding finished aborted begin reach enter resume start proceed follow keep whenSending whenReceiving stageOccurs mayHold occurs key recordIn recordOf inputOf overwrite inputWord masked shown checkShare opening ownWords showing mark sent holds noted heardSum afterInput putDifferences afterOpening afterOpenOutput score linear afterLinear settle fits misfit ruling next onward ownReceived checkPassed received scored finds left askParties askLent slotQuestion askSlots askWorked askSendRound askReceiveRound askSend askReceive answer leave openAnswer sendAnswer sendOut sendScratch nextPosition concludes outcome receiveAnswer receiveScratch joined band inputsAt party nonceFor lowest begun takes taken said notes ends step released still ahead run whole askJoint ended jointly verdict jointAnswer jointScratch jointTranscript jointOutputs kindValue valueOf plainInput values value scoreOf scoresSeen recordAt wholeKey shareSum macSum mulCount squareCount giveCount bareOuts roundFormula doubles after₁ after₂ after₃ after₄ after₅ misheard
+unfolding sum below partAt plus minus scale known shift product layout offset slotsSize read write wire putWire putOpened writtenAt nonceAt marksAt scratchSize nonceOf marksOf putNonce putMarks holding finished aborted begin reach enter resume start proceed follow keep whenSending whenReceiving stageOccurs mayHold occurs key recordIn recordOf inputOf overwrite inputWord masked shown checkShare opening ownWords showing mark sent holds noted heardSum afterInput putDifferences afterOpening afterOpenOutput score operand linear putLinear afterLinear settle fits misfit ruling next onward ownReceived checkPassed received scored finds left askParties askLent slotQuestion askSlots askWorked askSendRound askReceiveRound askSend askReceive answer leave openAnswer sendAnswer sendOut sendScratch nextPosition concludes outcome receiveAnswer receiveScratch joined band inputsAt party nonceFor lowest begun takes taken said notes ends step released still ahead run whole askJoint ended jointly verdict jointAnswer jointScratch jointTranscript jointOutputs kindValue valueOf plainInput values value scoreOf scoresSeen recordAt wholeKey shareSum macSum mulCount squareCount giveCount bareOuts roundFormula doubles after₁ after₂ after₃ after₄ after₅ misheard
 computing = tt

@@ -26,7 +26,7 @@ use Rattle.protocol.specs.Part.{Part}
 use Rattle.protocol.specs.Scratch.{Layout, layout, Slot, Share, Mac, Value, ValueMac, offset, slotsSize, read, write, wire, putWire, putOpened}
 use Rattle.protocol.specs.Party.{Party, key}
 use Rattle.protocol.specs.Send.{masked, shown, checkShare, opening, ownWords, showing, sent, holds, noted}
-use Rattle.protocol.specs.Receive.{afterInput, putDifferences, afterOpening, afterOpenOutput, afterLinear, settle, Ruling, passed, onward, ownReceived, checkPassed, received, finds, left}
+use Rattle.protocol.specs.Receive.{afterInput, putDifferences, afterOpening, afterOpenOutput, putLinear, afterLinear, settle, Ruling, passed, onward, ownReceived, checkPassed, received, finds, left}
 use Rattle.protocol.specs.Holding.{Within, Worked}
 use Rattle.protocol.proofs.Slots.{slot-fits, length-write, length-put, length-opened}
 use Rattle.protocol.proofs.Writing.{OpenedTo}
@@ -96,14 +96,14 @@ module _ (O : Ops) (e : List ℕ) where
   linear-front : {n q : ℕ} {c : List ℕ} → Valid n q c → (i key j : ℕ) (l : List ℕ) → slotsSize (layout c) ≤ length l → j < gates c
       → shape (gate c j) .class ≡ Local
       → afterLinear O i key (layout c) (l ++ e) j (gate c j) ≡ afterLinear O i key (layout c) l j (gate c j) ++ e
-  unfolding afterLinear layout
+  unfolding afterLinear putLinear layout
   linear-front {c = c} ok i key j l room h k =
       let y = layout c in
       let g = gate c j in
       let first : wire y (l ++ e) (g .first) ≡ wire y l (g .first) = wire-front y e l _ room (omega (arith, local-named ok j h k .earlier)) in
       let second : shape g .second ≡ Wire → wire y (l ++ e) (g .second) ≡ wire y l (g .second) =
       (λ r. wire-front y e l _ room (omega (arith, second-fits ok j h r .earlier))) in
-      rw first (ap (putWire y (l ++ e) j) (linear-second O i key (g .kind) _ _ _ (g .constant) second))
+      rw first (ap (putWire y (l ++ e) j) (linear-second O i key (g .kind) _ _ _ _ second))
       ∙ put-front y e l j _ room h
 
   -- the linear gates up to the next stop

@@ -12,7 +12,7 @@ use Rattle.circuit.specs.Round.{First, Second, Round, Own, Open, Commit, Reveal
 use Rattle.circuit.proofs.Tests.{by-cases}
 use Rattle.protocol.specs.Scratch.{Layout}
 use Rattle.protocol.specs.Party.{Party}
-use Rattle.protocol.specs.Receive.{afterInput, putDifferences, afterOpening, afterOpenOutput, afterLinear, Ruling, passed, settle, onward, ownReceived, checkPassed, received, left}
+use Rattle.protocol.specs.Receive.{afterInput, putDifferences, afterOpening, afterOpenOutput, putLinear, afterLinear, Ruling, passed, settle, onward, ownReceived, checkPassed, received, left}
 use Rattle.protocol.specs.Send.{noted}
 use Rattle.protocol.proofs.Slots.{length-put, length-opened}
 use Rattle.protocol.proofs.Tails.{nonce-length, marks-length}
@@ -26,7 +26,7 @@ module _ (O : Ops) where
 
   -- A gate that needs no round writes in place ..
   pub length-afterLinear : (i key : ℕ) (y : Layout) (l : List ℕ) (j : ℕ) (g : Gate) → length (afterLinear O i key y l j g) ≡ length l
-  unfolding afterLinear
+  unfolding afterLinear putLinear
   length-afterLinear i key y l j g = length-put y l j _
 
   -- .. and so do all up to the next stop.

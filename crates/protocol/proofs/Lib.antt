@@ -24,6 +24,7 @@ pub mod Readiness
 pub mod Sent
 pub mod Squares
 pub mod Gives
+pub mod Overs
 pub mod Received
 pub mod Scoring
 pub mod Keeping

@@ -9,14 +9,15 @@ use native.Mathlib.Numerals.{add-one}
 use lib.ListN.{length}
 use Rattle.algebra.specs.Ops.{Ops}
 use Rattle.algebra.specs.Field.{Field}
-use Rattle.circuit.specs.Gate.{Kind, In, Add, Sub, Plus, Times, Mul, Out, Sq, Give, Gate, gate}
-use Rattle.circuit.specs.Kind.{Local, Role, Unused, Party, Wire, Constant, kindShape, shape, isClass, isLinear}
+use Rattle.algebra.proofs.Ring.{inv-lt}
+use Rattle.circuit.specs.Gate.{Kind, In, Add, Sub, Plus, Times, Mul, Out, Sq, Give, Over, Gate, gateOf, gate}
+use Rattle.circuit.specs.Kind.{Local, Role, Unused, Party, Wire, Constant, Divisor, kindShape, shape, isClass, isLinear}
 use Rattle.circuit.specs.Valid.{Fits, ValidGate}
 use Rattle.circuit.proofs.Tests.{false-no}
 use Rattle.protocol.specs.Part.{Part, plus, minus}
 use Rattle.protocol.specs.Scratch.{Layout, slotsSize, putWire}
 use Rattle.protocol.specs.Position.{reach}
-use Rattle.protocol.specs.Receive.{linear, afterLinear, settle}
+use Rattle.protocol.specs.Receive.{operand, linear, putLinear, afterLinear, settle}
 use Rattle.protocol.specs.Holding.{Worked, Read, Reads}
 use Rattle.protocol.specs.Ready.{Settles}
 use Rattle.protocol.proofs.Slots.{length-put}
@@ -42,6 +43,7 @@ linear-elements F i key Mul x z a e = false-no e
 linear-elements F i key Out x z a e = false-no e
 linear-elements F i key Sq x z a e = false-no e
 linear-elements F i key Give x z a e = false-no e
+linear-elements F i key Over x z a e = scale-elements F a x
 
 -- and it looks at its second number only where that names a gate
 pub linear-second : (O : Ops) (i key : ℕ) (k : Kind) (x z z′ : Part) (a : ℕ)
@@ -57,13 +59,14 @@ linear-second O i key Mul x z z′ a h = refl
 linear-second O i key Out x z z′ a h = refl
 linear-second O i key Sq x z z′ a h = refl
 linear-second O i key Give x z z′ a h = refl
+linear-second O i key Over x z z′ a h = refl
 
 -- what a linear gate leaves
 pub linear-written : {O : Ops} (F : Field O) (i key : ℕ) (y : Layout) (l : List ℕ) (j : ℕ) (g : Gate)
     → isLinear g ≡ true
     → Written (O .size) y l j (afterLinear O i key y l j g)
-unfolding afterLinear
-linear-written F i key y l j g e = record { part = _; low = linear-elements F i key (g .kind) _ _ (g .constant) e; is = refl }
+unfolding afterLinear putLinear
+linear-written F i key y l j g e = record { part = _; low = linear-elements F i key (g .kind) _ _ _ e; is = refl }
 
 module _ (n q : ℕ) (c : List ℕ) (j : ℕ) (y : Layout) (l : List ℕ) where
   -- what a gate's number is for can be read
@@ -72,6 +75,7 @@ module _ (n q : ℕ) (c : List ℕ) (j : ℕ) (y : Layout) (l : List ℕ) where
   read-of Party x f w = tt
   read-of Wire x f w = w x (f .earlier) (f .valued)
   read-of Constant x f w = f
+  read-of Divisor x f w = f .1
 
   -- what a gate names can be read
   pub reads : ValidGate n q c j → Worked q c y l j → Reads q y l (gate c j)
@@ -82,6 +86,21 @@ module _ (n q : ℕ) (c : List ℕ) (j : ℕ) (y : Layout) (l : List ℕ) where
         second = read-of (shape g .second) (g .second) (v .second) w;
         constant = read-of (shape g .constant) (g .constant) (v .constant) w;
       }
+
+module _ {O : Ops} (F : Field O) (y : Layout) (l : List ℕ) where
+  -- what a gate is worked out with can be read where its constant can
+  read-operand : (r : Role) (k : ℕ) → Read (O .size) y l r k → Read (O .size) y l r (operand O r k)
+  unfolding operand
+  read-operand Unused k h = h
+  read-operand Party k h = h
+  read-operand Wire k h = h
+  read-operand Constant k h = h
+  read-operand Divisor k h = inv-lt F k
+
+  pub reads-operand : (g : Gate) → Reads (O .size) y l g
+      → Reads (O .size) y l (gateOf (g .kind) (g .first) (g .second) (operand O (shape g .constant) (g .constant)))
+  reads-operand g h =
+      record { first = h .first; second = h .second; constant = read-operand (shape g .constant) (g .constant) (h .constant) }
 
 -- what a gate or several leave: as many numbers, what was worked out and the first u opened entries, all below q
 pub record Keeps (q : ℕ) (c : List ℕ) (y : Layout) (u : ℕ) (l₀ : List ℕ) (j : ℕ) (l : List ℕ) : Type 0 where

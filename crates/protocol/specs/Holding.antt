@@ -6,7 +6,7 @@ use mathlib.Core.Bool.{true}
 use mathlib.Core.List.{List}
 use lib.ListN.{getD}
 use Rattle.circuit.specs.Gate.{Gate, gate}
-use Rattle.circuit.specs.Kind.{Role, Unused, Party, Wire, Constant, shape, hasValue}
+use Rattle.circuit.specs.Kind.{Role, Unused, Party, Wire, Constant, Divisor, shape, hasValue}
 use Rattle.protocol.specs.Scratch.{Slot, Share, Mac, Value, ValueMac, Layout, read}
 
 -- every number of a list is below q, the size of a field (past the end getD gives 0)
@@ -36,12 +36,13 @@ pub record Opened (q : ℕ) (y : Layout) (l : List ℕ) (t : ℕ) : Type 0 where
   pub value : read y l (Value t) < q
   pub mac : read y l (ValueMac t) < q
 
--- what a gate's number is for is there: the part of a gate can be read, a constant is below q
+-- what a gate's number is for is there: the part of a gate can be read, a constant or divisor is below q
 abbrev pub Read : ℕ → Layout → List ℕ → Role → ℕ → Type 0
 Read q y l Unused x = Unit {0}
 Read q y l Party x = Unit {0}
 Read q y l Wire x = Held q y l x
 Read q y l Constant x = x < q
+Read q y l Divisor x = x < q
 
 pub record Reads (q : ℕ) (y : Layout) (l : List ℕ) (g : Gate) : Type 0 where
   pub first : Read q y l (shape g .first) (g .first)

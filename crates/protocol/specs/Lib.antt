@@ -17,6 +17,7 @@ pub mod Plain
 pub mod Good
 pub mod Square
 pub mod Give
+pub mod Over
 pub mod Formula
 pub mod Docket
 pub mod Holding

@@ -5,9 +5,10 @@ use mathlib.Core.Bool.{Bool, cond, _&&_}
 use mathlib.Core.List.{List, [], _∷_, _++_}
 use lib.ListN.{getD}
 use Rattle.algebra.specs.Ops.{Ops}
-use Rattle.circuit.specs.Gate.{Kind, In, Add, Sub, Plus, Times, Mul, Out, Sq, Give, Gate, gate, gates}
-use Rattle.circuit.specs.Kind.{isOut, seenBy, everyone}
+use Rattle.circuit.specs.Gate.{Kind, In, Add, Sub, Plus, Times, Mul, Out, Sq, Give, Over, Gate, gate, gates}
+use Rattle.circuit.specs.Kind.{shape, isOut, seenBy, everyone}
 use Rattle.protocol.specs.Party.{inputOf}
+use Rattle.protocol.specs.Receive.{operand}
 use Rattle.protocol.specs.Joint.{Joint, party}
 
 module _ (O : Ops) where
@@ -15,7 +16,8 @@ module _ (O : Ops) where
 
   -- "On plain inputs, the value of an in line is its owner's input for it; of add, sub and mul the sum, difference and product of the two
   -- named values; of plus and times the named value with the constant added or multiplied." Of sq the product of the named
-  -- value and itself. An out gate has no value, nor has a give: 0 keeps its place. vs are the values of the earlier gates
+  -- value and itself; of over that of the named value and the constant's inverse, so that it "undoes times". An out gate has no value, nor has a
+  -- give: 0 keeps its place. k is the constant, of over its inverse; vs are the values of the earlier gates
   unfoldable pub kindValue : Kind → ℕ → ℕ → ℕ → ℕ → ℕ
   kindValue In input x z k = input
   kindValue Add input x z k = add x z
@@ -26,9 +28,11 @@ module _ (O : Ops) where
   kindValue Out input x z k = 0
   kindValue Sq input x z k = mul x x
   kindValue Give input x z k = 0
+  kindValue Over input x z k = mul x k
 
   unfoldable pub valueOf : ℕ → List ℕ → Gate → ℕ
-  valueOf input vs g = kindValue (g .kind) input (getD vs (g .first) 0) (getD vs (g .second) 0) (g .constant)
+  valueOf input vs g =
+      kindValue (g .kind) input (getD vs (g .first) 0) (getD vs (g .second) 0) (operand O (shape g .constant) (g .constant))
 
   module _ (J : Joint) where
     -- the owner's input for gate j

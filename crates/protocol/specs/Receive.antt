@@ -7,8 +7,8 @@ use lib.ListN.{getD}
 use lib.Dec.{eqb}
 use Rattle.algebra.specs.Ops.{Ops}
 use Rattle.algebra.specs.Sum.{sum}
-use Rattle.circuit.specs.Gate.{Kind, In, Add, Sub, Plus, Times, Mul, Out, Sq, Give, Gate, gate, gates}
-use Rattle.circuit.specs.Kind.{Class, Local, Owned, Opens, Output, shape, isLinear, isGive, factor}
+use Rattle.circuit.specs.Gate.{Kind, In, Add, Sub, Plus, Times, Mul, Out, Sq, Give, Over, Gate, gate, gates}
+use Rattle.circuit.specs.Kind.{Class, Local, Owned, Opens, Output, Role, isDivisor, shape, isLinear, isGive, factor}
 use Rattle.circuit.specs.Count.{unchecked}
 use Rattle.circuit.specs.Round.{Check, First, Second, Round, Own, Open, Commit, Reveal, isReveal, commitWords, revealWords, words}
 use Rattle.sha256.specs.Digest.{same}
@@ -56,7 +56,7 @@ unfoldable pub next : List ℕ → ℕ → Round → Ruling → Point
 next c j r v = cond (passed v) (follow c j r) (aborted j)
 
 module _ (O : Ops) where
-  open Ops O using (add, mul)
+  open Ops O using (add, inv)
 
   -- the sum over n parties of the word t of each, where each sent k
   unfoldable pub heardSum : ℕ → ℕ → ℕ → List ℕ → ℕ
@@ -91,8 +91,12 @@ module _ (O : Ops) where
   unfoldable pub score : Layout → List ℕ → Bool → List ℕ → ℕ
   score y l give m = cond give (add (read y l (Value 0)) (getD m wholeMaskAt 0)) (read y l (Value 0))
 
-  -- a gate that needs no round, of gates x and z and a constant k. "add; sub: first and second name earlier lines"; "plus; times: .. the
-  -- constant is added or multiplied"
+  -- what a gate is worked out with, by what its constant is for: the constant; of over, "the constant's inverse"
+  unfoldable pub operand : Role → ℕ → ℕ
+  operand r k = cond (isDivisor r) (inv k) k
+
+  -- a gate that needs no round, of gates x and z and an operand k. "add; sub: first and second name earlier lines"; "plus; times: .. the
+  -- constant is added or multiplied"; over "multiplies share and MAC share alike by the constant's inverse"
   unfoldable pub linear : ℕ → ℕ → Kind → Part → Part → ℕ → Part
   linear i key In x z k = x
   linear i key Add x z k = plus O x z
@@ -103,11 +107,16 @@ module _ (O : Ops) where
   linear i key Out x z k = x
   linear i key Sq x z k = x
   linear i key Give x z k = x
+  linear i key Over x z k = scale O k x
 
-  -- what is written for gate j, which is g
+  -- what is written for gate j, of such a kind
+  unfoldable pub putLinear : ℕ → ℕ → Layout → List ℕ → ℕ → Kind → ℕ → ℕ → ℕ → List ℕ
+  putLinear i key y l j kind x z k = putWire y l j (linear i key kind (wire y l x) (wire y l z) k)
+
+  -- and for gate j, which is g
   unfoldable pub afterLinear : ℕ → ℕ → Layout → List ℕ → ℕ → Gate → List ℕ
   afterLinear i key y l j g =
-      putWire y l j (linear i key (g .kind) (wire y l (g .first)) (wire y l (g .second)) (g .constant))
+      putLinear i key y l j (g .kind) (g .first) (g .second) (operand (shape g .constant) (g .constant))
 
   -- "hearing does all such lines up to the next stop": from gate j on, where left gates are left
   unfoldable pub settle : ℕ → ℕ → List ℕ → Layout → ℕ → ℕ → List ℕ → List ℕ

@@ -1,10 +1,10 @@
 -- What is promised of the operations of Prime: the equations that define them, and the laws of a field, of all natural numbers.
 -- Assumes nothing.
-use Prim.Native.Nat.{ℕ, _+_, _*_, _-_, _%_, _<_}
+use Prim.Native.Nat.{ℕ, zero, suc, _+_, _*_, _-_, _/_, _%_, _<_}
 use mathlib.Core.Path.{_≡_, refl, ap, sym, _∙_}
 use native.Mathlib.Nat.{mod-add-div}
 use native.Mathlib.Omega.{arith}
-use Rattle.field.specs.Prime.{p, norm, add, neg, sub, mul, prime, modular}
+use Rattle.field.specs.Prime.{p, norm, add, neg, sub, mul, euclid, turns, inv, prime, modular}
 
 -- The element of a number is its remainder.
 pub norm-eq : (x : ℕ) → norm x ≡ x % p
@@ -31,9 +31,14 @@ pub mul-eq : (x y : ℕ) → mul x y ≡ (x * y) % p
 unfolding mul
 mul-eq x y = refl
 
+-- An inverse is what Euclid's rule finds.
+pub inv-eq : (k : ℕ) → inv k ≡ euclid sub mul turns p k 0 1
+unfolding inv
+inv-eq k = refl
+
 -- The shut operations are those that compute.
 pub prime-is-modular : prime ≡ modular
-unfolding norm add neg sub mul modular
+unfolding norm add neg sub mul inv modular
 prime-is-modular = refl
 
 -- The element of a number is below p.
@@ -147,3 +152,16 @@ sub-lt x y = omega arith
 pub mul-lt : (x y : ℕ) → mul x y < p
 unfolding mul
 mul-lt x y = omega arith
+
+-- What Euclid's rule finds is below p.
+euclid-lt : (n x y s t : ℕ) → s < p → t < p → euclid sub mul n x y s t < p
+unfolding euclid
+euclid-lt zero x y s t hs ht = hs
+euclid-lt (suc n) x zero s t hs ht = hs
+euclid-lt (suc n) x (suc y) s t hs ht =
+    euclid-lt n (suc y) (x % suc y) t (sub s (mul (x / suc y) t)) ht (sub-lt s (mul (x / suc y) t))
+
+-- An inverse is an element.
+pub norm-inv : (x : ℕ) → norm (inv x) ≡ inv x
+unfolding inv
+norm-inv x = norm-of-lt (euclid-lt turns p x 0 1 (omega arith) (omega arith))

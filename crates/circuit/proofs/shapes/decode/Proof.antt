@@ -34,7 +34,7 @@ returns-6 c = search tests
 
 returns-7 : tie.Need-returns-7
 unfolding decode
-returns-7 c = let below = other-kinds _ (c .before .before .before .before .before .before .if1 .taken) in rw (below .0, below .1) (search tests)
+returns-7 c = let below = other-kinds _ (c .before .before .before .before .before .before .if1 .taken) in rw (below .0, below .1, below .2) (search tests)
 
 returns-8 : tie.Need-returns-8
 unfolding decode
@@ -45,8 +45,12 @@ unfolding decode
 returns-9 c = rw (c .if9 .taken)
 
 returns-10 : tie.Need-returns-10
-returns-10 c = sym (decode-past _ (omega (arith, c .before .before .if1 .left, c .before .if8 .left, c .if9 .left)))
+unfolding decode
+returns-10 c = rw (c .if10 .taken)
+
+returns-11 : tie.Need-returns-11
+returns-11 c = sym (decode-past _ (omega (arith, c .before .before .before .if1 .left, c .before .before .if8 .left, c .before .if9 .left, c .if10 .left)))
 
 pub decode-spec : {M : Type 1} → statement M
 decode-spec =
-    tie.close (tie.spec returns returns-2 returns-3 returns-4 returns-5 returns-6 returns-7 returns-8 returns-9 returns-10)
+    tie.close (tie.spec returns returns-2 returns-3 returns-4 returns-5 returns-6 returns-7 returns-8 returns-9 returns-10 returns-11)

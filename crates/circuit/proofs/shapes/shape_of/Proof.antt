@@ -18,6 +18,9 @@ local-requires-3 c κs = search needs
 local-requires-4 : tie.Need-local-requires-4
 local-requires-4 c κs = search needs
 
+local-requires-5 : tie.Need-local-requires-5
+local-requires-5 c κs = search needs
+
 returns : tie.Need-returns
 unfolding kindShape shapeOf
 returns c = rw (c .enum-told .given .1)
@@ -54,9 +57,13 @@ returns-9 : tie.Need-returns-9
 unfolding kindShape shapeOf
 returns-9 c = rw (c .enum-told9 .given .1)
 
+returns-10 : tie.Need-returns-10
+unfolding kindShape shapeOf
+returns-10 c = rw (c .before .enum-told10 .given .1) (c .local5 .ensures)
+
 pub shape-of-spec : {M : Type 1} → statement M
 shape-of-spec =
     tie.close
     (tie.spec (λ c. search needs) (λ c. search needs) local-requires (λ c. search needs) local-requires-2 (λ c. search needs) local-requires-3
-    (λ c. search needs) local-requires-4 (λ c. search needs) (λ c. search needs) (λ c. search needs) (λ c. search needs) returns returns-2 returns-3 returns-4 returns-5
-    returns-6 returns-7 returns-8 returns-9)
+    (λ c. search needs) local-requires-4 (λ c. search needs) (λ c. search needs) (λ c. search needs) (λ c. search needs) (λ c. search needs) local-requires-5 returns returns-2 returns-3 returns-4 returns-5
+    returns-6 returns-7 returns-8 returns-9 returns-10)
