@@ -4,6 +4,7 @@ use Prim.Native.Nat.{ℕ}
 use mathlib.Core.Path.{_≡_, refl}
 use mathlib.Core.Bool.{Bool, true, false, _&&_}
 use native.Mathlib.Omega.{arith}
+use lib.Dec.{ltb}
 use borrow.Author.Tests.{lt-ltb, le-ltb, le-leb, lt-leb, eq-eqb, ne-eqb}
 
 pub ruleset tests = (lt-ltb, le-ltb, le-leb, lt-leb, eq-eqb, ne-eqb)
@@ -25,3 +26,7 @@ both-right false b e = false-no e
 
 pub both-true : {a b : Bool} → a ≡ true → b ≡ true → (a && b) ≡ true
 both-true e h = rw (e, h)
+
+-- what is not 0 is above it
+pub pos-ltb : (x : ℕ) → (x ≡ 0 → ⊥) → ltb 0 x ≡ true
+pos-ltb x h = lt-ltb 0 x (omega arith)

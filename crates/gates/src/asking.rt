@@ -53,6 +53,7 @@ fn name_ok(parties: usize, c: &[Word], j: usize, x: usize, role: Role) -> bool
         Role::Party => x < parties,
         Role::Wire => may_name(c, j, x),
         Role::Constant => true,
+        Role::Divisor => true,
     }
 }
 
@@ -65,6 +66,12 @@ fn rest_ok(size: usize, x: usize, role: Role) -> bool
         Role::Party => true,
         Role::Wire => true,
         Role::Constant => x < size,
+        Role::Divisor => {
+            if x == 0 {
+                return false;
+            }
+            x < size
+        }
     }
 }
 
@@ -123,7 +130,7 @@ fn kind_well(s: Shape, number: usize) -> bool
     true
 }
 
-// Is a number of gate j what it is for? Questions 5 and 6 of it in one.
+// Is a number of gate j what it is for? Questions 5 and 6 of it in one. No kind divides by its first number, so a divisor is left to the scan.
 fn number_well(parties: usize, size: usize, c: &[Word], j: usize, x: usize, role: Role) -> bool
     requires { ⌜ (gateSize * j ≤ length (now c)) × ((i : ℕ) → i < j → isKind (entry (now c) i 0) ≡ true) ⌝ }
     ensures { λ r. ⌜ (r ≡ true → Fits parties size (now (c .entry)) j (roleOf role) x) ⌝ }
@@ -133,6 +140,7 @@ fn number_well(parties: usize, size: usize, c: &[Word], j: usize, x: usize, role
         Role::Party => x < parties,
         Role::Wire => may_name(c, j, x),
         Role::Constant => x < size,
+        Role::Divisor => false,
     }
 }
 
@@ -157,6 +165,15 @@ fn ends_well(parties: usize, size: usize, c: &[Word], j: usize, s: Shape) -> boo
         Role::Party => false,
         Role::Wire => false,
         Role::Constant => {
+            if size <= constant {
+                return false;
+            }
+            number_well(parties, size, c, j, first, first_role)
+        }
+        Role::Divisor => {
+            if constant == 0 {
+                return false;
+            }
             if size <= constant {
                 return false;
             }
@@ -209,6 +226,7 @@ fn gate_well(parties: usize, size: usize, me: usize, c: &[Word], j: usize) -> us
             counting::weight_of(c, me, j, s)
         }
         Role::Constant => counting::UNSURE,
+        Role::Divisor => counting::UNSURE,
     }
 }
 

@@ -17,7 +17,7 @@ pub const GATE_SIZE: usize = 4;
 
 const FIRST_KIND: usize = 1;
 
-const LAST_KIND: usize = 9;
+const LAST_KIND: usize = 10;
 
 pub fn is_kind(number: usize) -> bool
     ensures { λ r. ⌜ r ≡ isKind number ⌝ }

@@ -46,10 +46,13 @@ returns-10 c = (λ h. valid-gate _ _ _ _ _ (c .before .before .before .before .b
 returns-11 : tie.Need-returns-11
 returns-11 c = (λ h. absurd (h refl), λ h. absurd (h refl))
 
+returns-12 : tie.Need-returns-12
+returns-12 c = (λ h. absurd (h refl), λ h. absurd (h refl))
+
 pub gate-well-spec : {M : Type 1} → statement M
 gate-well-spec =
     tie.close
     (tie.spec (λ c. search needs) (λ c κs. search needs) (λ c. search needs) (λ c. search needs) (λ c κs. search needs) kind-well-requires
     returns (λ c κs. search needs) (λ c. search needs) returns-2 (λ c κs. search needs) returns-3 (λ c κs. search needs) (λ c. search needs) returns-4 (λ c κs. search needs) returns-5 (λ c κs. search needs) (λ c. search needs)
     (λ c κs. search needs) returns-6 (λ c κs. search needs) returns-7 (λ c κs. search needs) (λ c. search needs)
-    returns-8 returns-9 returns-10 returns-11)
+    (λ c. search needs) returns-8 returns-9 returns-10 returns-11 returns-12)
