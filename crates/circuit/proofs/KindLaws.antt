@@ -8,7 +8,7 @@ use lib.Dec.{eqb}
 use borrow.Author.Tests.{eqb-true, eq-eqb}
 use Rattle.circuit.specs.Gate.{Kind, In, Add, Sub, Plus, Times, Mul, Out, Sq, Give, Over, Gate}
 use Rattle.circuit.specs.Kind.{Class, Local, Owned, Opens, Output, Party, Wire, Shape, maskSize, kindShape, shape, classNumber, isClass, isLinear, isIn, isOut, isGive, seenBy, everyone, ownedBy}
-use Rattle.circuit.specs.Code.{classOf, shapeOf}
+use Rattle.circuit.specs.Code.{classOf, roleOf, shapeOf}
 use Rattle.circuit.proofs.Tests.{false-no, both-left, both-right}
 use Rattle.circuit.specs.declared.Shape as code
 
@@ -202,6 +202,10 @@ module _ (r : code.Shape) (k : Kind) (e : shapeOf r ≡ kindShape k) where
   pub shape-class : classOf (r .class) ≡ kindShape k .class
   unfolding shapeOf
   shape-class = ap (λ (s : Shape). s .class) e
+
+  pub shape-constant : roleOf (r .constant) ≡ kindShape k .constant
+  unfolding shapeOf
+  shape-constant = ap (λ (s : Shape). s .constant) e
 
   pub shape-prep : r .prep ≡ kindShape k .prep
   unfolding shapeOf

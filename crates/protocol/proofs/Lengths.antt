@@ -6,7 +6,7 @@ use mathlib.Core.List.{List}
 use lib.ListN.{length}
 use lib.Dec.{eqb}
 use Rattle.algebra.specs.Ops.{Ops}
-use Rattle.circuit.specs.Gate.{Gate, gate}
+use Rattle.circuit.specs.Gate.{Kind, Gate, gate}
 use Rattle.circuit.specs.Kind.{Class, Local, Owned, Opens, Output, shape, isLinear}
 use Rattle.circuit.specs.Round.{First, Second, Round, Own, Open, Commit, Reveal, isCommit}
 use Rattle.circuit.proofs.Tests.{by-cases}
@@ -25,9 +25,13 @@ module _ (O : Ops) where
       by-cases (eqb k 2) (λ b. rw b (length-opened y _ _ _ _ ∙ length-opened y l _ _ _)) (λ b. rw b (length-opened y l _ _ _))
 
   -- A gate that needs no round writes in place ..
+  pub length-putLinear : (i key : ℕ) (y : Layout) (l : List ℕ) (j : ℕ) (kind : Kind) (x z k : ℕ) → length (putLinear O i key y l j kind x z k) ≡ length l
+  unfolding putLinear
+  length-putLinear i key y l j kind x z k = length-put y l j _
+
   pub length-afterLinear : (i key : ℕ) (y : Layout) (l : List ℕ) (j : ℕ) (g : Gate) → length (afterLinear O i key y l j g) ≡ length l
-  unfolding afterLinear putLinear
-  length-afterLinear i key y l j g = length-put y l j _
+  unfolding afterLinear
+  length-afterLinear i key y l j g = length-putLinear i key y l j (g .kind) (g .first) (g .second) _
 
   -- .. and so do all up to the next stop.
   length-settle : (i key : ℕ) (c : List ℕ) (y : Layout) (left j : ℕ) (l : List ℕ) → length (settle O i key c y left j l) ≡ length l

@@ -11,7 +11,7 @@ use Rattle.algebra.specs.Ops.{Ops}
 use Rattle.algebra.specs.Field.{Field}
 use Rattle.algebra.proofs.Ring.{inv-lt}
 use Rattle.circuit.specs.Gate.{Kind, In, Add, Sub, Plus, Times, Mul, Out, Sq, Give, Over, Gate, gateOf, gate}
-use Rattle.circuit.specs.Kind.{Local, Role, Unused, Party, Wire, Constant, Divisor, kindShape, shape, isClass, isLinear}
+use Rattle.circuit.specs.Kind.{Local, Role, Unused, Party, Wire, Constant, Divisor, kindShape, shape, isClass, isLinear, isDivisor}
 use Rattle.circuit.specs.Valid.{Fits, ValidGate}
 use Rattle.circuit.proofs.Tests.{false-no}
 use Rattle.protocol.specs.Part.{Part, plus, minus}
@@ -61,6 +61,16 @@ linear-second O i key Sq x z z′ a h = refl
 linear-second O i key Give x z z′ a h = refl
 linear-second O i key Over x z z′ a h = refl
 
+-- a gate with what it is worked out with in the place of its constant
+abbrev pub operated : Ops → Gate → Gate
+operated O g = gateOf (g .kind) (g .first) (g .second) (operand O (shape g .constant) (g .constant))
+
+-- what is written of its numbers is what a gate leaves
+pub put-operated : (O : Ops) (i key : ℕ) (y : Layout) (l : List ℕ) (j : ℕ) (g : Gate) {h : Gate} → h ≡ operated O g
+    → putLinear O i key y l j (h .kind) (h .first) (h .second) (h .constant) ≡ afterLinear O i key y l j g
+unfolding afterLinear
+put-operated O i key y l j g e = rw e
+
 -- what a linear gate leaves
 pub linear-written : {O : Ops} (F : Field O) (i key : ℕ) (y : Layout) (l : List ℕ) (j : ℕ) (g : Gate)
     → isLinear g ≡ true
@@ -97,10 +107,20 @@ module _ {O : Ops} (F : Field O) (y : Layout) (l : List ℕ) where
   read-operand Constant k h = h
   read-operand Divisor k h = inv-lt F k
 
-  pub reads-operand : (g : Gate) → Reads (O .size) y l g
-      → Reads (O .size) y l (gateOf (g .kind) (g .first) (g .second) (operand O (shape g .constant) (g .constant)))
+  pub reads-operand : (g : Gate) → Reads (O .size) y l g → Reads (O .size) y l (operated O g)
   reads-operand g h =
       record { first = h .first; second = h .second; constant = read-operand (shape g .constant) (g .constant) (h .constant) }
+
+-- a divisor is an element
+pub divisor-low : {n q : ℕ} {c : List ℕ} {j : ℕ} → ValidGate n q c j → isDivisor (shape (gate c j) .constant) ≡ true → gate c j .constant < q
+divisor-low {n} {q} {c} {j} v = go (shape (gate c j) .constant) (v .constant)
+  where
+    go : (r : Role) → Fits n q c j r (gate c j .constant) → isDivisor r ≡ true → gate c j .constant < q
+    go Unused f e = false-no e
+    go Party f e = false-no e
+    go Wire f e = false-no e
+    go Constant f e = false-no e
+    go Divisor f e = f .1
 
 -- what a gate or several leave: as many numbers, what was worked out and the first u opened entries, all below q
 pub record Keeps (q : ℕ) (c : List ℕ) (y : Layout) (u : ℕ) (l₀ : List ℕ) (j : ℕ) (l : List ℕ) : Type 0 where
@@ -233,13 +253,16 @@ module _ {O : Ops} (c : List ℕ) (y : Layout) (i key b : ℕ) (l₀ : List ℕ)
     left h = omega arith
 
     -- gate j can be read off the circuit, and what it reads off the scratch
-    pub settling-asks : Settles (O .size) c y key l₀ b
+    pub settling-asks : Field O
+        → Settles (O .size) c y key l₀ b
         → j < y .gates
         → {g : Gate}
-        → g ≡ gate c j
+        → g ≡ operated O (gate c j)
         → (slotsSize y ≤ length l) × Reads (O .size) y l g
-    settling-asks s h e =
-        (rw (inv .len) (s .room), rw e (reads (s .parties) (O .size) c j y l (s .valid .each j (omega (arith, s .count))) (inv .worked)))
+    settling-asks F s h e =
+        ( rw (inv .len) (s .room)
+        , rw e (reads-operand F y l (gate c j) (reads (s .parties) (O .size) c j y l (s .valid .each j (omega (arith, s .count))) (inv .worked)))
+        )
 
     pub settling-again : Field O
         → slotsSize y ≤ length l₀

@@ -9,6 +9,7 @@ use crate::sending;
 use circuit::Check;
 use circuit::Class;
 use circuit::Kind;
+use circuit::Role;
 use circuit::Round;
 use circuit::rounds::COMMIT_WORDS;
 use circuit::rounds::REVEAL_WORDS;
@@ -28,16 +29,16 @@ ghost use lib.Dec.{eqb};
 ghost use Rattle.algebra.specs.Element.{Is};
 ghost use Rattle.field.specs.Words.{size, ops, sumSize, sumRoom, termSize};
 ghost use Rattle.circuit.specs.Gate.{gateSize, gate, gates, gateOf};
-ghost use Rattle.circuit.specs.Kind.{Local, Owned, Opens, kindShape, shape, isClass, isGive};
+ghost use Rattle.circuit.specs.Kind.{Local, Owned, Opens, kindShape, shape, isClass, isDivisor, isGive};
 ghost use Rattle.circuit.specs.Count.{unchecked};
 ghost use Rattle.circuit.specs.Round.{Second, Own, Open, Reveal, commitWords, revealWords};
-ghost use Rattle.circuit.specs.Code.{kindOf, classOf, checkOf, roundOf};
+ghost use Rattle.circuit.specs.Code.{kindOf, classOf, roleOf, checkOf, roundOf};
 ghost use Rattle.protocol.specs.Part.{partAt, product};
 ghost use Rattle.protocol.specs.Scratch.{slotsSize};
 ghost use Rattle.protocol.specs.Party.{partyOf, aAt, bAt, cAt};
 ghost use Rattle.protocol.specs.Position.{reach, enter, resume};
 ghost use Rattle.protocol.specs.Send.{shown};
-ghost use Rattle.protocol.specs.Receive.{heardSum, afterInput, putDifferences, afterOpening, afterOpenOutput, score, afterLinear, settle, onward, received, fits, misfit, weighs};
+ghost use Rattle.protocol.specs.Receive.{heardSum, afterInput, putDifferences, afterOpening, afterOpenOutput, score, operand, putLinear, settle, onward, received, fits, misfit, weighs};
 ghost use Rattle.protocol.specs.Holding.{Below, Held, Opened, Reads};
 ghost use Rattle.protocol.specs.Code.{layoutOf, pointOf, blameOf, rulingOf};
 ghost use Rattle.protocol.specs.Ready.{Opening, Settles, Stands, Ready, Receives, Named, Summed};
@@ -228,7 +229,21 @@ pub fn score_at(c: &[Word], prep: &[Word], l: &[Word], y: Layout, j: usize, star
     score_of(l, y, give, &prep[start..])
 }
 
-// Gate j, of a local kind, which names x and z and has the constant k.
+// What gate j is worked out with, where its constant is for that: a divisor's inverse, and otherwise the constant.
+pub fn operand_at(c: &[Word], j: usize, role: Role) -> Word
+    requires { ⌜ (gateSize * j + gateSize ≤ length (now c))
+        × (roleOf role ≡ shape (gate (now c) j) .constant)
+        × (isDivisor (shape (gate (now c) j) .constant) ≡ true → gate (now c) j .constant < size) ⌝ }
+    ensures { λ r. ⌜ r ≡ operand ops (shape (gate (now (c .entry)) j) .constant) (gate (now (c .entry)) j .constant) ⌝ }
+{
+    let k = gates::reading::constant_at(c, j);
+    if circuit::shapes::is_divisor(role) {
+        return field::inverse(k);
+    }
+    k
+}
+
+// Gate j, of a local kind, which names x and z and is worked out with k.
 pub fn after_linear(
     me: usize,
     key: Word,
@@ -245,7 +260,7 @@ pub fn after_linear(
         × (j < y .gates)
         × (isClass Local (kindShape (kindOf kind) .class) ≡ true)
         × Reads size (layoutOf y) (now l) (gateOf (kindOf kind) x z k) ⌝ }
-    ensures { λ r. ⌜ now (l .exit) ≡ afterLinear ops me key (layoutOf y) (now (l .entry)) j (gateOf (kindOf kind) x z k) ⌝ }
+    ensures { λ r. ⌜ now (l .exit) ≡ putLinear ops me key (layoutOf y) (now (l .entry)) j (kindOf kind) x z k ⌝ }
 {
     match kind {
         Kind::In => {}
@@ -269,6 +284,10 @@ pub fn after_linear(
         Kind::Out => {}
         Kind::Sq => {}
         Kind::Give => {}
+        Kind::Over => {
+            let w = parts::times(k, scratch::wire_at(l, y, x));
+            scratch::put_wire(l, y, j, w);
+        }
     }
 }
 
@@ -297,7 +316,9 @@ pub fn settle(me: usize, key: Word, c: &[Word], y: Layout, l: &mut [Word], from:
         let kind = gates::reading::kind_at(c, j);
         let x = gates::reading::first_at(c, j);
         let z = gates::reading::second_at(c, j);
-        let k = gates::reading::constant_at(c, j);
+        let s = circuit::shapes::shape_of(kind);
+        let role = s.constant;
+        let k = operand_at(c, j, role);
         after_linear(me, key, y, l, j, kind, x, z, k);
         j += 1;
     }

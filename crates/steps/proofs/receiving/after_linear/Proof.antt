@@ -3,7 +3,7 @@
 use borrow.Author.Needs.{needs}
 use Rattle.circuit.proofs.Tests.{false-no}
 use Rattle.circuit.specs.Kind.{kindShape, isClass}
-use Rattle.protocol.specs.Receive.{linear, afterLinear}
+use Rattle.protocol.specs.Receive.{linear, putLinear}
 use Rattle.steps.proofs.receiving.after_linear.Statement.{statement}
 use Rattle.steps.proofs.receiving.after_linear.Tie as tie
 
@@ -57,24 +57,35 @@ times-requires c κs = (rw (c .before .before .enum-told5 .given .1) at (c .befo
 put-wire-requires-4 : tie.Need-put-wire-requires-4
 put-wire-requires-4 c κs = search needs
 
+wire-at-requires-7 : tie.Need-wire-at-requires-7
+unfolding kindShape
+wire-at-requires-7 c κs = (c .before .before .before .before .pre .1, rw (c .before .enum-told10 .given .1) at (c .before .before .before .before .pre .4 .first))
+
+times-requires-2 : tie.Need-times-requires-2
+unfolding kindShape
+times-requires-2 c κs = (rw (c .before .before .enum-told10 .given .1) at (c .before .before .before .before .before .pre .4 .constant), c .wire-at7 .ensures .low)
+
+put-wire-requires-5 : tie.Need-put-wire-requires-5
+put-wire-requires-5 c κs = search needs
+
 returns : tie.Need-returns
 unfolding kindShape isClass
 returns c = false-no (rw (c .enum-told .given .1) at (c .before .before .before .pre .3))
 
 returns-2 : tie.Need-returns-2
-unfolding afterLinear linear
+unfolding putLinear linear
 returns-2 c = rw (c .before .before .before .before .before .before .before .before .before .enum-told2 .given .1) (cc)
 
 returns-3 : tie.Need-returns-3
-unfolding afterLinear linear
+unfolding putLinear linear
 returns-3 c = rw (c .before .before .before .before .before .before .before .before .before .enum-told3 .given .1) (cc)
 
 returns-4 : tie.Need-returns-4
-unfolding afterLinear linear
+unfolding putLinear linear
 returns-4 c = rw (c .before .before .before .before .before .before .before .enum-told4 .given .1) (cc)
 
 returns-5 : tie.Need-returns-5
-unfolding afterLinear linear
+unfolding putLinear linear
 returns-5 c = rw (c .before .before .before .before .before .before .before .enum-told5 .given .1) (cc)
 
 returns-6 : tie.Need-returns-6
@@ -93,11 +104,15 @@ returns-9 : tie.Need-returns-9
 unfolding kindShape isClass
 returns-9 c = false-no (rw (c .enum-told9 .given .1) at (c .before .before .before .pre .3))
 
+returns-10 : tie.Need-returns-10
+unfolding putLinear linear
+returns-10 c = rw (c .before .before .before .before .before .before .before .enum-told10 .given .1) (cc)
+
 pub after-linear-spec : {M : Type 1} → statement M
 after-linear-spec =
     tie.close
     (tie.spec (λ c. search needs) (λ c. search needs) wire-at-requires wire-at-requires-2 add-requires put-wire-requires (λ c. search needs)
     wire-at-requires-3 wire-at-requires-4 sub-requires put-wire-requires-2 (λ c. search needs) wire-at-requires-5 shifted-requires
-    put-wire-requires-3 (λ c. search needs) wire-at-requires-6 times-requires put-wire-requires-4 (λ c. search needs) (λ c. search needs) (λ c. search needs) (λ c. search needs)
-    returns (λ c. search needs) returns-2 (λ c. search needs) returns-3 (λ c. search needs) returns-4 (λ c. search needs) returns-5 returns-6
-    returns-7 returns-8 returns-9)
+    put-wire-requires-3 (λ c. search needs) wire-at-requires-6 times-requires put-wire-requires-4 (λ c. search needs) (λ c. search needs) (λ c. search needs) (λ c. search needs) (λ c. search needs)
+    wire-at-requires-7 times-requires-2 put-wire-requires-5 returns (λ c. search needs) returns-2 (λ c. search needs) returns-3 (λ c. search needs)
+    returns-4 (λ c. search needs) returns-5 returns-6 returns-7 returns-8 returns-9 (λ c. search needs) returns-10)
