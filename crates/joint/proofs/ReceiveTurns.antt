@@ -10,19 +10,19 @@ use lib.Seq.{drop-at}
 use Rattle.field.specs.Words.{size, ops}
 use Rattle.field.proofs.Laws.{laws}
 use Rattle.circuit.specs.Gate.{gateSize, Gate, gate}
-use Rattle.circuit.specs.Kind.{Owned, Opens, maskSize, shape, isLinear, isGive}
+use Rattle.circuit.specs.Kind.{Owned, Opens, maskSize, shape, isLinear, isDivisor, isGive}
 use Rattle.circuit.specs.Count.{unchecked}
 use Rattle.circuit.specs.Round.{First, Second, Round, Own, Open, Reveal, nonceSize}
 use Rattle.circuit.proofs.KindLaws.{owned-facts, opens-facts, give-prep}
 use Rattle.protocol.specs.Position.{reach}
 use Rattle.protocol.specs.Send.{shown}
-use Rattle.protocol.specs.Receive.{afterInput, afterOpening, afterOpenOutput, afterLinear, settle}
+use Rattle.protocol.specs.Receive.{afterInput, afterOpening, afterOpenOutput, putLinear, settle}
 use Rattle.protocol.specs.Holding.{Held, Reads}
 use Rattle.protocol.specs.Code.{layoutOf}
 use Rattle.protocol.specs.Ready.{Opening, Settles, Receives, heardFirst, Named, Summed}
 use Rattle.protocol.proofs.Slots.{length-put, length-opened}
-use Rattle.protocol.proofs.Lengths.{length-differences, length-afterLinear}
-use Rattle.protocol.proofs.Settling.{Settling, Reaching, settling-start, settling-asks, settling-again, settling-end, reaching-start, reaching-again, reaching-stop, reaching-done}
+use Rattle.protocol.proofs.Lengths.{length-differences, length-putLinear}
+use Rattle.protocol.proofs.Settling.{Settling, Reaching, operated, put-operated, divisor-low, settling-start, settling-asks, settling-again, settling-end, reaching-start, reaching-again, reaching-stop, reaching-done}
 use Rattle.protocol.proofs.Readiness.{within-there, input-settles, opening-asks, opening-settles, output-settles}
 use Rattle.protocol.proofs.Received as R
 use Rattle.sha256.specs.Sha256.{wordsOf}
@@ -51,9 +51,10 @@ outputLeft f preps l at x give e i =
     afterOpenOutput ops (layoutOf (f .layout)) (band (f .scratch) l i)
     (shown ops (layoutOf (f .layout)) (band (f .scratch) l i) give x (prepFrom f preps at i)) e
 
--- .. at linear gate j, which is g ..
+-- .. at linear gate j, which is g with what it is worked out with as its constant ..
 abbrev pub linearLeft : Frame → List ℕ → List ℕ → ℕ → Gate → ℕ → List ℕ
-linearLeft f preps l j g i = afterLinear ops i (keyIn f preps i) (layoutOf (f .layout)) (band (f .scratch) l i) j g
+linearLeft f preps l j g i =
+    putLinear ops i (keyIn f preps i) (layoutOf (f .layout)) (band (f .scratch) l i) j (g .kind) (g .first) (g .second) (g .constant)
 
 -- .. where its nonce is noted, and where the marks of all are ..
 abbrev pub nonceLeft : Frame → List ℕ → List ℕ → ℕ → List ℕ
@@ -82,7 +83,7 @@ module _ {f : Frame} {l : List ℕ} (b : Banded f l) where
   output-each preps at x give e i h = length-opened (layoutOf (f .layout)) (band (f .scratch) l i) 0 e _ ∙ band-long b i h
 
   pub linear-each : (preps : List ℕ) (j : ℕ) (g : Gate) (i : ℕ) → i < f .parties → length (linearLeft f preps l j g i) ≡ f .scratch
-  linear-each preps j g i h = length-afterLinear ops i (keyIn f preps i) (layoutOf (f .layout)) (band (f .scratch) l i) j g ∙ band-long b i h
+  linear-each preps j g i h = length-putLinear ops i (keyIn f preps i) (layoutOf (f .layout)) (band (f .scratch) l i) j (g .kind) (g .first) (g .second) (g .constant) ∙ band-long b i h
 
   pub nonce-each : (nonces : List ℕ) (i : ℕ) → i < f .parties → length (nonceLeft f l nonces i) ≡ f .scratch
   nonce-each nonces i h = nonce-length (layoutOf (f .layout)) (band (f .scratch) l i) _ ∙ band-long b i h
@@ -148,15 +149,20 @@ module _ (f : Frame) (c preps : List ℕ) (a : ℕ) (l₀ : List ℕ) (b : Bande
       unfolding layoutOf
       all-there = omega (arith, s 0 some .valid .whole, s 0 some .count)
 
-      -- .. and is the stop unless it is linear
+      -- .. its divisor is an element ..
+      pub all-low : isDivisor (shape (gate c j) .constant) ≡ true → gate c j .constant < size
+      unfolding layoutOf
+      all-low = divisor-low (s 0 some .valid .each j (omega (arith, s 0 some .count)))
+
+      -- .. and it is the stop unless it is linear
       pub all-stop : isLinear (gate c j) ≡ false → j ≡ reach c (f .layout .gates - a) a
       all-stop = reaching-stop c (f .layout .gates) a j (inv .reaching) h
 
-      module _ (linear : isLinear (gate c j) ≡ true) {g : Gate} (eg : g ≡ gate c j) where
+      module _ (linear : isLinear (gate c j) ≡ true) {g : Gate} (eg : g ≡ operated ops (gate c j)) where
         pub all-reads : EachBand f l (λ i k. Reads size (layoutOf (f .layout)) k g)
         unfolding layoutOf
         all-reads i k =
-            settling-asks c (layoutOf (f .layout)) i (keyIn f preps i) a (band (f .scratch) l₀ i) j (band (f .scratch) l i) (inv .each i k) (s i k) h eg .1
+            settling-asks c (layoutOf (f .layout)) i (keyIn f preps i) a (band (f .scratch) l₀ i) j (band (f .scratch) l i) (inv .each i k) laws (s i k) h eg .1
 
         pub all-again : {l₁ : List ℕ} → l₁ ≡ rebanded f (linearLeft f preps l j g) l → SettlingAll f c preps a l₀ (j + 1) l₁
         unfolding layoutOf
@@ -169,7 +175,7 @@ module _ (f : Frame) (c preps : List ℕ) (a : ℕ) (l₀ : List ℕ) (b : Bande
               each = λ i k.
                   settling-again c (layoutOf (f .layout)) i (keyIn f preps i) a (band (f .scratch) l₀ i) j (band (f .scratch) l i) (inv .each i k) laws
                   (s i k .room) h linear
-                  (reband-band (inv .banded) (linearLeft f preps l j g) each d i k ∙ ap (λ (z : Gate). linearLeft f preps l j z i) eg);
+                  (reband-band (inv .banded) (linearLeft f preps l j g) each d i k ∙ put-operated ops i (keyIn f preps i) (layoutOf (f .layout)) (band (f .scratch) l i) j (gate c j) eg);
               reaching = reaching-again c (f .layout .gates) a j (inv .reaching) h linear;
             }
 

@@ -14,7 +14,7 @@ ghost use Rattle.circuit.specs.Round.{commitWords};
 ghost use Rattle.circuit.specs.Code.{kindOf};
 ghost use Rattle.protocol.specs.Position.{reach};
 ghost use Rattle.protocol.specs.Send.{shown};
-ghost use Rattle.protocol.specs.Receive.{afterInput, afterOpening, afterOpenOutput, score, afterLinear, settle};
+ghost use Rattle.protocol.specs.Receive.{afterInput, afterOpening, afterOpenOutput, score, putLinear, settle};
 ghost use Rattle.protocol.specs.Holding.{Held, Opened, Reads};
 ghost use Rattle.protocol.specs.Code.{layoutOf};
 ghost use Rattle.protocol.specs.Ready.{Opening};
@@ -174,7 +174,7 @@ pub fn receive_marks(f: Frame, scratch: &mut [Word], marks: &[Word])
     }
 }
 
-// Gate j, of a local kind, which names x and z and has the constant k.
+// Gate j, of a local kind, which names x and z and is worked out with k.
 fn settle_gate(
     f: Frame,
     j: usize,
@@ -191,7 +191,7 @@ fn settle_gate(
         × (isClass Local (kindShape (kindOf kind) .class) ≡ true)
         × EachBand f (now scratch) (λ i l. Reads size (layoutOf (f .layout)) l (gateOf (kindOf kind) x z k)) ⌝ }
     ensures { λ r. ⌜ now (scratch .exit)
-        ≡ rebanded f (λ i. afterLinear ops i (keyIn f (now (preps .entry)) i) (layoutOf (f .layout)) (band (f .scratch) (now (scratch .entry)) i) j (gateOf (kindOf kind) x z k)) (now (scratch .entry)) ⌝ }
+        ≡ rebanded f (λ i. putLinear ops i (keyIn f (now (preps .entry)) i) (layoutOf (f .layout)) (band (f .scratch) (now (scratch .entry)) i) j (kindOf kind) x z k) (now (scratch .entry)) ⌝ }
 {
     let mut start = 0;
     let mut i = 0;
@@ -214,7 +214,8 @@ fn settle_gate(
     }
 }
 
-// The linear gates from gate from on, up to the stop that they reach, which is returned: each gate is read once, and then done for each party.
+// The linear gates from gate from on, up to the stop that they reach, which is returned: each gate is read and what it is
+// worked out with is found once, and then it is done for each party.
 pub fn settle(f: Frame, c: &[Word], from: usize, preps: &[Word], scratch: &mut [Word]) -> usize
     requires { ⌜ SettlesAll f (now c) (now preps) (now scratch) from ⌝ }
     ensures { λ r. ⌜ (r ≡ reach (now (c .entry)) (f .layout .gates - from) from)
@@ -230,7 +231,8 @@ pub fn settle(f: Frame, c: &[Word], from: usize, preps: &[Word], scratch: &mut [
         }
         let x = gates::reading::first_at(c, j);
         let z = gates::reading::second_at(c, j);
-        let k = gates::reading::constant_at(c, j);
+        let role = g.constant;
+        let k = steps::receiving::operand_at(c, j, role);
         settle_gate(f, j, kind, x, z, k, preps, scratch);
         j += 1;
     }

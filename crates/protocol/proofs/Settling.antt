@@ -259,10 +259,10 @@ module _ {O : Ops} (c : List ℕ) (y : Layout) (i key b : ℕ) (l₀ : List ℕ)
         → {g : Gate}
         → g ≡ operated O (gate c j)
         → (slotsSize y ≤ length l) × Reads (O .size) y l g
-    settling-asks F s h e =
-        ( rw (inv .len) (s .room)
-        , rw e (reads-operand F y l (gate c j) (reads (s .parties) (O .size) c j y l (s .valid .each j (omega (arith, s .count))) (inv .worked)))
-        )
+    settling-asks F s h e = (
+      rw (inv .len) (s .room),
+      rw e (reads-operand F y l (gate c j) (reads (s .parties) (O .size) c j y l (s .valid .each j (omega (arith, s .count))) (inv .worked))),
+    )
 
     pub settling-again : Field O
         → slotsSize y ≤ length l₀
