@@ -24,7 +24,7 @@ use Rattle.circuit.proofs.Tests.{by-cases}
 use Rattle.protocol.specs.Scratch.{Layout, layout, Value, slotsSize, read, putOpened, band}
 use Rattle.protocol.specs.Party.{key}
 use Rattle.protocol.specs.Send.{noted}
-use Rattle.protocol.specs.Receive.{afterInput, putDifferences, afterOpening, afterOpenOutput, afterLinear, settle, onward, ownReceived, received, left}
+use Rattle.protocol.specs.Receive.{afterInput, putDifferences, afterOpening, afterOpenOutput, putLinear, afterLinear, settle, onward, ownReceived, received, left}
 use Rattle.protocol.specs.Code.{layoutOf}
 use Rattle.protocol.specs.Joint.{Joint, party}
 use Rattle.protocol.specs.Run.{said, notes, step}
@@ -65,7 +65,7 @@ module _ (O : Ops) (y : Layout) {t : ℕ} (w : t < y .capacity) where
   settle-value i key c zero j l h = refl
   settle-value i key c (suc left) j l h =
       go (isLinear (gate c j))
-      (settle-value i key c left (suc j) (afterLinear O i key y l j (gate c j)) (omega arith) ∙ (unfold afterLinear in value-put y l j t _ (omega arith) w))
+      (settle-value i key c left (suc j) (afterLinear O i key y l j (gate c j)) (omega arith) ∙ (unfold afterLinear putLinear in value-put y l j t _ (omega arith) w))
     where
       go : (b : Bool) → read y (settle O i key c y left (suc j) (afterLinear O i key y l j (gate c j))) (Value t) ≡ read y l (Value t)
           → read y (cond b (settle O i key c y left (suc j) (afterLinear O i key y l j (gate c j))) l) (Value t) ≡ read y l (Value t)
