@@ -31,7 +31,7 @@ use Rattle.protocol.specs.Plain.{kindValue, plainInput, value}
 use Rattle.protocol.specs.Good.{recordAt, wholeKey, shareSum, macSum, Authentic, GoodRecord, GoodMask, GoodTriple}
 use Rattle.theorems.proofs.Course.{course, course-is, strong}
 use Rattle.theorems.proofs.Given.{Given}
-use Rattle.theorems.proofs.KindValues.{local-computes, local-second, owned-value, opens-value}
+use Rattle.theorems.proofs.KindValues.{operandOf, local-computes, local-second, owned-value, opens-value}
 use Rattle.theorems.proofs.Values.{value-is}
 
 -- what all parties open: wire x less what stands at k in the record of gate j; or wire x itself
@@ -183,7 +183,7 @@ module _ (O : Ops) (J : Joint) where
 
   -- each party's part of gate j, which is g, where w gives the parts of the gates that it names
   unfoldable pub wireBy : ℕ → (ℕ → ℕ → Part) → Gate → Class → ℕ → Part
-  wireBy j w g Local = λ i. linear O i (keys i) (g .kind) (w (g .first) i) (w (g .second) i) (g .constant)
+  wireBy j w g Local = λ i. linear O i (keys i) (g .kind) (w (g .first) i) (w (g .second) i) (operandOf O g)
   wireBy j w g Owned = λ i. shift O i (keys i) (prepared j maskAt i) (ownerWord j (g .first))
   wireBy j w g Opens = multiplied j (shape g .openings) (w (g .first)) (w (factor g))
   wireBy j w g Output = λ i. record { share = 0; mac = 0 }
@@ -213,7 +213,7 @@ module _ (O : Ops) (J : Joint) where
     unfolding wireBy
     wire-local Local k f h e =
         let g = gate (J .circuit) j in
-        ap₂ {C = ℕ → Part} (λ (v w : ℕ → Part) i. linear O i (keys i) (g .kind) (v i) (w i) (g .constant))
+        ap₂ {C = ℕ → Part} (λ (v w : ℕ → Part) i. linear O i (keys i) (g .kind) (v i) (w i) (operandOf O g))
         (e (g .first) (local-named ok j l k .earlier)) (e (g .second) (local-second F ok j l k .earlier))
     wire-local Owned k f h e = refl
     wire-local Opens k f h e =
@@ -309,7 +309,7 @@ module _ {O : Ops} (F : Field O) (J : Joint) (has : Given O J) where
       → ((x : ℕ) → Ref (J .circuit) j x → Carrying (wires O J x) (value O J x))
       → Carrying (wireBy O J j (wires O J) (gate (J .circuit) j) k)
       (kindValue O (gate (J .circuit) j .kind) (plainInput O J j) (value O J (gate (J .circuit) j .first)) (value O J (gate (J .circuit) j .second))
-      (gate (J .circuit) j .constant))
+      (operandOf O (gate (J .circuit) j)))
   unfolding wireBy
   accurate-gate j l Local e h earlier =
       let g = gate (J .circuit) j in
@@ -328,7 +328,7 @@ module _ {O : Ops} (F : Field O) (J : Joint) (has : Given O J) where
           ap (λ (w : ℕ). add w (ownerWord O J j (gate (J .circuit) j .first))) (sym (whole-mask j l good)) ∙ add-comm _ _ ∙ sub-add F _ _ ∙ has .inputs j
   accurate-gate j l Opens e h earlier =
       let g = gate (J .circuit) j in
-      rw (opens-value F g e (plainInput O J j) (value O J))
+      rw (opens-value F g e (plainInput O J j) (operandOf O g) (value O J))
       (carries-multiplied j (shape g .openings) (triple j l e) _ _ _ _ (earlier (g .first) (opens-named (has .valid) j l e))
       (earlier (factor g) (factor-named (has .valid) j l e)))
   accurate-gate j l Output e h earlier = let no : isOut (gate (J .circuit) j) ≡ true = class-is e in false-no (rw no at h)

@@ -25,13 +25,13 @@ use Rattle.protocol.specs.Scratch.{layout, slotsSize, Share, Mac, Value, ValueM
 use Rattle.protocol.specs.Position.{reach}
 use Rattle.protocol.specs.Party.{recordOf, maskAt, aAt, bAt, cAt}
 use Rattle.protocol.specs.Send as Send
-use Rattle.protocol.specs.Receive.{afterInput, putDifferences, afterOpening, afterOpenOutput, linear, afterLinear, settle}
+use Rattle.protocol.specs.Receive.{afterInput, putDifferences, afterOpening, afterOpenOutput, linear, putLinear, afterLinear, settle}
 use Rattle.protocol.specs.Joint.{Joint, party}
 use Rattle.protocol.proofs.Tails.{SameSlots}
 use Rattle.protocol.proofs.Slots.{length-put, length-opened, wire-put-same, wire-put-other, value-put}
 use Rattle.protocol.proofs.Slots.{value-mac-put, wire-opened}
 use Rattle.protocol.proofs.Slots.{value-opened-same, value-mac-opened-same, value-opened-other, value-mac-opened-other}
-use Rattle.theorems.proofs.KindValues.{local-second}
+use Rattle.theorems.proofs.KindValues.{operandOf, local-second}
 use Rattle.theorems.proofs.Closed.{Opening, Masked, Shown, shows, differences, openings, length-openings, openings-local, openings-owned, openings-opens}
 use Rattle.theorems.proofs.Closed.{keys, prepared, ownerWord, masked, sumOf, multiplied, wireBy, wires, opened, wires-are}
 
@@ -255,11 +255,11 @@ module _ (O : Ops) (J : Joint) where
     -- A gate that needs no round is worked out.
     holds-linear : Holds i j (openings (J .circuit) j) l → shape (gate (J .circuit) j) .class ≡ Local
         → Holds i (suc j) (openings (J .circuit) (suc j)) (afterLinear O i (keys O J i) (layout (J .circuit)) l j (gate (J .circuit) j))
-    unfolding afterLinear
+    unfolding afterLinear putLinear
     holds-linear h k =
         rw (openings-local (J .circuit) j k)
         (holds-wire _ h lt
-        (ap₂ (λ (x z : Part). linear O i (keys O J i) (gate (J .circuit) j .kind) x z (gate (J .circuit) j .constant))
+        (ap₂ (λ (x z : Part). linear O i (keys O J i) (gate (J .circuit) j .kind) x z (operandOf O (gate (J .circuit) j)))
         (own-shown _ h (local-named ok j lt k)) (own-shown _ h (local-second F ok j lt k))
         ∙ (unfold wireBy opened in ap (λ (w : ℕ → Part). w i) (sym (wires-are O J F ok j lt k)))))
 

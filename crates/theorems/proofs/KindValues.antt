@@ -10,16 +10,20 @@ use lib.Dec.{eqb}
 use Rattle.algebra.specs.Ops.{Ops}
 use Rattle.algebra.specs.Field.{Field}
 use Rattle.algebra.proofs.Ring.{norm-sub}
-use Rattle.circuit.specs.Gate.{Kind, In, Add, Sub, Plus, Times, Mul, Out, Sq, Give, Gate, gate, gates}
+use Rattle.circuit.specs.Gate.{Kind, In, Add, Sub, Plus, Times, Mul, Out, Sq, Give, Over, Gate, gate, gates}
 use Rattle.circuit.specs.Kind.{Class, Local, Owned, Opens, Output, Wire, Unused, kindShape, shape, factor}
 use Rattle.circuit.specs.Valid.{Ref, Valid}
 use Rattle.circuit.proofs.Tests.{by-cases}
 use Rattle.circuit.proofs.KindLaws.{owned-no-out}
 use Rattle.circuit.proofs.Gates.{gate-zero, second-fits, local-named}
 use Rattle.protocol.specs.Part.{Part, plus, minus, scale, shift}
-use Rattle.protocol.specs.Receive.{linear}
+use Rattle.protocol.specs.Receive.{operand, linear}
 use Rattle.protocol.specs.Plain.{kindValue}
 use Rattle.protocol.proofs.Wires.{Carries, carries-plus, carries-minus, carries-scale, carries-shift}
+
+-- what gate g is worked out with
+abbrev pub operandOf : Ops → Gate → ℕ
+operandOf O g = operand O (shape g .constant) (g .constant)
 
 module _ {O : Ops} (F : Field O) where
   open Ops O using (norm, mul)
@@ -42,6 +46,10 @@ module _ {O : Ops} (F : Field O) where
   Computes Owned k = (input x z constant : ℕ) → kindValue O k input x z constant ≡ input
   Computes Opens k = (input x z constant : ℕ) → kindValue O k input x z constant ≡ mul x (cond (eqb (kindShape k .openings) 2) z x)
   Computes Output k = (input x z constant : ℕ) → kindValue O k input x z constant ≡ 0
+
+  -- times and over multiply
+  carries-multiple : (n : ℕ) (key : ℕ → ℕ) (x : ℕ → Part) (u k : ℕ) → Carries F n key x u → Carries F n key (λ i. scale O k (x i)) (mul u k)
+  carries-multiple n key x u k p = rw (mul-comm u k) (carries-scale F n key k x u p)
 
   computes : (k : Kind) → Computes (kindShape k .class) k
   unfolding kindShape kindValue linear plus minus scale shift
@@ -67,13 +75,19 @@ module _ {O : Ops} (F : Field O) where
   computes Times =
       record {
         second = inr refl;
-        carries = λ n key x z u v input k some p q. rw (mul-comm u k) (carries-scale F n key k x u p);
+        carries = λ n key x z u v input k some p q. carries-multiple n key x u k p;
         low = λ i key x z k. norm-mul _ _;
       }
   computes Mul = λ input x z k. refl
   computes Out = λ input x z k. refl
   computes Sq = λ input x z k. refl
   computes Give = λ input x z k. refl
+  computes Over =
+      record {
+        second = inr refl;
+        carries = λ n key x z u v input k some p q. carries-multiple n key x u k p;
+        low = λ i key x z k. norm-mul _ _;
+      }
 
   module _ (g : Gate) where
     gate-computes : {k : Class} → shape g .class ≡ k → Computes k (g .kind)
@@ -82,19 +96,19 @@ module _ {O : Ops} (F : Field O) where
     pub local-computes : shape g .class ≡ Local → Linear (g .kind)
     local-computes = gate-computes
 
-    pub owned-value : shape g .class ≡ Owned → (input x z : ℕ) → kindValue O (g .kind) input x z (g .constant) ≡ input
-    owned-value e input x z = let f : Computes Owned (g .kind) = gate-computes e in f input x z (g .constant)
+    pub owned-value : shape g .class ≡ Owned → (input x z k : ℕ) → kindValue O (g .kind) input x z k ≡ input
+    owned-value = gate-computes
 
-    pub output-value : shape g .class ≡ Output → (input x z : ℕ) → kindValue O (g .kind) input x z (g .constant) ≡ 0
-    output-value e input x z = let f : Computes Output (g .kind) = gate-computes e in f input x z (g .constant)
+    pub output-value : shape g .class ≡ Output → (input x z k : ℕ) → kindValue O (g .kind) input x z k ≡ 0
+    output-value = gate-computes
 
     -- a gate that opens values is the product of its first and of its second factor
-    pub opens-value : shape g .class ≡ Opens → (input : ℕ) (v : ℕ → ℕ)
-        → kindValue O (g .kind) input (v (g .first)) (v (g .second)) (g .constant) ≡ mul (v (g .first)) (v (factor g))
+    pub opens-value : shape g .class ≡ Opens → (input k : ℕ) (v : ℕ → ℕ)
+        → kindValue O (g .kind) input (v (g .first)) (v (g .second)) k ≡ mul (v (g .first)) (v (factor g))
     unfolding factor
-    opens-value e input v =
+    opens-value e input k v =
         let f : Computes Opens (g .kind) = gate-computes e in
-        let p = f input (v (g .first)) (v (g .second)) (g .constant) in
+        let p = f input (v (g .first)) (v (g .second)) k in
         by-cases (eqb (shape g .openings) 2) (λ h. rw h (rw h at p)) (λ h. rw h (rw h at p))
 
 -- What a gate that needs no round names second is there too: where it is unused it is 0, and gate 0 is an input.

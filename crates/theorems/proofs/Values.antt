@@ -12,14 +12,14 @@ use Rattle.circuit.proofs.Gates.{local-named, opens-named, factor-named}
 use Rattle.protocol.specs.Joint.{Joint}
 use Rattle.protocol.specs.Plain.{kindValue, valueOf, plainInput, values, value}
 use Rattle.theorems.proofs.Course.{before, before-at, course}
-use Rattle.theorems.proofs.KindValues.{local-second, owned-value, output-value, opens-value}
+use Rattle.theorems.proofs.KindValues.{operandOf, local-second, owned-value, output-value, opens-value}
 
 module _ {O : Ops} (F : Field O) (J : Joint) where
   -- how value j is made of the values before it
   valueStep : ℕ → (ℕ → ℕ) → ℕ
   valueStep j v =
       let g = gate (J .circuit) j in
-      kindValue O (g .kind) (plainInput O J j) (v (g .first)) (v (g .second)) (g .constant)
+      kindValue O (g .kind) (plainInput O J j) (v (g .first)) (v (g .second)) (operandOf O g)
 
   -- The list of values is that of the recursion on all earlier gates.
   values-are : (j : ℕ) → values O J j ≡ before 0 valueStep j
@@ -42,22 +42,22 @@ module _ {O : Ops} (F : Field O) (J : Joint) where
         g = gate (J .circuit) j
 
         go : (k : Class) → shape g .class ≡ k
-            → kindValue O (g .kind) (plainInput O J j) (f (g .first)) (f (g .second)) (g .constant)
-            ≡ kindValue O (g .kind) (plainInput O J j) (h (g .first)) (h (g .second)) (g .constant)
+            → kindValue O (g .kind) (plainInput O J j) (f (g .first)) (f (g .second)) (operandOf O g)
+            ≡ kindValue O (g .kind) (plainInput O J j) (h (g .first)) (h (g .second)) (operandOf O g)
         go Local k =
-            ap₂ (λ (x z : ℕ). kindValue O (g .kind) (plainInput O J j) x z (g .constant))
+            ap₂ (λ (x z : ℕ). kindValue O (g .kind) (plainInput O J j) x z (operandOf O g))
             (e (g .first) (local-named ok j l k .earlier)) (e (g .second) (local-second F ok j l k .earlier))
-        go Owned k = owned-value F g k _ _ _ ∙ sym (owned-value F g k _ _ _)
+        go Owned k = owned-value F g k _ _ _ _ ∙ sym (owned-value F g k _ _ _ _)
         go Opens k =
-            opens-value F g k _ f
+            opens-value F g k _ _ f
             ∙ ap₂ (O .mul) (e (g .first) (opens-named ok j l k .earlier)) (e (factor g) (factor-named ok j l k .earlier))
-            ∙ sym (opens-value F g k _ h)
-        go Output k = output-value F g k _ _ _ ∙ sym (output-value F g k _ _ _)
+            ∙ sym (opens-value F g k _ _ h)
+        go Output k = output-value F g k _ _ _ _ ∙ sym (output-value F g k _ _ _ _)
 
     -- Value j is made of the values that gate j names.
     pub value-is : value O J j
         ≡ kindValue O (gate (J .circuit) j .kind) (plainInput O J j) (value O J (gate (J .circuit) j .first)) (value O J (gate (J .circuit) j .second))
-        (gate (J .circuit) j .constant)
+        (operandOf O (gate (J .circuit) j))
     unfolding course valueStep
     value-is =
         value-course j l
