@@ -30,7 +30,7 @@ pub record Written (q : ℕ) (y : Layout) (l : List ℕ) (j : ℕ) (l′ : List 
   pub is : l′ ≡ putWire y l j part
 
 -- what a linear gate works out is of elements
-linear-elements : {O : Ops} (F : Field O) (i key : ℕ) (k : Kind) (x z : Part) (a : ℕ)
+pub linear-elements : {O : Ops} (F : Field O) (i key : ℕ) (k : Kind) (x z : Part) (a : ℕ)
     → isClass Local (kindShape k .class) ≡ true
     → Elements (O .size) (linear O i key k x z a)
 unfolding linear kindShape isClass

@@ -7,7 +7,7 @@ use native.Mathlib.Omega.{arith}
 use lib.ListN.{length, getD, take, drop, length-append, length-drop, List·getD-append}
 use lib.Seq.{length-sets, sets-eq, length-take-le, take-at, drop-at, take-take, take-append-le, drop-append-le, getD-take, take-add}
 use Rattle.circuit.specs.Round.{commitWords, nonceWords}
-use Rattle.protocol.specs.Scratch.{Layout, layout, Slot, Share, Mac, Value, ValueMac, slotsSize, read, writtenAt, nonceAt, marksAt, scratchSize, nonceOf, marksOf, putNonce, putMarks}
+use Rattle.protocol.specs.Scratch.{Layout, layout, Slot, Share, Mac, Value, ValueMac, slotsSize, read, wire, writtenAt, nonceAt, marksAt, scratchSize, nonceOf, marksOf, putNonce, putMarks}
 use Rattle.protocol.specs.Holding.{Within, Worked}
 use Rattle.protocol.proofs.Slots.{slot-fits}
 use Rattle.protocol.proofs.Writing.{OpenedTo}
@@ -131,6 +131,11 @@ module _ (y : Layout) (l : List ℕ) where
 -- the slots of l′ are those of l
 abbrev pub SameSlots : Layout → List ℕ → List ℕ → Type 0
 SameSlots y l l′ = (s : Slot) → Within y s → read y l′ s ≡ read y l s
+
+-- so the parts of all gates are the same
+pub wire-same : (y : Layout) (l l′ : List ℕ) (x : ℕ) → SameSlots y l l′ → x < y .gates → wire y l′ x ≡ wire y l x
+unfolding wire
+wire-same y l l′ x s h = λ i. record { share = s (Share x) h i; mac = s (Mac x) h i }
 
 -- what is asked of slots is asked of both
 pub worked-same : {q : ℕ} (c : List ℕ) {y : Layout} {l l′ : List ℕ} (j : ℕ) → SameSlots y l l′ → Worked q c y l j → Worked q c y l′ j

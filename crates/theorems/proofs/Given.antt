@@ -43,6 +43,10 @@ module _ {O : Ops} (F : Field O) (J : Joint) where
       below-part (J .inputs) (inputCount (J .circuit) i) (inputsAt (J .circuit) i)
       (elements-below 11 (O .size) (J .inputs) (omega (arith, F .one-lt)) (then-right _ _ pass)) (inputAt (J .circuit) i j)
 
+  pub input-normed : InputsPass O (J .circuit) (J .inputs) → (j : ℕ) → O .norm (plainInput O J j) ≡ plainInput O J j
+  unfolding plainInput
+  input-normed pass j = F .norm-of-lt (input-below pass (gate (J .circuit) j .first) j)
+
   -- An accepted circuit on good preprocessing and inputs that pass is what an honest run is given.
   pub given : Accepts O (J .parties) (J .circuit) → Good O (J .parties) (J .circuit) (J .preps) → InputsPass O (J .circuit) (J .inputs)
       → Given O J
@@ -51,7 +55,7 @@ module _ {O : Ops} (F : Field O) (J : Joint) where
         valid = valid (J .parties) (O .size) (J .circuit) (accepts .circuit);
         some = some-party (J .parties) (accepts .parties);
         good = good .records;
-        inputs = λ j. F .norm-of-lt (unfold plainInput in input-below inputs (gate (J .circuit) j .first) j);
+        inputs = input-normed inputs;
       }
 
   -- What the theorems call an honest run is given that too.

@@ -21,13 +21,13 @@ use Rattle.circuit.proofs.Counts.{unchecked-within}
 use Rattle.circuit.proofs.KindLaws.{is-class, opens-facts}
 use Rattle.circuit.proofs.Gates.{local-named, output-named, opens-named, factor-named}
 use Rattle.protocol.specs.Part.{Part, partAt, minus, shift, product}
-use Rattle.protocol.specs.Scratch.{layout, slotsSize, Share, Mac, Value, ValueMac, read, wire, putWire, putOpened}
+use Rattle.protocol.specs.Scratch.{layout, slotsSize, Value, ValueMac, read, wire, putWire, putOpened}
 use Rattle.protocol.specs.Position.{reach}
 use Rattle.protocol.specs.Party.{recordOf, maskAt, aAt, bAt, cAt}
 use Rattle.protocol.specs.Send as Send
 use Rattle.protocol.specs.Receive.{afterInput, putDifferences, afterOpening, afterOpenOutput, linear, putLinear, afterLinear, settle}
 use Rattle.protocol.specs.Joint.{Joint, party}
-use Rattle.protocol.proofs.Tails.{SameSlots}
+use Rattle.protocol.proofs.Tails.{SameSlots, wire-same}
 use Rattle.protocol.proofs.Slots.{length-put, length-opened, wire-put-same, wire-put-other, value-put}
 use Rattle.protocol.proofs.Slots.{value-mac-put, wire-opened}
 use Rattle.protocol.proofs.Slots.{value-opened-same, value-mac-opened-same, value-opened-other, value-mac-opened-other}
@@ -53,18 +53,13 @@ module _ (O : Ops) (J : Joint) where
 
   -- Another scratch with the same slots holds the same.
   pub holds-alike : {i j : ℕ} {os : List Opening} {l l′ : List ℕ} → length l′ ≡ length l → SameSlots (layout (J .circuit)) l l′ → Holds i j os l → Holds i j os l′
-  unfolding wire layout
+  unfolding layout
   holds-alike {i} {j} {os} {l} {l′} same slots h =
       record {
         within = h .within;
         few = h .few;
         long = rw same (h .long);
-        worked =
-            λ x lx v.
-            let low : x < gates (J .circuit) = omega (arith, h .within) in
-            let part : wire (layout (J .circuit)) l′ x ≡ wire (layout (J .circuit)) l x =
-            (λ t. record { share = slots (Share x) low t; mac = slots (Mac x) low t }) in
-            part ∙ h .worked x lx v;
+        worked = λ x lx v. wire-same (layout (J .circuit)) l l′ x slots (omega (arith, h .within)) ∙ h .worked x lx v;
         values = λ t lx. slots (Value t) (omega (arith, h .few)) ∙ h .values t lx;
         macs = λ t lx. slots (ValueMac t) (omega (arith, h .few)) ∙ h .macs t lx;
       }

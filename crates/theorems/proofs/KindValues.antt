@@ -9,7 +9,7 @@ use native.Mathlib.Omega.{arith}
 use lib.Dec.{eqb}
 use Rattle.algebra.specs.Ops.{Ops}
 use Rattle.algebra.specs.Field.{Field}
-use Rattle.algebra.proofs.Ring.{norm-sub}
+use Rattle.algebra.proofs.Ring.{norm-zero, norm-sub}
 use Rattle.circuit.specs.Gate.{Kind, In, Add, Sub, Plus, Times, Mul, Out, Sq, Give, Over, Gate, gate, gates}
 use Rattle.circuit.specs.Kind.{Class, Local, Owned, Opens, Output, Wire, Unused, kindShape, shape, factor}
 use Rattle.circuit.specs.Valid.{Ref, Valid}
@@ -88,6 +88,20 @@ module _ {O : Ops} (F : Field O) where
         carries = λ n key x z u v input k some p q. carries-multiple n key x u k p;
         low = λ i key x z k. norm-mul _ _;
       }
+
+  -- A plain value is an element where the input is.
+  pub value-normed : (k : Kind) (input x z constant : ℕ) → norm input ≡ input → norm (kindValue O k input x z constant) ≡ kindValue O k input x z constant
+  unfolding kindValue
+  value-normed In input x z k e = e
+  value-normed Add input x z k e = norm-add _ _
+  value-normed Sub input x z k e = norm-sub F _ _
+  value-normed Plus input x z k e = norm-add _ _
+  value-normed Times input x z k e = norm-mul _ _
+  value-normed Mul input x z k e = norm-mul _ _
+  value-normed Out input x z k e = norm-zero F
+  value-normed Sq input x z k e = norm-mul _ _
+  value-normed Give input x z k e = norm-zero F
+  value-normed Over input x z k e = norm-mul _ _
 
   module _ (g : Gate) where
     gate-computes : {k : Class} → shape g .class ≡ k → Computes k (g .kind)

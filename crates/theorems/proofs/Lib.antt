@@ -29,6 +29,8 @@ pub mod Squares
 pub mod Gives
 pub mod Calls
 pub mod Standing
+pub mod Made
+pub mod Undone
 pub mod Joined
 pub mod Apart
 pub mod ApartDemands

@@ -4,6 +4,7 @@ pub mod Accuracy
 pub mod Abort
 pub mod Matching
 pub mod Secrecy
+pub mod Undone
 pub mod Example
 pub mod Squares
 pub mod Gives
