@@ -51,21 +51,21 @@ use Rattle.theorems.specs.Apart.{jointly, bands, told, releasedTo, outpu
 use Rattle.theorems.proofs.Calls.{releasesTo, scored-alike, localAt, sends-is, writes-is, receives-is, freed, freed-to, answering, concludes-is}
 use Rattle.theorems.proofs.Calls.{outcome-told, outcome-outputs, outcome-unrefused}
 use Rattle.theorems.proofs.Calls.{outputs-append, unrefused-append}
-use Rattle.theorems.proofs.Sealing.{Over, Course, going, over, going-at, taking, Kept, kept-step, kept-begun, said-long, finds-ends}
+use Rattle.theorems.proofs.Sealing.{Ended, Course, going, over, going-at, taking, Kept, kept-step, kept-begun, said-long, finds-ends}
 use Rattle.theorems.proofs.Abort.{round-names}
 use Rattle.theorems.proofs.Standing.{isSecond, checksOutput, ShownAlike, Sound, stood, stood-noted, handedNonce, handed-long, notes-handed, holds-low, holds-none, sound-step, sound-begun}
 use Rattle.theorems.proofs.Joined.{circuit-valid, circuit-accepted, parties-accepted, scratch-long, party-is, band-is, bands-room}
 use Rattle.theorems.proofs.Runs.{Idle, when-idle, longer, first, last-first, first-longer, first-idle, after-step, after-idle, outputs-step, outputs-idle, listed}
 
 -- An ended run sends nothing.
-over-idle : (g : Stage) → Over g → Idle g
+over-idle : (g : Stage) → Ended g → Idle g
 over-idle (Send r) h = absurd h
 over-idle (Receive r) h = absurd h
 over-idle Finished h = tt
 over-idle Aborted h = tt
 
 -- It receives nothing either.
-over-receives : {A : Type 0} (g : Stage) (x : A) (f : Round → A) → Over g → whenReceiving g x f ≡ x
+over-receives : {A : Type 0} (g : Stage) (x : A) (f : Round → A) → Ended g → whenReceiving g x f ≡ x
 unfolding whenReceiving
 over-receives (Send r) x f h = absurd h
 over-receives (Receive r) x f h = absurd h
@@ -73,7 +73,7 @@ over-receives Finished x f h = refl
 over-receives Aborted x f h = refl
 
 -- A party whose run has ended calls nothing and writes nothing.
-module _ (O : Ops) (P : Party) (s : Local) (h : Over (s .position .stage)) where
+module _ (O : Ops) (P : Party) (s : Local) (h : Ended (s .position .stage)) where
   sends-over : (coefficients nonce out : List ℕ) → sends O P coefficients nonce out s ≡ s
   unfolding sends
   sends-over coefficients nonce out = when-idle (s .position .stage) s _ (over-idle (s .position .stage) h)
@@ -503,11 +503,11 @@ module _ {O : Ops} (F : Field O) (D : Apart) (cs ns : List ℕ) (ok : Meets O D 
               ∙ ap (λ (R : Run). R .transcript) (sym (first-longer O J (bands D) k r e));
         }
 
-  module _ (k : ℕ) (inv : Inv k) (end : Over (state k .point .stage)) where
+  module _ (k : ℕ) (inv : Inv k) (end : Ended (state k .point .stage)) where
     -- Every party has ended too.
-    ended-at : (i : ℕ) → i < D .parties → Over (apart O D k i .position .stage)
+    ended-at : (i : ℕ) → i < D .parties → Ended (apart O D k i .position .stage)
     unfolding holding
-    ended-at i h = subst Over (sym (ap (λ (x : Position). x .stage) (inv .local i h .position))) end
+    ended-at i h = subst Ended (sym (ap (λ (x : Position). x .stage) (inv .local i h .position))) end
 
     -- It stays as it is.
     resting : (i : ℕ) → i < D .parties → apart O D (suc k) i ≡ apart O D k i

@@ -35,11 +35,11 @@ use Rattle.theorems.specs.Premises.{Enough, after}
 use Rattle.theorems.proofs.Runs.{Idle, after-step, after-idle}
 
 -- a run that has ended
-abbrev pub Over : Stage → Type 0
-Over (Send r) = ⊥
-Over (Receive r) = ⊥
-Over Finished = Unit {0}
-Over Aborted = Unit {0}
+abbrev pub Ended : Stage → Type 0
+Ended (Send r) = ⊥
+Ended (Receive r) = ⊥
+Ended Finished = Unit {0}
+Ended Aborted = Unit {0}
 
 -- how many checks a round begins
 abbrev pub begins : ℕ → Round → ℕ
@@ -63,7 +63,7 @@ module _ (O : Ops) (J : Joint) where
         → s .used ≡ spentStage (J .circuit) taking (s .point .gate) (Send r)
         → s .checks ≡ spentStage (J .circuit) begins (s .point .gate) (Send r)
         → Course s
-    over : Over (s .point .stage) → Course s
+    over : Ended (s .point .stage) → Course s
 
   -- A round that is sent leads on, or the run ends.
   pub course-step : (s : State) (r : Round) → s .point .stage ≡ Send r → FitsStage (J .circuit) (s .point .gate) (Send r)
@@ -101,14 +101,14 @@ module _ (O : Ops) (J : Joint) where
               (subst (λ (y : Point). FitsStage (J .circuit) (y .gate) (Send t)) (sym q) (subst (FitsStage (J .circuit) (x .gate)) z f))
               (spends ∙ moved taking t z) (starts ∙ moved begins t z)
           stage (Receive t) z = absurd (subst (FitsStage (J .circuit) (x .gate)) z f)
-          stage Finished z = over (subst Over (sym (ap (λ (y : Point). y .stage) q ∙ z)) tt)
+          stage Finished z = over (subst Ended (sym (ap (λ (y : Point). y .stage) q ∙ z)) tt)
           stage Aborted z = absurd (subst (FitsStage (J .circuit) (x .gate)) z f)
 
       go : (b : Bool) → passed (ends O J s r) ≡ b → Course (step O J s r)
       go true h = on (follow (J .circuit) at r) (after-passed h) (fits-follow (J .circuit) at r fit) (λ f. spent-follow (J .circuit) f at r fit)
       go false h =
           let q : step O J s r .point ≡ aborted at = (unfold step next in rw h) in
-          over (subst (λ (x : Point). Over (x .stage)) (sym q) (unfold aborted in tt))
+          over (subst (λ (x : Point). Ended (x .stage)) (sym q) (unfold aborted in tt))
 
   -- What follows with a reveal is a commitment.
   pub commits-before : (s : State) (r t : Round) → FitsStage (J .circuit) (s .point .gate) (Send r) → step O J s r .point .stage ≡ Send t → isReveal t ≡ true
@@ -142,7 +142,7 @@ module _ (O : Ops) (J : Joint) where
       use-it (subst (λ (t : Round). FitsStage (J .circuit) (s .point .gate) (Send t)) same fit)
       (used ∙ ap (λ (t : Round). spentStage (J .circuit) taking (s .point .gate) (Send t)) same)
       (checks ∙ ap (λ (t : Round). spentStage (J .circuit) begins (s .point .gate) (Send t)) same)
-  going-at s (over end) r e use-it = absurd (subst Over e end)
+  going-at s (over end) r e use-it = absurd (subst Ended e end)
 
   -- what a run keeps
   pub record Kept (s : State) : Type 0 where
