@@ -27,6 +27,7 @@ pub mod Docket
 pub mod Example
 pub mod Squares
 pub mod Gives
+pub mod Overs
 pub mod Calls
 pub mod Standing
 pub mod Made

@@ -8,6 +8,7 @@ pub mod Undone
 pub mod Example
 pub mod Squares
 pub mod Gives
+pub mod Overs
 pub mod Apart
 pub mod ApartDemands
 pub mod Binding
