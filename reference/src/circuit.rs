@@ -19,13 +19,14 @@ pub const MUL: u32 = 6;
 pub const OUT: u32 = 7;
 pub const SQ: u32 = 8;
 pub const GIVE: u32 = 9;
+pub const OVER: u32 = 10;
 
 /// The least number above 0 that is no kind.
-pub const NO_KIND: u32 = 10;
+pub const NO_KIND: u32 = 11;
 
-/// The names of kinds 1 to 9.
-pub const KIND_NAMES: [&str; 9] = [
-    "in", "add", "sub", "plus", "times", "mul", "out", "sq", "give",
+/// The names of kinds 1 to 10.
+pub const KIND_NAMES: [&str; 10] = [
+    "in", "add", "sub", "plus", "times", "mul", "out", "sq", "give", "over",
 ];
 
 #[derive(Clone, Copy, Debug, PartialEq, Eq)]
@@ -39,6 +40,7 @@ pub enum Gate {
     Output { wire: usize },
     Square { wire: usize },
     Give { wire: usize, receiver: u32 },
+    Over { wire: usize, constant: u32 },
 }
 
 /// What a gate takes from the preprocessing, and what it opens.
@@ -101,7 +103,7 @@ impl Gate {
     }
 }
 
-/// Reads the four numbers of a gate. None if the kind is not 1 to 9.
+/// Reads the four numbers of a gate. None if the kind is not 1 to 10.
 fn decode(line: &[u32]) -> Option<Gate> {
     let &[kind, first, second, constant] = line else {
         return None;
@@ -125,6 +127,10 @@ fn decode(line: &[u32]) -> Option<Gate> {
         GIVE => Some(Gate::Give {
             wire: left,
             receiver: second,
+        }),
+        OVER => Some(Gate::Over {
+            wire: left,
+            constant,
         }),
         _ => None,
     }
@@ -297,6 +303,7 @@ fn ask_gate(parties: u32, circuit: &[u32], index: usize) -> Result<Gate, u32> {
         }
         Gate::Plus { wire, .. }
         | Gate::Times { wire, .. }
+        | Gate::Over { wire, .. }
         | Gate::Output { wire }
         | Gate::Square { wire } => is_wire(wire),
         Gate::Give { wire, receiver } => is_wire(wire) && receiver < parties,
@@ -311,6 +318,8 @@ fn ask_gate(parties: u32, circuit: &[u32], index: usize) -> Result<Gate, u32> {
             last == 0
         }
         Gate::Plus { constant, .. } | Gate::Times { constant, .. } => second == 0 && constant < P,
+        // "Question 6 refuses a constant 0 there."
+        Gate::Over { constant, .. } => second == 0 && (1..P).contains(&constant),
     };
     if fields {
         Ok(gate)

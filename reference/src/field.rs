@@ -51,6 +51,20 @@ pub fn product(x: u32, y: u32) -> u64 {
     u64::from(x) * u64::from(y)
 }
 
+/// The inverse of an element that is not 0, so that the two multiply to 1: by Fermat's theorem its power to `P - 2`. Every bit
+/// of that exponent but one is 1. The power of 0 is 0.
+pub fn inverse(x: u32) -> u32 {
+    let (mut power, mut square, mut exponent) = (1, x, P - 2);
+    while exponent > 0 {
+        if exponent & 1 == 1 {
+            power = mul(power, square);
+        }
+        square = mul(square, square);
+        exponent >>= 1;
+    }
+    power
+}
+
 /// The sum of the numbers. A circuit has at most 8 parties, but the sum is right for up to 2^32 numbers.
 pub fn sum<'a>(numbers: impl IntoIterator<Item = &'a u32>) -> u32 {
     reduce(numbers.into_iter().map(|&x| u64::from(x)).sum())
@@ -97,5 +111,25 @@ mod tests {
         }
         assert_eq!(inner_product(&[P - 1; 600], &[P - 1; 600]), 600);
         assert_eq!(sum(&[P - 1; 8]), P - 8);
+    }
+
+    #[test]
+    fn an_inverse_multiplies_to_1() {
+        for (x, inverted) in [
+            (1, 1),
+            (2, 1_073_741_824),
+            (3, 1_431_655_765),
+            (P - 2, 1_073_741_823),
+            (P - 1, P - 1),
+        ] {
+            assert_eq!(inverse(x), inverted);
+            assert_eq!(inverse(inverted), x);
+        }
+        assert_eq!(inverse(0), 0);
+        let some = (1..P).step_by(21_001);
+        for x in (1..20_000).chain(some).chain(P - 20_000..P) {
+            assert!((1..P).contains(&inverse(x)));
+            assert_eq!(mul(x, inverse(x)), 1);
+        }
     }
 }

@@ -247,7 +247,11 @@ pub fn joint_run(
                 outputs[released] = output;
                 released += 1;
             }
-            Gate::Add { .. } | Gate::Sub { .. } | Gate::Plus { .. } | Gate::Times { .. } => {
+            Gate::Add { .. }
+            | Gate::Sub { .. }
+            | Gate::Plus { .. }
+            | Gate::Times { .. }
+            | Gate::Over { .. } => {
                 for (local, _, band) in run.each() {
                     local.linear(band, index, gate);
                 }

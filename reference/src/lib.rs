@@ -1,5 +1,6 @@
-//! The online phase of SPDZ as document 01 has it, with squares, commitments and gives, written a second time
-//! and independently: a source of test vectors, and a baseline for speed. Circuits are read and written as text too, as sheets.
+//! The online phase of SPDZ as document 01 has it, with squares, commitments, gives and overs, written a
+//! second time and independently: a source of test vectors, and a baseline for speed. Circuits are read and written as text too,
+//! as sheets.
 //!
 //! Names are the field's standard terms: a party is document 01's seat, a gate its line (the gate's
 //! value is a wire), preprocessing its material, coefficients its draws, sending and receiving its
@@ -14,6 +15,7 @@ pub mod field;
 pub mod give;
 pub mod joint;
 mod local;
+pub mod over;
 pub mod party;
 pub mod plain;
 pub mod position;

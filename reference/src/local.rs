@@ -4,7 +4,7 @@
 
 use crate::circuit::{Gate, Layout};
 use crate::commitment::{self, REVEALED, WORDS};
-use crate::field::{add, inner_product, mul, product, reduce, sub};
+use crate::field::{add, inner_product, inverse, mul, product, reduce, sub};
 
 #[derive(Clone, Copy)]
 pub(crate) struct Local {
@@ -173,8 +173,8 @@ impl Local {
     }
 
     /// "Plus adds the constant at seat 0 only and key share x constant to every MAC share. Add, sub
-    /// and times act on share and MAC share alike." False, with nothing written, for a gate that
-    /// needs a round.
+    /// and times act on share and MAC share alike." Over "multiplies share and MAC share alike by the constant's
+    /// inverse". False, with nothing written, for a gate that needs a round.
     pub fn linear(self, scratch: &mut [u32], index: usize, gate: Gate) -> bool {
         let layout = self.layout;
         let share = |wire: usize| scratch[layout.share(wire)];
@@ -192,6 +192,10 @@ impl Local {
             ),
             Gate::Times { wire, constant } => {
                 (mul(share(wire), constant), mul(mac(wire), constant))
+            }
+            Gate::Over { wire, constant } => {
+                let inverse = inverse(constant);
+                (mul(share(wire), inverse), mul(mac(wire), inverse))
             }
             Gate::Input { .. }
             | Gate::Multiply { .. }

@@ -9,8 +9,8 @@ const USAGE: &str = "usage:
     reference docket
     reference coverage SEED COUNT
     reference theorems SEED COUNT
-    reference vectors small|large|square|mark|give|squares-large|products|marks-large|gives-large SEED requests|answers
-    reference vectors sheet|square-sheet|give-sheet|sheets-large SEED requests|answers
+    reference vectors small|large|square|mark|give|over|squares-large|products|marks-large|gives-large|overs-large SEED requests|answers
+    reference vectors sheet|square-sheet|give-sheet|over-sheet|sheets-large SEED requests|answers
     reference vectors SEED coverage
     reference example|rank SEED request|sheet|answer
     reference replay < REQUESTS";

@@ -1,7 +1,7 @@
 //! A circuit's meaning on plain inputs, and the round formula.
 
 use crate::circuit::{self, Gate};
-use crate::field::{add, mul, sub};
+use crate::field::{add, inverse, mul, sub};
 use crate::joint::first_inputs;
 use crate::refusal::Refusal;
 
@@ -24,6 +24,7 @@ pub fn values(parties: u32, circuit: &[u32], inputs: &[u32]) -> Result<Vec<Optio
             Gate::Sub { left, right } => Some(sub(value(left), value(right))),
             Gate::Plus { wire, constant } => Some(add(value(wire), constant)),
             Gate::Times { wire, constant } => Some(mul(value(wire), constant)),
+            Gate::Over { wire, constant } => Some(mul(value(wire), inverse(constant))),
             Gate::Multiply { left, right } => Some(mul(value(left), value(right))),
             Gate::Square { wire } => Some(mul(value(wire), value(wire))),
             Gate::Output { .. } | Gate::Give { .. } => None,

@@ -1,6 +1,6 @@
 //! A deterministic generator, and random circuits that pass questions 3 to 7.
 
-use crate::circuit::{self, ADD, GIVE, IN, MUL, OUT, PLUS, SQ, SUB, TIMES};
+use crate::circuit::{self, ADD, GIVE, IN, MUL, OUT, OVER, PLUS, SQ, SUB, TIMES};
 use crate::field::P;
 use crate::party::Round;
 
@@ -63,6 +63,16 @@ impl Random {
         }
     }
 
+    /// An element that is not 0, often one at an end of the range or one with a short inverse.
+    pub fn divisor(&mut self) -> u32 {
+        match self.below(12) {
+            small @ 1..=3 => small as u32,
+            4 => P - 1,
+            5 => P - 2,
+            _ => self.nonzero(),
+        }
+    }
+
     pub fn pick<T: Copy>(&mut self, list: &[T]) -> T {
         list[self.below(list.len())]
     }
@@ -109,15 +119,18 @@ pub enum Kinds {
     Squares,
     /// 1 to 9.
     Gives,
+    /// 1 to 10.
+    Overs,
 }
 
 impl Kinds {
-    pub const ALL: [Kinds; 3] = [Kinds::Base, Kinds::Squares, Kinds::Gives];
+    pub const ALL: [Kinds; 4] = [Kinds::Base, Kinds::Squares, Kinds::Gives, Kinds::Overs];
 
     pub fn has(self, kind: u32) -> bool {
         match kind {
             SQ => self != Kinds::Base,
-            GIVE => self == Kinds::Gives,
+            GIVE => [Kinds::Gives, Kinds::Overs].contains(&self),
+            OVER => self == Kinds::Overs,
             _ => true,
         }
     }
@@ -133,6 +146,7 @@ impl Kinds {
             Kinds::Base => 10,
             Kinds::Squares => 12,
             Kinds::Gives => 13,
+            Kinds::Overs => 14,
         }
     }
 
@@ -141,13 +155,15 @@ impl Kinds {
             Kinds::Base => 9,
             Kinds::Squares => 11,
             Kinds::Gives => 13,
+            Kinds::Overs => 15,
         };
         match random.below(most) {
             0 | 1 => IN,
             2 | 3 => MUL,
             4 => OUT,
             9 | 10 => SQ,
-            11.. => GIVE,
+            11 | 12 => GIVE,
+            13.. => OVER,
             _ => random.pick(&LINEAR),
         }
     }
@@ -155,7 +171,7 @@ impl Kinds {
     /// A kind for the last gate.
     fn last(self, random: &mut Random) -> u32 {
         match self {
-            Kinds::Gives => random.pick(&[OUT, GIVE]),
+            Kinds::Gives | Kinds::Overs => random.pick(&[OUT, GIVE]),
             _ => OUT,
         }
     }
@@ -182,6 +198,7 @@ pub fn from_kinds(random: &mut Random, parties: u32, kinds: &[u32]) -> Vec<u32> 
             };
             match kind {
                 PLUS | TIMES => [kind, first, 0, random.edge_element()],
+                OVER => [kind, first, 0, random.divisor()],
                 OUT | SQ => [kind, first, 0, 0],
                 GIVE => [kind, first, random.below(parties as usize) as u32, 0],
                 _ => [kind, first, second, 0],
@@ -242,6 +259,9 @@ fn rich(
     if of.has(GIVE) {
         parts[1].push(GIVE);
         ends = [random.pick(&[OUT, GIVE]), OUT, of.last(random)];
+    }
+    if of.has(OVER) {
+        parts[1].push(OVER);
     }
     for _ in of.rich_lines()..lines {
         let part = random.below(parts.len());

@@ -1,7 +1,7 @@
 //! Circuits as text: a sheet has a form on each line, and forms stand within forms.
 //!
-//! A form is `(in S)`, `(add F F)`, `(sub F F)`, `(plus F K)`, `(times F K)`, `(mul F F)`, `(sq F)`, inside another
-//! one `(line J)`, and outermost only `(out F)` and `(give F S)`. A row here is a line of the sheet.
+//! A form is `(in S)`, `(add F F)`, `(sub F F)`, `(plus F K)`, `(times F K)`, `(mul F F)`, `(sq F)`, `(over F K)`,
+//! inside another one `(line J)`, and outermost only `(out F)` and `(give F S)`. A row here is a line of the sheet.
 
 pub mod examples;
 #[cfg(test)]
@@ -9,7 +9,7 @@ mod model;
 #[cfg(test)]
 mod tests;
 
-use crate::circuit::{self, ADD, GIVE, IN, MAX_GATES, MUL, OUT, PLUS, SQ, SUB, TIMES};
+use crate::circuit::{self, ADD, GIVE, IN, MAX_GATES, MUL, OUT, OVER, PLUS, SQ, SUB, TIMES};
 use crate::refusal::{ask, ask_parties, Refusal};
 
 /// The greatest depth of a form; the outermost has depth 1.
@@ -116,7 +116,10 @@ impl Reader<'_> {
     /// The rest of an outermost form, whose bracket has been read.
     fn outermost(&mut self) -> Read<u32> {
         match self.peek() {
-            Some(b'o') => self.word(b"out ").and_then(|()| self.one(OUT, 1)),
+            // What begins with the `o` alone may become either.
+            Some(b'o') if self.text.get(self.at + 1) != Some(&b'v') => {
+                self.word(b"out ").and_then(|()| self.one(OUT, 1))
+            }
             Some(b'g') => self.word(b"give ").and_then(|()| self.give()),
             _ => self.gate(1),
         }
@@ -154,6 +157,7 @@ impl Reader<'_> {
             Some(b't') => self
                 .word(b"times ")
                 .and_then(|()| self.scaled(TIMES, depth)),
+            Some(b'o') => self.word(b"over ").and_then(|()| self.scaled(OVER, depth)),
             _ => Err(BROKEN),
         }
     }
@@ -301,12 +305,13 @@ impl Writer {
             MUL => self.put(b"(mul (line "),
             SQ => self.put(b"(sq (line "),
             GIVE => self.put(b"(give (line "),
+            OVER => self.put(b"(over (line "),
             _ => self.put(b"(out (line "),
         }
         self.number(first);
         match kind {
             IN => self.put(b")\n"),
-            PLUS | TIMES | GIVE => {
+            PLUS | TIMES | OVER | GIVE => {
                 self.put(b") ");
                 self.number(if kind == GIVE { second } else { constant });
                 self.put(b")\n");

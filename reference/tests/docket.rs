@@ -347,7 +347,7 @@ fn at_most_766_rounds() {
         assert_eq!(case.single(|_, _, _| ()), left);
     }
     for _ in 0..200 {
-        let circuit = random::circuit(&mut random, Kinds::Gives, 2, 256);
+        let circuit = random::circuit(&mut random, Kinds::Overs, 2, 256);
         assert!(plain::rounds(&circuit) <= 766);
     }
 }

@@ -133,7 +133,7 @@ fn each_step_of_the_worked_run() {
     }
 }
 
-/// Kind 9 and 10; a first that is this gate, a later one, an out or a give gate; a receiver that is no party; a
+/// Kind 9 and 11; a first that is this gate, a later one, an out or a give gate; a receiver that is no party; a
 /// constant; a give gate at the end or none.
 #[test]
 fn questions_of_the_circuit() {
@@ -142,7 +142,7 @@ fn questions_of_the_circuit() {
         Err(refusal) => Some((refusal.number, refusal.index)),
     };
     let input = [1, 0, 0, 0];
-    for (kind, told) in [(9, None), (10, Some((4, 1))), (u32::MAX, Some((4, 1)))] {
+    for (kind, told) in [(9, None), (11, Some((4, 1))), (u32::MAX, Some((4, 1)))] {
         assert_eq!(asked(2, &[input, [kind, 0, 0, 0]]), told);
     }
     for (parties, receiver, told) in [
@@ -167,7 +167,7 @@ fn questions_of_the_circuit() {
         assert_eq!(asked(2, &[input, [9, 0, 1, constant]]), Some((6, 1)));
     }
     // 4 before 5 before 6.
-    assert_eq!(asked(2, &[input, [10, 1, 2, 1]]), Some((4, 1)));
+    assert_eq!(asked(2, &[input, [11, 1, 2, 1]]), Some((4, 1)));
     assert_eq!(asked(2, &[input, [9, 0, 2, 1]]), Some((5, 1)));
     assert_eq!(asked(2, &[input, [9, 0, 1, 0], [2, 0, 0, 0]]), Some((7, 0)));
     assert_eq!(asked(2, &[input, [9, 0, 1, 0], [9, 0, 0, 0]]), None);
@@ -574,7 +574,7 @@ fn a_give_is_an_output_under_a_mask() {
     let random = &mut Random::new(9);
     for _ in 0..200 {
         let key = random.edge_element();
-        let gives = Case::random(random, 40, key);
+        let gives = Case::random_of(random, Kinds::Gives, 40, key);
         let mut circuit = gives.circuit.clone();
         for line in circuit.chunks_exact_mut(4).filter(|line| line[0] == 9) {
             line.copy_from_slice(&[7, line[1], 0, 0]);
@@ -599,7 +599,7 @@ fn a_give_under_a_mask_of_0_shows_the_value() {
     let random = &mut Random::new(10);
     for _ in 0..100 {
         let key = random.edge_element();
-        let mut gives = Case::random(random, 20, key);
+        let mut gives = Case::random_of(random, Kinds::Gives, 20, key);
         let len = gives.shape.prep_len();
         let mut outs = gives.clone();
         let mut record = 1;

@@ -70,8 +70,8 @@ fn joint_requests_cover_every_number_of_parties_and_an_abort_after_an_output() {
         1,
         170,
         Size {
-            kinds: Kinds::Gives,
-            max_lines: 14,
+            kinds: Kinds::Overs,
+            max_lines: 15,
             max_parties: 8,
         },
     );
@@ -106,7 +106,7 @@ fn refusals_and_writes() {
         (
             3,
             Size {
-                kinds: Kinds::Gives,
+                kinds: Kinds::Overs,
                 max_lines: 30,
                 max_parties: 8,
             },

@@ -25,7 +25,7 @@ fn changed_requests_never_panic() {
 
 fn any_number(random: &mut Random) -> u32 {
     match random.below(4) {
-        0 => random.below(10) as u32,
+        0 => random.below(12) as u32,
         1 => random.pick(&[P - 1, P, u32::MAX]),
         _ => random.number(),
     }

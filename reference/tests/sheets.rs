@@ -3,8 +3,9 @@
 use std::collections::{BTreeMap, BTreeSet};
 
 use reference::requests::{SheetRequest, SheetSet};
-use reference::sheet::examples::{self, Example, Told, EXAMPLES, GIVE_EXAMPLES, SQUARE_EXAMPLES};
-use reference::text;
+use reference::sheet::examples::{self, Example, Told};
+use reference::sheet::examples::{EXAMPLES, GIVE_EXAMPLES, OVER_EXAMPLES, SQUARE_EXAMPLES};
+use reference::{text, P};
 
 /// The seed of the vectors that are kept, and of the larger set in the gate.
 const SEED: u64 = 1;
@@ -88,6 +89,116 @@ fn the_set_of_gives_has_the_answers_that_gives_can_have() {
     assert_answers(&gives, "score", &["done", "stopped"], &[5, 7, 8, 22, 23]);
 }
 
+#[test]
+fn the_set_of_overs_has_the_answers_that_overs_can_have() {
+    let overs = SheetSet::Over.make(SEED);
+    let read = [1, 3, 5, 6, 7, 18, 22, 23, 24];
+    assert_answers(&overs, "read", &["lines"], &read);
+    assert_answers(&overs, "write", &["bytes"], &[1, 4, 5, 6, 7, 18]);
+    let score = [5, 6, 7, 12, 22, 23];
+    assert_answers(&overs, "score", &["done", "stopped"], &score);
+}
+
+/// Texts that begin with an `o` after a bracket: where each is refused by its letters, outermost and inside.
+#[test]
+fn the_set_of_overs_has_every_beginning_of_its_word() {
+    let mut found = BTreeSet::new();
+    for request in SheetSet::Over.make(SEED) {
+        let SheetRequest::Read { text, .. } = &request else {
+            continue;
+        };
+        let first = first(&request);
+        let Some(index) = first.strip_prefix("refusal 22 ") else {
+            continue;
+        };
+        let index: usize = index.parse().unwrap();
+        let row = text[..index].rsplit(|&byte| byte == b'\n').next().unwrap();
+        let Some(bracket) = row.iter().rposition(|&byte| byte == b'(') else {
+            continue;
+        };
+        let begun = String::from_utf8(row[bracket..].to_vec()).unwrap();
+        let next = text.get(index).map(|&byte| byte as char);
+        found.insert((bracket == 0, begun, next));
+    }
+    for outermost in [true, false] {
+        for begun in ["(o", "(ov", "(ove", "(over", "(over "] {
+            let key = (outermost, begun.to_string(), None);
+            assert!(found.contains(&key), "{key:?}");
+        }
+        for (begun, next) in [("(o", 'e'), ("(ov", 'r')] {
+            let key = (outermost, begun.to_string(), Some(next));
+            assert!(found.contains(&key), "{key:?}");
+        }
+    }
+    for (begun, next) in [("(", 'O'), ("(o", ' '), ("(ove", 'n'), ("(over", ')')] {
+        let key = (true, begun.to_string(), Some(next));
+        assert!(found.contains(&key), "{key:?}");
+    }
+    // An out may stand outermost alone.
+    let out = |outermost, begun: &str, next| (outermost, begun.to_string(), next);
+    assert!(found.contains(&out(true, "(ou", None)));
+    assert!(found.contains(&out(true, "(out", None)));
+    assert!(found.contains(&out(false, "(o", Some('u'))));
+    assert!(!found.contains(&out(true, "(o", Some('u'))));
+    assert!(!found
+        .iter()
+        .any(|(outermost, begun, _)| !outermost && begun.starts_with("(ou")));
+}
+
+/// Over by 0 and by 1, by p - 1 and by p, beside times by 0, read and written.
+#[test]
+fn the_set_of_overs_has_both_ends_of_its_constants() {
+    let mut read = BTreeSet::new();
+    let mut written = BTreeSet::new();
+    for request in SheetSet::Over.make(SEED) {
+        let first = first(&request);
+        let told = first.split(' ').take(2).collect::<Vec<_>>().join(" ");
+        match &request {
+            SheetRequest::Read { text, .. } => {
+                let text = String::from_utf8_lossy(text);
+                if let Some(constant) = text
+                    .strip_prefix("(over (in 0) ")
+                    .and_then(|rest| rest.strip_suffix(")\n(out (line 0))\n"))
+                {
+                    read.insert((constant.to_string(), told));
+                }
+            }
+            SheetRequest::Write { circuit, text, .. } if !text.is_empty() => {
+                if let [1, 0, 0, 0, kind, 0, 0, constant, 7, 1, 0, 0] = circuit[..] {
+                    written.insert((kind, constant, told));
+                }
+            }
+            _ => {}
+        }
+    }
+    for (constant, told) in [
+        ("0", "refusal 6"),
+        ("1", "lines 3"),
+        ("2147483646", "lines 3"),
+        ("2147483647", "refusal 6"),
+        ("4294967295", "refusal 6"),
+        ("4294967296", "refusal 22"),
+    ] {
+        let key = (constant.to_string(), told.to_string());
+        assert!(read.contains(&key), "{key:?}");
+    }
+    for (kind, constant, refused) in [
+        (10, 0, true),
+        (10, 1, false),
+        (10, P - 1, false),
+        (10, P, true),
+        (5, 0, false),
+    ] {
+        let mut found = written
+            .iter()
+            .filter(|one| (one.0, one.1) == (kind, constant));
+        assert!(
+            found.any(|one| (one.2 == "refusal 6") == refused),
+            "{kind} {constant}"
+        );
+    }
+}
+
 /// Refusals of gives on both sides: at the `g` within a form, at its number, of its receiver, and at its bracket.
 #[test]
 fn the_set_of_gives_has_them_refused_in_every_place() {
@@ -142,6 +253,7 @@ fn the_kept_sets_have_the_examples() {
     assert_has(SheetSet::Kept, &EXAMPLES);
     assert_has(SheetSet::Square, &SQUARE_EXAMPLES);
     assert_has(SheetSet::Give, &GIVE_EXAMPLES);
+    assert_has(SheetSet::Over, &OVER_EXAMPLES);
 }
 
 fn assert_has(set: SheetSet, examples: &[Example]) {

@@ -6,13 +6,13 @@ use std::collections::{BTreeMap, BTreeSet};
 use std::sync::OnceLock;
 
 use common::answers::{assert_refusal_is_right, assert_written_as_due};
-use reference::circuit::{self, GIVE, KIND_NAMES, OUT, SQ};
+use reference::circuit::{self, GIVE, KIND_NAMES, OUT, OVER, SQ, TIMES};
 use reference::random::Kinds;
 use reference::requests::{
     measured, neighbours, single_runs, table, Answer, Answered, Entry, Field, Request, Set,
     SingleRun,
 };
-use reference::{text, Ending, Received, Round, Sort, Stage};
+use reference::{text, Ending, Received, Round, Sort, Stage, P};
 
 use Entry::{Joint, Open, Receive, Send};
 
@@ -44,9 +44,19 @@ fn gives_large() -> &'static [Answered] {
     LARGE.get_or_init(|| Set::GivesLarge.make(SEED))
 }
 
+fn over() -> &'static [Answered] {
+    static OVER: OnceLock<Vec<Answered>> = OnceLock::new();
+    OVER.get_or_init(|| Set::Over.make(SEED))
+}
+
+fn overs_large() -> &'static [Answered] {
+    static LARGE: OnceLock<Vec<Answered>> = OnceLock::new();
+    LARGE.get_or_init(|| Set::OversLarge.make(SEED))
+}
+
 /// The requests of all sets that are kept.
 fn kept<'a>() -> impl Iterator<Item = &'a Answered> {
-    let sets = [small(), large(), square(), mark(), give()];
+    let sets = [small(), large(), square(), mark(), give(), over()];
     sets.into_iter().flatten()
 }
 
@@ -307,7 +317,7 @@ fn wanted_neighbours() -> BTreeSet<(&'static str, u32, String)> {
             "circuit 1024->1028 long",
         ],
     );
-    want(all, 4, &["kind 1->0", "kind 7->10", "kind 7->4294967295"]);
+    want(all, 4, &["kind 1->0", "kind 7->11", "kind 7->4294967295"]);
     want(
         all,
         5,
@@ -647,7 +657,7 @@ fn the_text_keeps_within_the_limits_of_the_format() {
 #[test]
 fn the_table_is_the_printed_one() {
     let readme = include_str!("../../vectors/README.md");
-    let sets = [small(), large(), square(), mark(), give()];
+    let sets = [small(), large(), square(), mark(), give(), over()];
     assert!(readme.contains(&table(sets)));
 }
 
@@ -670,26 +680,30 @@ fn the_counts_are_the_printed_ones() {
     }
 }
 
-/// The squares and gives of the request's circuit, if it is accepted.
-fn squares_and_gives(one: &Answered) -> (usize, usize) {
-    let (circuit, parties) = match &one.request {
+fn parties_and_circuit(one: &Answered) -> (u32, &[u32]) {
+    match &one.request {
         Request::Joint {
             circuit, parties, ..
-        } => (circuit, *parties),
+        } => (*parties, circuit),
         Request::Open { lent } | Request::Send { lent, .. } | Request::Receive { lent, .. } => {
-            (&lent.circuit, lent.parties)
+            (lent.parties, &lent.circuit)
         }
-    };
-    let shape = circuit::shape(parties, circuit);
-    shape.map_or((0, 0), |shape| (shape.squares, shape.gives))
+    }
+}
+
+/// Whether the request's circuit is accepted and has a gate of the kind.
+fn has(one: &Answered, kind: u32) -> bool {
+    let (parties, circuit) = parties_and_circuit(one);
+    let mut lines = circuit.chunks_exact(4);
+    circuit::shape(parties, circuit).is_ok() && lines.any(|line| line[0] == kind)
 }
 
 fn has_square(one: &Answered) -> bool {
-    squares_and_gives(one).0 > 0
+    has(one, SQ)
 }
 
 fn has_give(one: &Answered) -> bool {
-    squares_and_gives(one).1 > 0
+    has(one, GIVE)
 }
 
 #[test]
@@ -716,6 +730,21 @@ fn only_the_sets_of_gives_have_gives() {
     assert!(without.iter().all(|one| {
         let refusal = one.answer.refusal();
         refusal.is_some_and(|refusal| refusal.number <= 7) || one.request.entry() != Joint
+    }));
+}
+
+#[test]
+fn only_the_sets_of_overs_have_overs() {
+    let others = small().iter().chain(large()).chain(square()).chain(mark());
+    let others = others.chain(give()).chain(gives_large());
+    assert!(!others.into_iter().any(|one| has(one, OVER)));
+    let (with, without): (Vec<&Answered>, Vec<&Answered>) =
+        over().iter().partition(|one| has(one, OVER));
+    // The others are refused before the circuit is accepted.
+    assert!(with.len() > 3 * without.len());
+    assert!(without.iter().all(|one| {
+        let refusal = one.answer.refusal();
+        refusal.is_some_and(|refusal| refusal.number <= 7)
     }));
 }
 
@@ -772,7 +801,7 @@ fn square_has_every_boundary_at_a_square() {
     let mut wanted = BTreeSet::new();
     for entry in Entry::ALL {
         for (number, change) in [
-            (4, "kind 8->10"),
+            (4, "kind 8->11"),
             (5, "sq first names itself"),
             (5, "sq first names the next gate"),
             (5, "sq first names 4294967295"),
@@ -962,7 +991,7 @@ fn give_has_every_boundary_at_a_give() {
     let mut wanted = BTreeSet::new();
     for entry in Entry::ALL {
         for (number, change) in [
-            (4, "kind 9->10"),
+            (4, "kind 9->11"),
             (5, "give first names itself"),
             (5, "give first names the next gate"),
             (5, "give first names 4294967295"),
@@ -1218,4 +1247,258 @@ fn the_large_set_of_gives_has_the_longest_runs_and_every_refusal() {
             assert!(line.len() <= 1_048_576);
         }
     }
+}
+
+/// Every feature that the set of overs must have.
+#[test]
+fn over_has_every_boundary_at_an_over() {
+    let counts = measured(over());
+    let mut wanted = BTreeSet::new();
+    let mut want = |entries: &[Entry], feature: String| {
+        wanted.extend(entries.iter().map(|&entry| (entry, feature.clone())));
+    };
+    for number in questions() {
+        want(
+            &asking(number),
+            format!("refused {number:02}, beside a neighbour that is not"),
+        );
+    }
+    for name in KIND_NAMES {
+        want(&Entry::ALL, format!("accepted, with a gate of kind {name}"));
+    }
+    for parties in 2..=8 {
+        want(&[Joint], format!("accepted, {parties} parties"));
+    }
+    for ending in [
+        "good preprocessing, key 0: finished",
+        "good preprocessing, another key: finished",
+        "bad MAC of a mask, another key: aborted at the first check",
+        "bad MAC in a triple, another key: aborted at the second check",
+        "bad product in a triple, another key: finished",
+        "bad whole mask, another key: finished",
+    ] {
+        want(&[Joint], String::from(ending));
+    }
+    let has = |(entry, feature): &(Entry, String)| {
+        let count = counts.get(feature).map(|counts| counts[*entry as usize]);
+        count.is_some_and(|count| count > 0)
+    };
+    assert_eq!(missing(wanted, has), []);
+
+    let mut wanted = BTreeSet::new();
+    for entry in Entry::ALL {
+        for (number, change) in [
+            (4, "kind 10->11"),
+            (4, "kind 10->4294967295"),
+            (5, "over first names itself"),
+            (5, "over first names the next gate"),
+            (5, "over first names 4294967295"),
+            (5, "over first names an out gate"),
+            (5, "over first names a give gate"),
+            (6, "over second 0->1"),
+            (6, "over second 0->4294967295"),
+            (6, "over constant 1->0"),
+            (6, "over constant p-1->p"),
+            (6, "over constant p-1->4294967295"),
+            // Times by 0 is let pass.
+            (6, "kind 5->10"),
+        ] {
+            wanted.insert((entry.name(), number, String::from(change)));
+        }
+    }
+    let found = neighbours(over());
+    assert_eq!(missing(wanted, |one| found.contains_key(one)), []);
+}
+
+/// The index of question 15 is that of an over's share and of its MAC share; no position is at an over; the last gate is none.
+#[test]
+fn over_has_refusals_in_every_place_of_an_over() {
+    let mut places = BTreeSet::new();
+    let mut stages = BTreeSet::new();
+    let mut last = BTreeSet::new();
+    for one in over() {
+        let entry = one.request.entry();
+        let (parties, circuit) = parties_and_circuit(one);
+        let number = one.answer.refusal().map(|refusal| refusal.number);
+        if number == Some(7) && circuit[circuit.len() - 4] == OVER {
+            last.insert(entry);
+        }
+        let (Request::Send { position, .. } | Request::Receive { position, .. }) = &one.request
+        else {
+            continue;
+        };
+        let Ok(shape) = circuit::shape(parties, circuit) else {
+            continue;
+        };
+        let at_an_over = circuit.get(4 * position.gate as usize) == Some(&OVER);
+        if at_an_over && position.held == 0 && number == Some(13) {
+            stages.insert((entry, text::stage(position.stage)));
+        }
+        assert!(!at_an_over || number.is_some_and(|number| number <= 13));
+        if let (Some(15), Some(refusal)) = (number, one.answer.refusal()) {
+            let layout = shape.layout();
+            for gate in (0..shape.gates).filter(|gate| circuit[4 * gate] == OVER) {
+                let of_the_over = [
+                    ("share", layout.share(gate)),
+                    ("MAC share", layout.mac(gate)),
+                ];
+                let named = of_the_over.iter();
+                let found = named.filter(|(_, place)| *place == refusal.index);
+                places.extend(found.map(|(name, _)| (entry, *name)));
+            }
+        }
+    }
+    assert_eq!(places.len(), 2 * 2, "{places:?}");
+    assert_eq!(last.len(), 4, "{last:?}");
+    for entry in [Send, Receive] {
+        let halves = Sort::ALL.map(|sort| half(entry, sort)).into_iter();
+        for stage in halves.chain([Stage::Finished, Stage::Aborted]) {
+            let key = (entry, text::stage(stage));
+            assert!(stages.contains(&key), "{key:?}");
+        }
+    }
+}
+
+/// Overs by each of the constants, of every kind of wire, after every stop, right before an output; by the same constant as times before and
+/// after it; worked out by the joint run, and by single entries after each kind of round.
+#[test]
+fn over_has_every_constant_and_every_wire() {
+    let mut constants = BTreeSet::new();
+    let mut wires = BTreeSet::new();
+    let mut before = BTreeSet::new();
+    let mut after = BTreeSet::new();
+    let mut undone = BTreeSet::new();
+    let mut moved = BTreeSet::new();
+    for one in over() {
+        let (_, circuit) = parties_and_circuit(one);
+        let lines: Vec<&[u32]> = circuit.chunks_exact(4).collect();
+        if one.answer.refusal().is_some() {
+            continue;
+        }
+        if one.request.entry() == Joint {
+            for (gate, line) in lines.iter().enumerate().filter(|(_, line)| line[0] == OVER) {
+                constants.insert(line[3]);
+                let wire = lines[line[1] as usize];
+                wires.insert(wire[0]);
+                before.insert(lines[gate + 1][0]);
+                after.insert(lines[gate - 1][0]);
+                if wire[0] == TIMES && wire[3] == line[3] {
+                    undone.insert((TIMES, line[3]));
+                }
+            }
+            for line in lines.iter().filter(|line| line[0] == TIMES) {
+                let wire = lines[line[1] as usize];
+                if wire[0] == OVER && wire[3] == line[3] {
+                    undone.insert((OVER, line[3]));
+                }
+            }
+        }
+        if let Request::Receive { lent, position, .. } = &one.request {
+            let next = lines.get(position.gate as usize + 1);
+            let wrote = match &one.answer {
+                Answer::Receive {
+                    result: Ok(Received::Moved(next) | Received::Released { position: next, .. }),
+                    ..
+                } => next.gate > position.gate,
+                _ => false,
+            };
+            if wrote && next.is_some_and(|line| line[0] == OVER) {
+                let kind = lines[position.gate as usize][0];
+                moved.insert((kind, lent.party));
+            }
+        }
+    }
+    for constant in [1, 2, 3, P - 2, P - 1] {
+        assert!(constants.contains(&constant), "{constant}");
+        for kind in [TIMES, OVER] {
+            assert!(undone.contains(&(kind, constant)), "{kind} {constant}");
+        }
+    }
+    assert!(constants.len() > 15, "{constants:?}");
+    for kind in [1, 2, 3, 4, 5, 6, 8, 10] {
+        assert!(wires.contains(&kind), "{kind}");
+    }
+    for kind in [OUT, GIVE, 6, SQ, OVER] {
+        assert!(before.contains(&kind), "{kind}");
+    }
+    for kind in 1..=10 {
+        assert!(after.contains(&kind), "{kind}");
+    }
+    for kind in [1, 6, SQ, OUT, GIVE] {
+        for party in 0..2 {
+            assert!(moved.contains(&(kind, party)), "{kind} {party}");
+        }
+    }
+}
+
+/// Whole runs of one party and of all, with words tampered with around overs, and with bad preprocessing.
+#[test]
+fn over_has_whole_runs() {
+    let found = single_runs(over());
+    for wanted in [
+        run(true, None, false, None),
+        run(false, None, false, None),
+        run(true, Some(Round::RevealOutput), false, None),
+        tampered(Round::Input),
+        tampered(Round::Multiply),
+        tampered(Round::Square),
+        tampered(Round::OpenOutput),
+        tampered(Round::RevealOutput),
+    ] {
+        assert!(found.contains_key(&wanted), "{wanted:?}");
+    }
+    let worked = over().iter().any(
+        |one| matches!(&one.answer, Answer::Joint { outputs, .. } if *outputs == [1_073_741_826]),
+    );
+    assert!(worked);
+}
+
+#[test]
+fn the_large_set_of_overs_has_most_overs_and_every_refusal() {
+    let large = overs_large();
+    let counts = measured(large);
+    for number in questions() {
+        let refused = &counts[&format!("refused {number:02}")];
+        for entry in asking(number) {
+            assert!(refused[entry as usize] > 1, "{number} {entry:?}");
+        }
+    }
+    for feature in [
+        "accepted, with a gate of kind over",
+        "accepted, 256 gates and 8 parties",
+        "bad MAC of a mask, another key: aborted at the second check",
+        "bad MAC in a pair, another key: aborted at the second check",
+    ] {
+        assert!(counts[feature][Joint as usize] > 0, "{feature}");
+    }
+    let mut most = BTreeSet::new();
+    let mut highest = BTreeSet::new();
+    let mut found: BTreeSet<(u32, u32)> = BTreeSet::new();
+    for one in large {
+        let (parties, circuit) = parties_and_circuit(one);
+        if let Some(refusal) = one.answer.refusal() {
+            assert!(asking(refusal.number).contains(&one.request.entry()));
+            assert_refusal_is_right(one, refusal);
+            if refusal.number == 6 && circuit[4 * refusal.index] == OVER {
+                highest.insert(refusal.index);
+            }
+        } else {
+            let overs = circuit.chunks_exact(4).filter(|line| line[0] == OVER);
+            found.extend(overs.clone().map(|line| (line[0], line[3])));
+            if overs.count() >= 250 {
+                most.insert((one.request.entry(), parties));
+            }
+        }
+        assert_written_as_due(one);
+        for line in text::request(&one.request).lines() {
+            assert!(line.len() <= 1_048_576);
+        }
+    }
+    for parties in [2, 3, 5, 8] {
+        for entry in [Send, Receive, Joint] {
+            assert!(most.contains(&(entry, parties)), "{parties} {entry:?}");
+        }
+    }
+    assert!(highest.contains(&254), "{highest:?}");
+    assert!(found.len() > 2000, "{}", found.len());
 }

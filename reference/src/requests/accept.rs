@@ -4,7 +4,7 @@ use super::marks::Reveal;
 use super::rotation::Expected;
 use super::scene::{alter, Scene};
 use super::{Entry, Request, Size};
-use crate::circuit::{self, GIVE, IN, MUL, OUT, PLUS, SQ, TIMES};
+use crate::circuit::{self, GIVE, IN, MUL, OUT, OVER, PLUS, SQ, TIMES};
 use crate::commitment::WORDS;
 use crate::field::{self, P};
 use crate::party::{Round, Stage};
@@ -98,7 +98,7 @@ pub(super) fn whole_run(random: &mut Random, turn: usize, size: Size) -> Vec<(Re
     let parties = random.between(2, size.max_parties as usize) as u32;
     let circuit = if turn == 0 {
         let last = if size.kinds.has(GIVE) { GIVE } else { OUT };
-        let kinds = [IN, MUL, SQ, OUT, last].into_iter();
+        let kinds = [IN, OVER, MUL, SQ, OUT, last].into_iter();
         let kinds: Vec<u32> = kinds.filter(|&kind| size.kinds.has(kind)).collect();
         random::from_kinds(random, parties, &kinds)
     } else {
@@ -188,7 +188,7 @@ fn highest(random: &mut Random, size: Size, subject: Subject) -> (Request, Expec
     for line in scene
         .circuit
         .chunks_exact_mut(4)
-        .filter(|line| [PLUS, TIMES].contains(&line[0]))
+        .filter(|line| [PLUS, TIMES, OVER].contains(&line[0]))
     {
         line[3] = P - 1;
     }

@@ -4,7 +4,8 @@
 use super::refuse::add_later_faults;
 use super::scene::Scene;
 use super::{Entry, Request};
-use crate::circuit::{self, ADD, GIVE, IN, MAX_GATES, MUL, NO_KIND, OUT, PLUS, SQ, SUB, TIMES};
+use crate::circuit::{self, ADD, GIVE, IN, MAX_GATES, MUL, NO_KIND};
+use crate::circuit::{OUT, OVER, PLUS, SQ, SUB, TIMES};
 use crate::field::P;
 use crate::random::{self, Kinds, Random};
 
@@ -278,6 +279,7 @@ impl<'a> Boundaries<'a> {
             (OUT, &[NO_KIND, u32::MAX]),
             (SQ, &[NO_KIND]),
             (GIVE, &[NO_KIND]),
+            (OVER, &[NO_KIND, u32::MAX]),
         ];
         let asked = self.kinds;
         for (kind, outside) in kinds.into_iter().filter(|&(kind, _)| asked.has(kind)) {
@@ -285,7 +287,7 @@ impl<'a> Boundaries<'a> {
             self.gate_number(4, &base, (gate, 0), kind, outside);
         }
 
-        let with_names: [(u32, &[usize]); 8] = [
+        let with_names: [(u32, &[usize]); 9] = [
             (ADD, &[1, 2]),
             (SUB, &[1, 2]),
             (PLUS, &[1]),
@@ -294,6 +296,7 @@ impl<'a> Boundaries<'a> {
             (OUT, &[1]),
             (SQ, &[1]),
             (GIVE, &[1]),
+            (OVER, &[1]),
         ];
         for (kind, fields) in with_names.into_iter().filter(|&(kind, _)| asked.has(kind)) {
             for &field in fields {
@@ -326,7 +329,13 @@ impl<'a> Boundaries<'a> {
             let (gate, _, base) = self.gate_of(kind);
             self.gate_number(6, &base, (gate, 3), P - 1, &NO_ELEMENTS);
         }
-        let unused: [(u32, &[usize]); 9] = [
+        if asked.has(OVER) {
+            for (inside, outside) in [(1, &[0][..]), (P - 1, &NO_ELEMENTS)] {
+                let (gate, _, base) = self.gate_of(OVER);
+                self.gate_number(6, &base, (gate, 3), inside, outside);
+            }
+        }
+        let unused: [(u32, &[usize]); 10] = [
             (IN, &[2, 3]),
             (ADD, &[3]),
             (SUB, &[3]),
@@ -336,6 +345,7 @@ impl<'a> Boundaries<'a> {
             (OUT, &[2, 3]),
             (SQ, &[2, 3]),
             (GIVE, &[3]),
+            (OVER, &[2]),
         ];
         for (kind, fields) in unused.into_iter().filter(|&(kind, _)| asked.has(kind)) {
             for &field in fields {

@@ -4,7 +4,7 @@ use super::boundary::{len_of, Boundaries, NO_ELEMENTS};
 use super::refuse::set_position;
 use super::scene::Scene;
 use super::{Entry, Request};
-use crate::circuit::{self, ADD, GIVE, IN, MUL, OUT, PLUS, SQ, SUB, TIMES};
+use crate::circuit::{self, ADD, GIVE, IN, MUL, OUT, OVER, PLUS, SQ, SUB, TIMES};
 use crate::field::P;
 use crate::party::{Position, Round, Sort, Stage};
 
@@ -31,7 +31,7 @@ impl At {
             Round::Input | Round::Multiply | Round::Square => &[OUT, GIVE],
             _ => &[IN, MUL, SQ],
         };
-        [&[ADD, SUB, PLUS, TIMES], others].map(|kinds| self.nearest(kinds))
+        [&[ADD, SUB, PLUS, TIMES, OVER], others].map(|kinds| self.nearest(kinds))
     }
 
     /// The out or give gate before which nothing is unchecked.

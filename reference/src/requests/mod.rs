@@ -13,6 +13,7 @@ mod coverage;
 mod gives;
 mod marks;
 mod neighbours;
+mod overs;
 mod products;
 mod random_sheet;
 mod refuse;
@@ -23,6 +24,7 @@ mod scene;
 mod sets;
 mod sheet_calls;
 mod sheet_gives;
+mod sheet_overs;
 mod sheet_reads;
 mod sheet_sets;
 mod sheet_squares;
@@ -59,12 +61,12 @@ pub struct Size {
 
 impl Size {
     pub const SMALL: Size = Size {
-        kinds: Kinds::Gives,
-        max_lines: 14,
+        kinds: Kinds::Overs,
+        max_lines: 15,
         max_parties: 4,
     };
     pub const FULL: Size = Size {
-        kinds: Kinds::Gives,
+        kinds: Kinds::Overs,
         max_lines: 256,
         max_parties: 8,
     };

@@ -2,7 +2,7 @@
 
 use super::sets::filled;
 use super::{blank_joint, Lent, Request};
-use crate::circuit::{self, IN, MUL, OUT, SQ, TIMES};
+use crate::circuit::{self, IN, MUL, OUT, OVER, SQ, TIMES};
 use crate::commitment::{NONCE_BYTES, WORDS};
 use crate::field::P;
 use crate::party::Position;
@@ -10,7 +10,7 @@ use crate::position::{Sort, Stage};
 use crate::random::Random;
 
 /// Factors whose products are 0, just below, at and just above a power of two or the prime, and the largest.
-const FACTORS: [u32; 14] = [
+pub(super) const FACTORS: [u32; 14] = [
     0,
     1,
     2,
@@ -70,6 +70,14 @@ fn of_two(x: u32, y: u32) -> Vec<Request> {
         requests.push(receiving(lent(&square, y, filling), 1, &[x, 0]));
     }
     requests
+}
+
+/// A share and a MAC share of one number, over a constant. Over 0 is refused.
+pub(super) fn over(x: u32, constant: u32) -> Request {
+    let accepted = [IN, 0, 0, 0, OVER, 0, 0, 1, OUT, 1, 0, 0];
+    let mut lent = lent(&accepted, 1, 0);
+    lent.circuit[7] = constant;
+    receiving(lent, 0, &[x, 0])
 }
 
 /// The check share of the largest numbers, over the most opened entries.

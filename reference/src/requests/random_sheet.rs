@@ -11,8 +11,8 @@ struct Maker<'a> {
     text: String,
 }
 
-/// A sheet of so many rows. Now and then one has a depth of 17, a seat above 1, a constant above p - 1, or no
-/// output at the end, which is refused.
+/// A sheet of so many rows. Now and then one has a depth of 17, a seat above 1, a constant above p - 1, an over by
+/// 0, or no output at the end, which is refused.
 pub fn random_sheet(random: &mut Random, rows: usize) -> Vec<u8> {
     let mut maker = Maker {
         random,
@@ -54,7 +54,7 @@ impl Maker<'_> {
         }
         let kind = self
             .random
-            .pick(&["add", "sub", "plus", "times", "mul", "sq"]);
+            .pick(&["add", "sub", "plus", "times", "mul", "sq", "over"]);
         self.text.push_str(&format!("({kind} "));
         let shallow = depth + self.random.between(1, 2);
         let (first, second) = if self.random.once_in(2) {
@@ -63,9 +63,12 @@ impl Maker<'_> {
             (shallow.min(deepest), deepest)
         };
         match kind {
-            "plus" | "times" => {
+            "plus" | "times" | "over" => {
                 self.form(depth + 1, deepest);
-                let constant = self.constant();
+                let mut constant = self.constant();
+                if kind == "over" && !self.random.once_in(60) {
+                    constant = constant.max(1);
+                }
                 self.text.push_str(&format!(" {constant})"));
             }
             "sq" => {

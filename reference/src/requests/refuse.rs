@@ -5,7 +5,7 @@ use super::refuse_steps::{
 };
 use super::scene::Scene;
 use super::{Entry, Request, Size};
-use crate::circuit::{ADD, GIVE, IN, MUL, NO_KIND, OUT, PLUS, SQ, SUB, TIMES};
+use crate::circuit::{ADD, GIVE, IN, MUL, NO_KIND, OUT, OVER, PLUS, SQ, SUB, TIMES};
 use crate::field::P;
 use crate::party::Position;
 use crate::random::{self, Random};
@@ -284,7 +284,7 @@ fn spoil_name(random: &mut Random, scene: &Scene, circuit: &mut [u32], variant: 
     let kinds: &[u32] = if field == 2 {
         &[ADD, SUB, MUL]
     } else {
-        &[ADD, SUB, PLUS, TIMES, MUL, OUT, SQ, GIVE]
+        &[ADD, SUB, PLUS, TIMES, MUL, OUT, SQ, GIVE, OVER]
     };
     let mut named = scene.gates_of(kinds);
     let first_out = scene.gates_of(&[OUT, GIVE])[0];
@@ -300,12 +300,13 @@ fn spoil_name(random: &mut Random, scene: &Scene, circuit: &mut [u32], variant: 
     };
 }
 
-/// Question 6: a constant that is no element, or an unused field that is not 0.
+/// Question 6: a constant that is no element or is 0 in an over gate, or an unused field that is not 0.
 fn spoil_field(random: &mut Random, scene: &Scene, circuit: &mut [u32], variant: usize) {
     let (kinds, field, number): (&[u32], usize, u32) = match variant {
-        0 => (&[PLUS, TIMES], 3, P),
-        1 => (&[PLUS, TIMES], 3, u32::MAX),
-        2 => (&[PLUS, TIMES], 2, 1),
+        0 => (&[PLUS, TIMES, OVER], 3, P),
+        1 => (&[PLUS, TIMES, OVER], 3, u32::MAX),
+        2 => (&[PLUS, TIMES, OVER], 2, 1),
+        5 if scene.kinds().has(OVER) && random.once_in(2) => (&[OVER], 3, 0),
         3 => (&[IN], 2, 1),
         4 => (&[IN], 3, 1),
         5 => (&[ADD, SUB], 3, 1),

@@ -3,7 +3,7 @@
 use super::refuse::{set_len, set_position, spoil_elements};
 use super::scene::Scene;
 use super::{Entry, Request};
-use crate::circuit::{ADD, GIVE, IN, MUL, OUT, PLUS, SQ, SUB, TIMES};
+use crate::circuit::{ADD, GIVE, IN, MUL, OUT, OVER, PLUS, SQ, SUB, TIMES};
 use crate::commitment::REVEALED;
 use crate::field::P;
 use crate::party::{Position, Round, Sort, Stage};
@@ -49,7 +49,7 @@ pub(super) fn impossible_position(
         3 => (of(&[OUT, GIVE]), half(Sort::Own), 0),
         4 => (of(&[IN]), half(Sort::OpenOutput), 0),
         5 => (
-            of(&[ADD, SUB, PLUS, TIMES]),
+            of(&[ADD, SUB, PLUS, TIMES, OVER]),
             half(random.pick(&Sort::ALL)),
             0,
         ),
@@ -64,7 +64,11 @@ pub(super) fn impossible_position(
         10 => (random.pick(&checked), half(holding[0]), P),
         11 => (random.pick(&outs), half(holding[1]), u32::MAX),
         12 => (random.below(last), Stage::Finished, 0),
-        13 => (of(&[IN, ADD, SUB, PLUS, TIMES, MUL, SQ]), Stage::Aborted, 0),
+        13 => (
+            of(&[IN, ADD, SUB, PLUS, TIMES, OVER, MUL, SQ]),
+            Stage::Aborted,
+            0,
+        ),
         14 => (last, Stage::Finished, 1),
         15 => (of(&[OUT, GIVE]), Stage::Aborted, P - 1),
         _ => (of(&[OUT, GIVE]), half(Sort::OpenOutput), random.nonzero()),

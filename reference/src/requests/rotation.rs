@@ -122,6 +122,11 @@ mod tests {
                 max_lines: 13,
                 max_parties: 2,
             },
+            Size {
+                kinds: Kinds::Overs,
+                max_lines: 14,
+                max_parties: 2,
+            },
             Size::SMALL,
             Size::FULL,
         ] {

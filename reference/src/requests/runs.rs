@@ -121,6 +121,17 @@ pub(super) fn two_products(random: &mut Random, parties: u32, key: u32) -> Scene
     Scene::new(random, parties, circuit, key)
 }
 
+/// A product with an output after it.
+pub(super) fn one_product(random: &mut Random, parties: u32, key: u32) -> Scene {
+    #[rustfmt::skip]
+    let circuit = vec![
+        1, parties - 1, 0, 0,
+        6, 0, 0, 0,
+        7, 1, 0, 0,
+    ];
+    Scene::new(random, parties, circuit, key)
+}
+
 /// Runs with each kind of bad preprocessing: joint under a key of 0 and another one, and one party by single entries.
 pub(super) fn bad_preps(random: &mut Random, wrongs: &[Wrong], scene_of: SceneOf) -> Vec<Request> {
     let mut requests = Vec::new();

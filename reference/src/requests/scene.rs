@@ -1,7 +1,7 @@
 //! A circuit with preprocessing, inputs and coefficients, and requests taken from its run.
 
 use super::{Entry, Lent, Request, Size};
-use crate::circuit::{self, Shape, IN};
+use crate::circuit::{self, Shape, IN, OVER};
 use crate::commitment::NONCE_BYTES;
 use crate::field;
 use crate::joint::first_inputs;
@@ -178,6 +178,9 @@ impl Scene {
 
     /// The kinds that its gates may have.
     pub fn kinds(&self) -> Kinds {
+        if !self.gates_of(&[OVER]).is_empty() {
+            return Kinds::Overs;
+        }
         match (self.shape.squares, self.shape.gives) {
             (0, 0) => Kinds::Base,
             (_, 0) => Kinds::Squares,

@@ -4,7 +4,8 @@ use super::boundary::{boundaries, Boundary, ListOf, NO_ELEMENTS};
 use super::boundary_steps::coefficients;
 use super::runs::{self, Wrong, TRIPLE_WRONGS};
 use super::scene::Scene;
-use super::{gives, marks, products, rotation, squares, Answered, Entry, Request, Size};
+use super::{gives, marks, overs, products, rotation, squares};
+use super::{Answered, Entry, Request, Size};
 use crate::circuit::{IN, MAX_GATES, MUL, OUT, PLUS};
 use crate::docket;
 use crate::random::{self, Kinds, Random};
@@ -16,25 +17,36 @@ pub enum Set {
     Square,
     Mark,
     Give,
+    Over,
     SquaresLarge,
     Products,
     MarksLarge,
     GivesLarge,
+    OversLarge,
 }
 
 impl Set {
-    pub const ALL: [Set; 9] = [
+    pub const ALL: [Set; 11] = [
         Set::Small,
         Set::Large,
         Set::Square,
         Set::Mark,
         Set::Give,
+        Set::Over,
         Set::SquaresLarge,
         Set::Products,
         Set::MarksLarge,
         Set::GivesLarge,
+        Set::OversLarge,
     ];
-    pub const KEPT: [Set; 5] = [Set::Small, Set::Large, Set::Square, Set::Mark, Set::Give];
+    pub const KEPT: [Set; 6] = [
+        Set::Small,
+        Set::Large,
+        Set::Square,
+        Set::Mark,
+        Set::Give,
+        Set::Over,
+    ];
 
     pub fn name(self) -> &'static str {
         match self {
@@ -43,10 +55,12 @@ impl Set {
             Set::Square => "square",
             Set::Mark => "mark",
             Set::Give => "give",
+            Set::Over => "over",
             Set::SquaresLarge => "squares-large",
             Set::Products => "products",
             Set::MarksLarge => "marks-large",
             Set::GivesLarge => "gives-large",
+            Set::OversLarge => "overs-large",
         }
     }
 
@@ -57,10 +71,12 @@ impl Set {
             Set::Square => "squares among other gates; both sides of every question's boundary, squares of every kind of wire, tampered words, bad preprocessing",
             Set::Mark => "commitments of short circuits; nonces of every wrong length, marks and nonces of any words, every part of a check altered, heard and in the scratch",
             Set::Give => "gives among other gates; both sides of every question's boundary, gives to every party, what receiver and others are answered, tampered words, bad masks",
+            Set::Over => "overs among other gates; both sides of every question's boundary, overs of every kind of wire by 1, 2, 3, p-2, p-1 and others, times by the same constants, tampered words, bad preprocessing",
             Set::SquaresLarge => "squares in circuits of up to 256 gates and 8 parties; every boundary, whole runs, the longest run",
             Set::Products => "products at the edges of a reduction: by constants, by the key share, of opened values; the largest sums of products",
             Set::MarksLarge => "commitments in circuits of up to 256 gates and 8 parties; every part of a check altered, the longest nonce lists and transcripts",
             Set::GivesLarge => "gives in circuits of up to 256 gates and 8 parties; every boundary, whole runs, the longest runs",
+            Set::OversLarge => "overs in circuits of up to 256 gates and 8 parties; every boundary, whole runs, more than 250 overs",
         }
     }
 
@@ -73,17 +89,19 @@ impl Set {
             Set::Square => squares::kept(&mut random),
             Set::Mark => marks::kept(&mut random),
             Set::Give => gives::kept(&mut random),
+            Set::Over => overs::kept(&mut random),
             Set::SquaresLarge => squares::large(&mut random),
             Set::Products => products::all(&mut random),
             Set::MarksLarge => marks::large(&mut random),
             Set::GivesLarge => gives::large(&mut random),
+            Set::OversLarge => overs::large(&mut random),
         };
         requests.into_iter().map(Request::answered).collect()
     }
 }
 
-/// Turns of the rotation in the small set, about 150 requests each.
-const TURNS: usize = 2;
+/// Turns of the rotation in the small set, of about 150 requests.
+const TURNS: usize = 1;
 
 fn small(random: &mut Random) -> Vec<Request> {
     let kinds = Kinds::Base;
@@ -104,7 +122,7 @@ fn small(random: &mut Random) -> Vec<Request> {
     let scene_of = runs::two_products;
     requests.extend(runs::good(random, kinds, 16));
     requests.extend(runs::bad_preps(random, &TRIPLE_WRONGS, scene_of));
-    requests.extend(runs::tampered(random, kinds.rounds(), 2, scene_of));
+    requests.extend(runs::tampered(random, kinds.rounds(), 2, runs::one_product));
     let size = Size {
         kinds,
         max_lines: 24,
@@ -162,7 +180,7 @@ fn large(random: &mut Random) -> Vec<Request> {
     // The longest lists: inputs, preprocessing with scratch and coefficients, outputs; and the longest run.
     for (parties, kinds) in [
         (8, filled(IN)),
-        (8, filled(MUL)),
+        (3, filled(MUL)),
         (2, filled(OUT)),
         (2, longest_run(MUL, OUT)),
     ] {
@@ -216,6 +234,7 @@ fn large(random: &mut Random) -> Vec<Request> {
         requests.extend(Boundary::last_element(number, &base, list).requests());
     }
     let scene_of = |random: &mut Random, parties| {
+        let parties = if parties == 8 { 8 } else { 2 };
         let circuit = random::rich_circuit_of_few_checks(random, Kinds::Base, parties, MAX_GATES);
         let key = random.element();
         let mut scene = Scene::new(random, parties, circuit, key);

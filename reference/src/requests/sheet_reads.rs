@@ -92,7 +92,7 @@ pub(super) fn read_boundaries() -> Vec<SheetRequest> {
 /// A form of so many levels, of which the outermost stands at depth 1.
 pub(super) fn nested(depth: usize, word: &str, innermost: &str) -> String {
     let (open, close) = match word {
-        "plus" | "times" => (format!("({word} "), " 3)"),
+        "plus" | "times" | "over" => (format!("({word} "), " 3)"),
         "left" => (String::from("(add "), " (in 1))"),
         "sq" => (String::from("(sq "), ")"),
         _ => (format!("({word} (in 1) "), ")"),

@@ -5,7 +5,7 @@ use super::scene::Scene;
 use super::sheet_calls::{faults, scores};
 use super::sheet_reads::{changed_bytes, limits, names, prefixes, read_boundaries};
 use super::sheet_writes::{longest, write_boundaries, written};
-use super::{sheet_gives, sheet_squares, SheetRequest};
+use super::{sheet_gives, sheet_overs, sheet_squares, SheetRequest};
 use crate::circuit::MAX_GATES;
 use crate::field::P;
 use crate::random::{self, Kinds, Random};
@@ -17,14 +17,16 @@ pub enum SheetSet {
     Kept,
     Square,
     Give,
+    Over,
     Large,
 }
 
 impl SheetSet {
-    pub const ALL: [SheetSet; 4] = [
+    pub const ALL: [SheetSet; 5] = [
         SheetSet::Kept,
         SheetSet::Square,
         SheetSet::Give,
+        SheetSet::Over,
         SheetSet::Large,
     ];
 
@@ -33,6 +35,7 @@ impl SheetSet {
             SheetSet::Kept => "sheet",
             SheetSet::Square => "square-sheet",
             SheetSet::Give => "give-sheet",
+            SheetSet::Over => "over-sheet",
             SheetSet::Large => "sheets-large",
         }
     }
@@ -42,6 +45,7 @@ impl SheetSet {
             SheetSet::Kept => "sheets read, written and scored; both sides of every boundary, every prefix, every byte changed, faults of the text",
             SheetSet::Square => "sheets with squares read, written and scored; both sides of every boundary, every prefix, every byte changed",
             SheetSet::Give => "sheets with gives read, written and scored; both sides of every boundary, every prefix, every byte changed",
+            SheetSet::Over => "sheets with overs read, written and scored; both sides of every boundary, every prefix, every byte changed",
             SheetSet::Large => "random sheets nested to depth 17 with and without damage, random circuits written and read back",
         }
     }
@@ -53,6 +57,7 @@ impl SheetSet {
             SheetSet::Kept => kept(&mut random),
             SheetSet::Square => sheet_squares::kept(&mut random),
             SheetSet::Give => sheet_gives::kept(&mut random),
+            SheetSet::Over => sheet_overs::kept(&mut random),
             SheetSet::Large => large(&mut random),
         }
     }
@@ -122,7 +127,7 @@ fn kept(random: &mut Random) -> Vec<SheetRequest> {
 
 /// Damages a text in one place.
 fn damaged(random: &mut Random, text: &mut Vec<u8>) {
-    const BYTES: &[u8] = b"() \nadgilmopqstuveb0123456789x\x00\xff";
+    const BYTES: &[u8] = b"() \nadgilmopqrstuveb0123456789x\x00\xff";
     if text.is_empty() {
         return text.push(random.pick(BYTES));
     }
@@ -172,7 +177,7 @@ fn large(random: &mut Random) -> Vec<SheetRequest> {
             1..4 => random.between(40, 130),
             _ => random.between(2, 20),
         };
-        let mut circuit = random::circuit(random, Kinds::Gives, parties, lines);
+        let mut circuit = random::circuit(random, Kinds::Overs, parties, lines);
         let mut text = sheet_of(parties, &circuit);
         let less = random.below(3);
         requests.push(write_into(
@@ -192,7 +197,7 @@ fn large(random: &mut Random) -> Vec<SheetRequest> {
         }
         if random.once_in(2) {
             let place = random.below(circuit.len());
-            circuit[place] = random.pick(&[0, 1, 2, 7, 8, 9, 10, P - 1, P, u32::MAX]);
+            circuit[place] = random.pick(&[0, 1, 2, 7, 8, 9, 10, 11, P - 1, P, u32::MAX]);
             requests.push(write(parties, &circuit));
         }
         if turn % 20 == 0 {

@@ -121,8 +121,9 @@ fn rich(random: &mut Random, parties: u32) -> Scene {
 pub(super) fn kept(random: &mut Random) -> Vec<Request> {
     let mut requests = runs::worked(random, square::request());
     let circuits = [ONE_SQUARE, IN_TURNS, BETWEEN_OUTPUTS];
-    for (circuit, parties) in circuits.into_iter().chain(OTHERS).zip((2..=8).cycle()) {
-        for key in [0, random.nonzero()] {
+    let all = circuits.into_iter().chain(OTHERS).zip((2..=8).cycle());
+    for (number, (circuit, parties)) in all.enumerate() {
+        for key in [random.nonzero(), 0].into_iter().take(1 + number % 2) {
             let scene = Scene::new(random, parties, circuit.to_vec(), key);
             requests.push(scene.joint(random));
         }
@@ -149,7 +150,7 @@ pub(super) fn kept(random: &mut Random) -> Vec<Request> {
     }
     for wrong in PAIR_WRONGS {
         for key in [0, random.nonzero()] {
-            let parties = random.between(2, 8) as u32;
+            let parties = random.between(2, 4) as u32;
             let mut scene = two_squares(random, parties, key);
             runs::spoil(random, &mut scene, wrong);
             requests.push(scene.joint(random));

@@ -56,9 +56,9 @@ pub const EXAMPLES: [Example; 62] = [
     (3, &[(b"(in 2)\n(out (line 0))\n", 1)], Told::Circuit(&[[1, 2, 0, 0], [7, 0, 0, 0]])),
     // Where a word may stand.
     (2, &[(b"(in 0)\n(line 0)\n", 1)], Told::Refused(22, 8)),
-    (2, &[(b"(add (out (in 0)) (in 0))\n", 1)], Told::Refused(22, 6)), // never inside: the `o`
-    (2, &[(b"(out (out (in 0)))\n", 1)], Told::Refused(22, 6)),
-    (2, &[(b"(ov", 1)], Told::Refused(22, 2)),
+    (2, &[(b"(add (out (in 0)) (in 0))\n", 1)], Told::Refused(22, 7)), // never inside, where `(o` may become `(over`: the `u`
+    (2, &[(b"(out (out (in 0)))\n", 1)], Told::Refused(22, 7)),
+    (2, &[(b"(ov", 1)], Told::Refused(22, 3)), // ends within a row; may become `(over`
     (2, &[(b"(g", 1)], Told::Refused(22, 2)), // ends within a row; may become `(give`
     // Names.
     (2, &[(b"(add (line 0) (in 0))\n", 1)], Told::Refused(22, 6)), // no earlier row: the `l`
@@ -124,7 +124,7 @@ pub const SQUARE_EXAMPLES: [Example; 36] = [
     (2, &[(b"(sq (in 0) (in 0))\n", 1)], Told::Refused(22, 10)),
     (2, &[(b"(sq (in 0) 1)\n", 1)], Told::Refused(22, 10)),
     (2, &[(b"(sq (line 0))\n", 1)], Told::Refused(22, 5)), // no earlier row: the `l`
-    (2, &[(b"(sq (out (in 0)))\n", 1)], Told::Refused(22, 5)), // never inside: the `o`
+    (2, &[(b"(sq (out (in 0)))\n", 1)], Told::Refused(22, 6)), // never inside: the `u`
     (2, &[(b"(in 0)\n(out (sq (line 0)))\n(out (line 1))\n", 1)], Told::Refused(22, 38)), // an out row
     // The circuit.
     (2, &[(b"(sq (in 0))\n", 1)], Told::Refused(7, 0)), // two gates, no output
@@ -186,7 +186,7 @@ pub const GIVE_EXAMPLES: [Example; 63] = [
     (2, &[(b"(add (give (in 0) 1) (in 0))\n", 1)], Told::Refused(22, 6)), // never inside: the `g`
     (2, &[(b"(give (give (in 0) 1) 1)\n", 1)], Told::Refused(22, 7)),
     (2, &[(b"(out (give (in 0) 1))\n", 1)], Told::Refused(22, 6)),
-    (2, &[(b"(give (out (in 0)) 1)\n", 1)], Told::Refused(22, 7)),
+    (2, &[(b"(give (out (in 0)) 1)\n", 1)], Told::Refused(22, 8)),
     (2, &[(b"(sq (g", 1)], Told::Refused(22, 5)),
     // Names: a give has no value, and its row counts.
     (2, &[(b"(in 0)\n(give (in 0) 1)\n(out (line 1))\n", 1)], Told::Refused(22, 34)), // a give has no value
@@ -218,4 +218,87 @@ pub const GIVE_EXAMPLES: [Example; 63] = [
     (2, &[(b"(give (in 0) 1)\n", 129)], Told::Refused(24, 2059)),
     // The text before the circuit.
     (2, &[(b"(give (in 9) 9)\nx", 1)], Told::Refused(22, 16)),
+];
+
+/// Sheets with overs.
+#[rustfmt::skip]
+pub const OVER_EXAMPLES: [Example; 68] = [
+    // What is read: outermost and inside.
+    (2, &[(b"(out (over (in 0) 3))\n", 1)], Told::Circuit(&[[1, 0, 0, 0], [10, 0, 0, 3], [7, 1, 0, 0]])),
+    (2, &[(b"(over (in 0) 2)\n(out (line 0))\n", 1)], Told::Circuit(&[[1, 0, 0, 0], [10, 0, 0, 2], [7, 1, 0, 0]])),
+    (2, &[(b"(in 1)\n(over (line 0) 1)\n(give (line 1) 0)\n", 1)], Told::Circuit(&[[1, 1, 0, 0], [10, 0, 0, 1], [9, 1, 0, 0]])),
+    (2, &[(b"(out (over (times (over (in 0) 7) 7) 2147483646))\n", 1)], Told::Circuit(&[[1, 0, 0, 0], [10, 0, 0, 7], [5, 1, 0, 7], [10, 2, 0, 2147483646], [7, 3, 0, 0]])),
+    (2, &[(b"(in 0)\n(out (mul (over (in 1) 5) (sub (line 0) (over (line 0) 2147483645))))\n", 1)], Told::Circuit(&[[1, 0, 0, 0], [1, 1, 0, 0], [10, 1, 0, 5], [10, 0, 0, 2147483645], [3, 0, 3, 0], [6, 2, 4, 0], [7, 5, 0, 0]])), // inner first, left before right
+    (2, &[(b"(give (over (sq (in 0)) 9) 1)\n", 1)], Told::Circuit(&[[1, 0, 0, 0], [8, 0, 0, 0], [10, 1, 0, 9], [9, 2, 1, 0]])),
+    // Outermost, `(o` may become `(out` or `(over`.
+    (2, &[(b"(o", 1)], Told::Refused(22, 2)), // ends within a row
+    (2, &[(b"(ou", 1)], Told::Refused(22, 3)),
+    (2, &[(b"(ov", 1)], Told::Refused(22, 3)),
+    (2, &[(b"(ove", 1)], Told::Refused(22, 4)),
+    (2, &[(b"(over", 1)], Told::Refused(22, 5)),
+    (2, &[(b"(over ", 1)], Told::Refused(22, 6)),
+    (2, &[(b"(O", 1)], Told::Refused(22, 1)),
+    (2, &[(b"(o ", 1)], Told::Refused(22, 2)),
+    (2, &[(b"(ox", 1)], Told::Refused(22, 2)),
+    (2, &[(b"(oV", 1)], Told::Refused(22, 2)),
+    (2, &[(b"(ov ", 1)], Told::Refused(22, 3)),
+    (2, &[(b"(ovu", 1)], Told::Refused(22, 3)),
+    (2, &[(b"(ouv", 1)], Told::Refused(22, 3)),
+    (2, &[(b"(oven", 1)], Told::Refused(22, 4)),
+    (2, &[(b"(overt", 1)], Told::Refused(22, 5)),
+    (2, &[(b"(over)", 1)], Told::Refused(22, 5)),
+    (2, &[(b"(over(in 0) 1)\n", 1)], Told::Refused(22, 5)),
+    // Inside, it may become `(over` alone.
+    (2, &[(b"(add (o", 1)], Told::Refused(22, 7)), // ends within a row
+    (2, &[(b"(add (ou", 1)], Told::Refused(22, 7)), // the `u`
+    (2, &[(b"(add (out (in 0)) (in 0))\n", 1)], Told::Refused(22, 7)),
+    (2, &[(b"(add (in 0) (out (in 0)))\n", 1)], Told::Refused(22, 14)),
+    (2, &[(b"(over (out (in 0)) 1)\n", 1)], Told::Refused(22, 8)),
+    (2, &[(b"(over (o", 1)], Told::Refused(22, 8)),
+    (2, &[(b"(over (ov", 1)], Told::Refused(22, 9)),
+    (2, &[(b"(add (ov", 1)], Told::Refused(22, 8)),
+    (2, &[(b"(add (ove", 1)], Told::Refused(22, 9)),
+    (2, &[(b"(add (over", 1)], Told::Refused(22, 10)),
+    (2, &[(b"(add (over ", 1)], Told::Refused(22, 11)),
+    (2, &[(b"(add (o ", 1)], Told::Refused(22, 7)),
+    (2, &[(b"(over (give (in 0) 1) 1)\n", 1)], Told::Refused(22, 7)), // never inside: the `g`
+    // What it holds: one form and a constant.
+    (2, &[(b"(over  (in 0) 1)\n", 1)], Told::Refused(22, 6)), // second space
+    (2, &[(b"(over 1 (in 0))\n", 1)], Told::Refused(22, 6)),
+    (2, &[(b"(over (in 0))\n", 1)], Told::Refused(22, 12)),
+    (2, &[(b"(over (in 0) )\n", 1)], Told::Refused(22, 13)),
+    (2, &[(b"(over (in 0) (in 1))\n", 1)], Told::Refused(22, 13)),
+    (2, &[(b"(over (in 0) 02)\n", 1)], Told::Refused(22, 14)),
+    (2, &[(b"(over (in 0) -1)\n", 1)], Told::Refused(22, 13)),
+    (2, &[(b"(over (in 0) 2", 1)], Told::Refused(22, 14)), // ends within a row
+    (2, &[(b"(over (in 0) 2)", 1)], Told::Refused(22, 15)), // without its line feed
+    // The constant: from 1 to p - 1.
+    (2, &[(b"(over (in 0) 0)\n(out (line 0))\n", 1)], Told::Refused(6, 1)),
+    (2, &[(b"(over (in 0) 1)\n(out (line 0))\n", 1)], Told::Circuit(&[[1, 0, 0, 0], [10, 0, 0, 1], [7, 1, 0, 0]])),
+    (2, &[(b"(over (in 0) 2147483646)\n(out (line 0))\n", 1)], Told::Circuit(&[[1, 0, 0, 0], [10, 0, 0, 2147483646], [7, 1, 0, 0]])),
+    (2, &[(b"(over (in 0) 2147483647)\n(out (line 0))\n", 1)], Told::Refused(6, 1)),
+    (2, &[(b"(over (in 0) 4294967295)\n(out (line 0))\n", 1)], Told::Refused(6, 1)),
+    (2, &[(b"(over (in 0) 4294967296)\n(out (line 0))\n", 1)], Told::Refused(22, 22)), // tenth digit
+    (2, &[(b"(over (in 0) 42949672950)\n", 1)], Told::Refused(22, 23)), // eleventh digit
+    (2, &[(b"(times (in 0) 0)\n(out (over (line 0) 3))\n", 1)], Told::Circuit(&[[1, 0, 0, 0], [5, 0, 0, 0], [10, 1, 0, 3], [7, 2, 0, 0]])), // times by 0 is allowed
+    // The circuit.
+    (2, &[(b"(over (in 0) 1)\n", 1)], Told::Refused(7, 0)), // two gates, no output
+    (2, &[(b"(over (in 2) 0)\n(out (line 0))\n", 1)], Told::Refused(5, 0)), // gate 0 before gate 1
+    (2, &[(b"(out (over (over (in 0) 0) 2147483647))\n", 1)], Told::Refused(6, 1)),
+    (2, &[(b"(out (over (over (in 0) 1) 0))\n", 1)], Told::Refused(6, 2)),
+    // Names: an over has a value.
+    (2, &[(b"(over (line 0) 1)\n", 1)], Told::Refused(22, 7)), // no earlier row: the `l`
+    (2, &[(b"(over (in 0) 2)\n(over (line 1) 2)\n", 1)], Told::Refused(22, 28)),
+    // Depth.
+    (2, &[(b"(over ", 15), (b"(in 0)", 1), (b" 2)", 15), (b"\n(out (line 0))\n", 1)], Told::Gates(17)),
+    (2, &[(b"(over ", 16), (b"(in 0)", 1), (b" 2)", 16), (b"\n(out (line 0))\n", 1)], Told::Refused(23, 96)),
+    (2, &[(b"(over ", 16), (b"o", 1)], Told::Refused(22, 96)),
+    (2, &[(b"(over ", 15), (b"(o(", 1)], Told::Refused(22, 92)), // 22 and 23 on one byte
+    // Count.
+    (2, &[(b"(in 0)\n", 254), (b"(out (over (line 0) 2))\n", 1)], Told::Gates(256)),
+    (2, &[(b"(in 0)\n", 255), (b"(out (over (line 0) 2))\n", 1)], Told::Refused(24, 1807)), // the bracket of out
+    (2, &[(b"(in 0)\n", 256), (b"(over (line 0) 2)\n", 1)], Told::Refused(24, 1808)), // the bracket of over; that of (line 0), 1805, closes no gate
+    (2, &[(b"(in 0)\n", 256), (b"(over (line 0) )", 1)], Told::Refused(22, 1807)), // 22 and 24 on one byte
+    // The text before the circuit.
+    (2, &[(b"(over (in 9) 0)\nx", 1)], Told::Refused(22, 16)),
 ];

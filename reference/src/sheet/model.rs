@@ -42,7 +42,7 @@ const SPACE: Symbol = Literal(" ");
 const CLOSE: Symbol = Literal(")");
 
 /// In the order of the kinds' numbers, and the name of a row last.
-const RULES: [Rule; 10] = [
+const RULES: [Rule; 11] = [
     rule("in", &[Literal("(in "), Number, CLOSE], true, true),
     rule(
         "add",
@@ -80,6 +80,12 @@ const RULES: [Rule; 10] = [
         "give",
         &[Literal("(give "), Form, SPACE, Number, CLOSE],
         false,
+        true,
+    ),
+    rule(
+        "over",
+        &[Literal("(over "), Form, SPACE, Number, CLOSE],
+        true,
         true,
     ),
     rule("line", &[Literal("(line "), Name, CLOSE], true, false),

@@ -1,4 +1,4 @@
-use super::examples::{self, Told, EXAMPLES, GIVE_EXAMPLES, SQUARE_EXAMPLES};
+use super::examples::{self, Told, EXAMPLES, GIVE_EXAMPLES, OVER_EXAMPLES, SQUARE_EXAMPLES};
 use super::{model, read_sheet, write_sheet};
 use crate::circuit::MAX_GATES;
 use crate::random::{self, Kinds, Random};
@@ -20,7 +20,10 @@ fn refused<T>(number: u32, index: usize) -> Result<T, Refusal> {
 
 #[test]
 fn examples_are_answered_as_told() {
-    let later = SQUARE_EXAMPLES.into_iter().chain(GIVE_EXAMPLES);
+    let later = SQUARE_EXAMPLES
+        .into_iter()
+        .chain(GIVE_EXAMPLES)
+        .chain(OVER_EXAMPLES);
     for (parties, parts, told) in EXAMPLES.into_iter().chain(later) {
         let text = examples::text(parts);
         let found = read(parties, &text);
@@ -141,7 +144,7 @@ fn all_texts(start: &[u8], alphabet: &[u8], longer: usize) -> usize {
 #[test]
 fn short_texts_live_as_in_the_model() {
     let every: Vec<u8> = (0..=255).collect();
-    let few = b"()\n 019abdegilmnopqstuv";
+    let few = b"()\n 019abdegilmnopqrstuv";
     assert!(all_texts(b"", &every, 6) > 50);
     assert!(all_texts(b"", few, 13) > 5000);
     for start in [
@@ -156,6 +159,10 @@ fn short_texts_live_as_in_the_model() {
         "(give (in 0)",
         "(give (in 0) 1)\n(give (i",
         "(in 0)\n(give (in 0) 1)\n(give (",
+        "(ov",
+        "(over (o",
+        "(in 0)\n(add (o",
+        "(out (over (in 0) 1",
         "(plus (in 0) ",
         "(out (times (in 0) 1",
     ] {
@@ -172,6 +179,7 @@ fn large_numbers_live_as_in_the_model() {
         "(in 9",
         "(times (in 0) 429496729",
         "(give (in 0) 429496729",
+        "(over (in 0) 429496729",
     ] {
         all_texts(start.as_bytes(), b"0123456789) ", 3);
     }
@@ -223,7 +231,7 @@ fn random_sheets_are_read_as_in_the_model() {
             let at = random.below(text.len());
             match random.below(3) {
                 0 => text.truncate(at),
-                1 => text[at] = random.pick(b"() \nadgilmopqstv0129x"),
+                1 => text[at] = random.pick(b"() \nadgilmopqrstv0129x"),
                 _ => drop(text.remove(at)),
             }
         }
@@ -235,7 +243,13 @@ fn random_sheets_are_read_as_in_the_model() {
 
 #[test]
 fn the_kept_requests_are_read_as_in_the_model() {
-    let kept = [SheetSet::Kept, SheetSet::Square, SheetSet::Give].map(|set| set.make(1));
+    let kept = [
+        SheetSet::Kept,
+        SheetSet::Square,
+        SheetSet::Give,
+        SheetSet::Over,
+    ]
+    .map(|set| set.make(1));
     for request in kept.into_iter().flatten() {
         if let SheetRequest::Read { parties, text, .. } = request {
             // The model is slow, and a text that breaks at once is as good shorter.
@@ -260,7 +274,7 @@ fn what_is_written_reads_back() {
         } else {
             random.between(2, 30)
         };
-        let circuit = random::circuit(random, Kinds::Gives, parties, lines);
+        let circuit = random::circuit(random, Kinds::Overs, parties, lines);
         let mut text = vec![b'x'; 30 * lines];
         let len = write_sheet(parties, &circuit, &mut text).unwrap();
         assert!(text[len..].iter().all(|&byte| byte == b'x'));

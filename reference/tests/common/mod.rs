@@ -34,7 +34,7 @@ pub struct Left {
 impl Case {
     /// With gates of every kind.
     pub fn random(random: &mut Random, max_lines: usize, key: u32) -> Case {
-        Case::random_of(random, Kinds::Gives, max_lines, key)
+        Case::random_of(random, Kinds::Overs, max_lines, key)
     }
 
     pub fn random_of(random: &mut Random, kinds: Kinds, max_lines: usize, key: u32) -> Case {
