@@ -120,7 +120,7 @@ fn small(random: &mut Random) -> Vec<Request> {
         }
     }
     let scene_of = runs::two_products;
-    requests.extend(runs::good(random, kinds, 16));
+    requests.extend(runs::good(random, kinds, 14));
     requests.extend(runs::bad_preps(random, &TRIPLE_WRONGS, scene_of));
     requests.extend(runs::tampered(random, kinds.rounds(), 2, runs::one_product));
     let size = Size {
