@@ -159,6 +159,14 @@ static void reader_refuses(void)
         {"(in 0)\n(give (in 0) 1)\n(out (line 1))\n", SHAPE, 34},
         {"(give (in 0) 2)\n", 5, 1},
         {"(give (in 0) 1)\n(in 0)\n", 7, 0},
+        {"(ox", SHAPE, 2},
+        {"(ove", SHAPE, 4},
+        {"(over (in 0))\n", SHAPE, 12},
+        {"(over (out (in 0)) 2)\n", SHAPE, 8},
+        {"(over (in 0) 4294967296)\n", SHAPE, 22},
+        {"(over (in 0) 0)\n(out (line 0))\n", 6, 1},
+        {"(over (in 0) 2147483647)\n(out (line 0))\n", 6, 1},
+        {"(over (in 0) 2)\n", 7, 0},
         {"(in 4294967296)\n", SHAPE, 13},
         {"(plus (plus (plus (plus (plus (plus (plus (plus (plus (plus (plus (plus (plus (plus (plus (plus (", DEEP, 96},
     };
@@ -166,6 +174,7 @@ static void reader_refuses(void)
         refused_first("read_sheet", read_sheet, lent_text(cases[i].text), cases[i].number, cases[i].index);
 
     accepted("read_sheet", read_sheet, lent_text("(in 0)\n(give (line 0) 1)\n"), SPDZ_READ, 2);
+    accepted("read_sheet", read_sheet, lent_text("(out (over (in 0) 3))\n"), SPDZ_READ, 3);
 
     struct lent x = lent_text("(in 0)\n(out (line 0))\n");
     accepted("read_sheet", read_sheet, x, SPDZ_READ, 2);
@@ -193,17 +202,22 @@ static struct lent lent_circuit(const uint32_t circuit[8])
 static void writer_refuses(void)
 {
     static const struct { uint32_t circuit[8], number; size_t index; } cases[] = {
-        {{1, 0, 0, 0, 10, 0, 0, 0}, 4, 1},
+        {{1, 0, 0, 0, 11, 0, 0, 1}, 4, 1},
         {{1, 2, 0, 0, 7, 0, 0, 0}, 5, 0},
         {{1, 0, 0, 0, 7, 1, 0, 0}, 5, 1},
         {{1, 0, 0, 0, 8, 1, 0, 0}, 5, 1},
         {{1, 0, 0, 0, 9, 0, 2, 0}, 5, 1},
         {{1, 0, 0, 0, 9, 1, 1, 0}, 5, 1},
+        {{1, 0, 0, 0, 10, 1, 0, 1}, 5, 1},
         {{1, 0, 0, 1, 7, 0, 0, 0}, 6, 0},
         {{1, 0, 0, 0, 8, 0, 1, 0}, 6, 1},
         {{1, 0, 0, 0, 9, 0, 1, 1}, 6, 1},
+        {{1, 0, 0, 0, 10, 0, 1, 1}, 6, 1},
+        {{1, 0, 0, 0, 10, 0, 0, 0}, 6, 1},
+        {{1, 0, 0, 0, 10, 0, 0, 2147483647}, 6, 1},
         {{1, 0, 0, 0, 1, 1, 0, 0}, 7, 0},
         {{1, 0, 0, 0, 8, 0, 0, 0}, 7, 0},
+        {{1, 0, 0, 0, 10, 0, 0, 1}, 7, 0},
     };
     for (size_t i = 0; i < LENGTH(cases); i++)
         refused_first("write_sheet", write_sheet, lent_circuit(cases[i].circuit), cases[i].number, cases[i].index);
@@ -231,6 +245,7 @@ int main(int count, char **arguments)
 {
     static const char squares[] = "(in 0)\n(out (sub (sq (line 0)) (sq (sq (in 1)))))\n";
     static const char gives[] = "(in 0)\n(give (mul (line 0) (in 4)) 3)\n(out (line 0))\n(give (line 0) 4)\n";
+    static const char overs[] = "(over (in 0) 2147483646)\n(out (times (over (sq (line 0)) 7) 7))\n(give (over (line 0) 1) 4)\n";
     static uint8_t text[SPDZ_MOST_BYTES];
     if (count != 2) {
         fprintf(stderr, "usage: sheet FILE\n");
@@ -246,6 +261,7 @@ int main(int count, char **arguments)
     there_and_back(text, len);
     there_and_back((const uint8_t *)squares, strlen(squares));
     there_and_back((const uint8_t *)gives, strlen(gives));
+    there_and_back((const uint8_t *)overs, strlen(overs));
     reader_refuses();
     writer_refuses();
     return faults != 0;

@@ -37,6 +37,8 @@ struct spdz_refusal {
  *   a circuit is written as a sheet          SPDZ_WRITTEN      bytes   0      0      0      0
  *
  * At an out gate (kind 7) every party is told the output; at a give gate (kind 9) its receiver alone, and every other party gets the next position.
+ * Gates of kinds 2 to 5 and 10 (add, sub, plus, times, over) are linear: they have no round and no position, and are worked out by the receiving half before them.
+ * An over divides by its constant modulo SPDZ_P; a constant 0 is refusal 6 there, and not at a times.
  *
  * Where a run is aborted, `party` is one more than the number of the lowest party whose revealed words do not hash to its mark, and 0 where all do and the
  * check shares do not sum to zero. In a joint run every mark is made of the very words that are revealed, so that it is always 0 there.
