@@ -1,7 +1,7 @@
 //! The entries written for speed against the readable ones, on many requests: sets of test vectors, requests of which most are
 //! damaged in one place or in several, and the longest runs.
 
-use reference::circuit::{self, ADD, GIVE, IN, MAX_GATES, MUL, OUT, PLUS, SQ, SUB, TIMES};
+use reference::circuit::{self, ADD, GIVE, IN, MAX_GATES, MUL, OUT, OVER, PLUS, SQ, SUB, TIMES};
 use reference::prep;
 use reference::random::{from_kinds, Random};
 use reference::requests::{blank_joint, generate, Answer, Answered, Request, Set, Size};
@@ -86,7 +86,7 @@ const FULL: usize = 800;
 fn longest(seed: u64) -> impl Iterator<Item = Answered> {
     let random = &mut Random::new(seed);
     let mut runs = Vec::new();
-    for kind in [IN, ADD, SUB, PLUS, TIMES, MUL, OUT, SQ, GIVE] {
+    for kind in [IN, ADD, SUB, PLUS, TIMES, MUL, OUT, SQ, GIVE, OVER] {
         for parties in [2, 3, 8] {
             let mut kinds = [kind; MAX_GATES];
             kinds[0] = IN;
@@ -114,9 +114,11 @@ pub fn compare() -> usize {
             Set::Square,
             Set::Mark,
             Set::Give,
+            Set::Over,
             Set::SquaresLarge,
             Set::MarksLarge,
             Set::GivesLarge,
+            Set::OversLarge,
         ];
         let sets = sets.into_iter().flat_map(|set| set.make(seed));
         let short = generate(seed, SMALL, Size::SMALL);

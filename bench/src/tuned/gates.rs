@@ -1,6 +1,6 @@
 //! Questions 3 to 7 of whole blocks of gates, and what is counted of an accepted circuit.
 
-use reference::circuit::{ADD, GIVE, IN, MAX_GATES, MUL, OUT, PLUS, SQ, SUB, TIMES};
+use reference::circuit::{ADD, GIVE, IN, MAX_GATES, MUL, OUT, OVER, PLUS, SQ, SUB, TIMES};
 use reference::{Refusal, P};
 
 use super::field::ask;
@@ -14,6 +14,7 @@ pub const MUL8: u8 = MUL as u8;
 pub const OUT8: u8 = OUT as u8;
 pub const SQ8: u8 = SQ as u8;
 pub const GIVE8: u8 = GIVE as u8;
+pub const OVER8: u8 = OVER as u8;
 
 /// One field of each gate, as a byte: an index of a list of 256 that needs no question.
 type Plane = [u8; MAX_GATES];
@@ -194,13 +195,15 @@ impl Gates {
             let input = mask(kind == IN8);
             let give = mask(kind == GIVE8);
             let two = mask(kind & !1 == ADD8) | mask(kind == MUL8);
-            let has_constant = mask(kind & !1 == PLUS8);
+            let over = mask(kind == OVER8);
+            let has_constant = mask(kind & !1 == PLUS8) | over;
             let first_end = (parties & input) | (index & !input);
             let second_end = (index & two) | (parties & give) | (1 & !(two | give));
-            bad |= mask(kind.wrapping_sub(1) >= GIVE8)
+            bad |= mask(kind.wrapping_sub(1) >= OVER8)
                 | mask(*first >= first_end)
                 | mask(*second >= second_end)
-                | (constant & !has_constant);
+                | (constant & !has_constant)
+                | (mask(constant == 0) & over);
             *owner = *first | !input;
             *first &= !input;
             *second &= !give;
@@ -309,7 +312,7 @@ fn first_no(parties: u32, lines: &[[u32; 4]]) -> Refusal {
         let is_wire =
             |name: u32| (name as usize) < index && ![OUT, GIVE].contains(&lines[name as usize][0]);
         let two = [ADD, SUB, MUL].contains(&kind);
-        if !(IN..=GIVE).contains(&kind) {
+        if !(IN..=OVER).contains(&kind) {
             return no(4);
         }
         let named = match kind {
@@ -320,8 +323,12 @@ fn first_no(parties: u32, lines: &[[u32; 4]]) -> Refusal {
         if !named {
             return no(5);
         }
-        let end = if [PLUS, TIMES].contains(&kind) { P } else { 1 };
-        if constant >= end || (!two && kind != GIVE && second != 0) {
+        let allowed = match kind {
+            PLUS | TIMES => 0..P,
+            OVER => 1..P,
+            _ => 0..1,
+        };
+        if !allowed.contains(&constant) || (!two && kind != GIVE && second != 0) {
             return no(6);
         }
     }

@@ -8,7 +8,8 @@ use reference::{Ending, JointResult, Refusal, P};
 use super::field::{
     add, ask, ask_elements, fold, inner_product, product, quad, reduce, remainder, sub, times, Quad,
 };
-use super::gates::{Gates, ADD8, GIVE8, IN8, MUL8, PLUS8, SQ8, SUB8, TIMES8};
+use super::gates::{Gates, ADD8, GIVE8, IN8, MUL8, OVER8, PLUS8, SQ8, SUB8, TIMES8};
+use super::inverses::Inverses;
 use super::sha256::{self, Schedule, MARK, NONCE, REVEALED};
 
 /// Opened entries that are held on the stack, as a power of 2.
@@ -248,6 +249,7 @@ impl Run<'_> {
         // Nonces used, and where the last check's words start.
         let (mut used, mut last_check) = (0, 0);
         let mut schedule = Schedule::of(N);
+        let mut inverses = Inverses::new();
         let mut ending = Ending::Finished;
         let mut done = gates.len;
         for (index, (kind, first, second)) in gates.iter().enumerate() {
@@ -358,6 +360,11 @@ impl Run<'_> {
                 TIMES8 => {
                     quads(&mut row)[..Q].copy_from_slice(&wires[left]);
                     width.times(&mut row, lines[index][3].wrapping_mul(2));
+                }
+                OVER8 => {
+                    let inverse = inverses.next(lines[index..].iter());
+                    quads(&mut row)[..Q].copy_from_slice(&wires[left]);
+                    width.times(&mut row, inverse.wrapping_mul(2));
                 }
                 _ => {
                     if pending > 0 {

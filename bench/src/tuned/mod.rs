@@ -7,6 +7,7 @@
 
 mod field;
 mod gates;
+mod inverses;
 mod joint;
 mod sha256;
 mod single;

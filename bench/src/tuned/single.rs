@@ -1,12 +1,13 @@
 //! One party: sending and receiving.
 
-use reference::circuit::MAX_PARTIES;
+use reference::circuit::{ADD, MAX_PARTIES, OVER, PLUS, SUB, TIMES};
 use reference::{Party, Position, Received, Refusal, Sort, Stage, P};
 
 use super::field::{
     add, all_elements, ask, ask_elements, inner_product, product, reduce, remainder, sub, times,
 };
-use super::gates::{Gates, ADD8, GIVE8, IN8, MUL8, OUT8, PLUS8, SQ8, SUB8, TIMES8};
+use super::gates::{Gates, ADD8, GIVE8, IN8, MUL8, OUT8, OVER8, PLUS8, SQ8, SUB8, TIMES8};
+use super::inverses::Inverses;
 use super::sha256::{self, Schedule, MARK, NONCE, REVEALED};
 
 /// An accepted step.
@@ -373,6 +374,9 @@ fn failing(marks: &[u32], heard: &[u32]) -> Option<Option<u32>> {
     }
 }
 
+/// The kinds of gates that need no round.
+const LINEAR: [u32; 5] = [ADD, SUB, PLUS, TIMES, OVER];
+
 /// Works out the linear gates after the step's gate: where the next round is, or the finished position.
 fn next_gate(lent: &Party<'_>, step: &Step<'_>, scratch: &mut [u32], pending: usize) -> Position {
     let at = |index: usize, stage| Position {
@@ -381,17 +385,24 @@ fn next_gate(lent: &Party<'_>, step: &Step<'_>, scratch: &mut [u32], pending: us
         held: 0,
     };
     let public = [u32::from(lent.party == 0), lent.prep[0]];
+    let lines = lent.circuit.as_chunks::<4>().0;
+    let mut inverses = Inverses::new();
     for index in step.index + 1..step.gates.len {
         let (kind, left, right) = step.gates.gate(index);
         let (left, right) = (usize::from(left), usize::from(right));
-        let constant = lent.circuit[4 * index + 3];
+        let mut constant = lines[index][3];
+        if kind == OVER8 {
+            // Those of the over gates that this hearing works out.
+            let linear = |line: &&[u32; 4]| LINEAR.contains(&line[0]);
+            constant = inverses.next(lines[index..].iter().take_while(linear));
+        }
         for (list, public) in [0, step.macs].into_iter().zip(public) {
             let (x, y) = (scratch[list + left], scratch[list + right]);
             scratch[list + index] = match kind {
                 ADD8 => add(x, y),
                 SUB8 => sub(x, y),
                 PLUS8 => reduce(u64::from(x) + product(public, constant)),
-                TIMES8 => times(x, 2 * constant),
+                TIMES8 | OVER8 => times(x, 2 * constant),
                 OUT8 | GIVE8 if pending > 0 => return at(index, Stage::Send(Sort::CommitOpened)),
                 OUT8 | GIVE8 => return at(index, Stage::Send(Sort::OpenOutput)),
                 _ => return at(index, Stage::Send(Sort::Own)),

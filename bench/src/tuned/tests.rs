@@ -1,6 +1,6 @@
 //! The parts against the remainder operator and the readable implementation, and all entries on the largest sets of requests.
 
-use reference::circuit::{self, MAX_GATES};
+use reference::circuit::{self, MAX_GATES, OVER, TIMES};
 use reference::commitment;
 use reference::random::{self, Kinds, Random};
 use reference::requests::Set;
@@ -8,6 +8,7 @@ use reference::P;
 
 use super::field::{self, all_elements, fold, inner_product, reduce, remainder};
 use super::gates::Gates;
+use super::inverses::{inverse, Inverses};
 use super::sha256::{self, Schedule};
 use crate::agreement;
 
@@ -92,6 +93,39 @@ fn one_number_that_is_no_element_is_seen_in_every_place() {
     }
 }
 
+#[test]
+fn inverses_are_those_of_the_readable_implementation() {
+    let random = &mut Random::new(6);
+    let many = (0..20_000).map(|_| random.nonzero());
+    let edges = EDGES.into_iter().filter(|&x| x > 0);
+    for x in (1..1000).chain(edges).chain(P - 1000..P).chain(many) {
+        assert_eq!(inverse(x), reference::field::inverse(x));
+    }
+}
+
+/// Lists of over gates and others, of every length about the number that is found at once.
+#[test]
+fn inverses_are_found_in_order() {
+    let random = &mut Random::new(7);
+    for len in (1..140).chain([255, 256]) {
+        for others in [1, 2, 5] {
+            let lines: Vec<[u32; 4]> = (0..len)
+                .map(|_| match random.once_in(others) {
+                    true => [OVER, 0, 0, random.divisor()],
+                    false => [TIMES, 0, 0, 0],
+                })
+                .collect();
+            let mut inverses = Inverses::new();
+            for (index, line) in lines.iter().enumerate() {
+                if line[0] == OVER {
+                    let found = inverses.next(lines[index..].iter());
+                    assert_eq!(found, reference::field::inverse(line[3]));
+                }
+            }
+        }
+    }
+}
+
 /// Marks one after the other and side by side, of every number of parties.
 #[test]
 fn marks_are_those_of_the_readable_implementation() {
@@ -116,7 +150,7 @@ fn counts_are_those_of_the_readable_implementation() {
     let random = &mut Random::new(3);
     for len in 2..=MAX_GATES {
         let parties = random.between(2, 8) as u32;
-        let circuit = random::circuit(random, Kinds::Gives, parties, len);
+        let circuit = random::circuit(random, Kinds::Overs, parties, len);
         let shape = circuit::shape(parties, &circuit).expect("an accepted circuit");
         let mut gates = Gates::new();
         gates.read(parties, &circuit).expect("an accepted circuit");
@@ -146,7 +180,7 @@ fn altered_circuits_are_refused_alike() {
     for _ in 0..40 {
         let parties = random.between(2, 8) as u32;
         let len = random.pick(&[2, 3, 15, 16, 17, 31, 32, 33, 64, 255, 256]);
-        let circuit = random::circuit(random, Kinds::Gives, parties, len);
+        let circuit = random::circuit(random, Kinds::Overs, parties, len);
         for _ in 0..200 {
             let mut altered = circuit.clone();
             let place = random.below(altered.len());
@@ -164,6 +198,7 @@ fn altered_circuits_are_refused_alike() {
                 8,
                 9,
                 10,
+                11,
                 16,
                 255,
                 256,
@@ -191,7 +226,13 @@ fn altered_circuits_are_refused_alike() {
 
 #[test]
 fn the_largest_sets_are_answered_alike() {
-    let sets = [Set::Large, Set::Give, Set::GivesLarge];
+    let sets = [
+        Set::Large,
+        Set::Give,
+        Set::GivesLarge,
+        Set::Over,
+        Set::OversLarge,
+    ];
     for one in sets.into_iter().flat_map(|set| set.make(1)) {
         if let Some(answer) = agreement::tuned_answer(&one.request) {
             assert_eq!(answer, one.answer, "{:?}", one.request);
