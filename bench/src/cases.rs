@@ -1,6 +1,6 @@
 //! What is timed: circuits with their lists, and single rounds of them.
 
-use reference::circuit::{self, Shape, ADD, GIVE, IN, MUL, OUT, PLUS, SQ, SUB, TIMES};
+use reference::circuit::{self, Shape, ADD, GIVE, IN, MUL, OUT, OVER, PLUS, SQ, SUB, TIMES};
 use reference::commitment::NONCE_BYTES;
 use reference::random::{from_kinds, Random};
 use reference::{prep, Party, Position, Received, Round, Stage};
@@ -88,6 +88,54 @@ impl Run {
             line.copy_from_slice(&[OUT, line[1], 0, 0]);
         }
         Run::of(random, parties, circuit)
+    }
+
+    /// A circuit of overs, of one input: the hearing of that input works all of them out.
+    pub fn overs(parties: u32, gates: usize) -> Run {
+        let random = &mut generator(parties, gates);
+        let mut kinds = vec![OVER; gates];
+        (kinds[0], kinds[gates - 1]) = (IN, OUT);
+        let mut circuit = from_kinds(random, parties, &kinds);
+        // Any constants: small ones would be divided by faster.
+        for line in circuit.chunks_exact_mut(4).filter(|line| line[0] == OVER) {
+            line[3] = random.nonzero();
+        }
+        Run::of(random, parties, circuit)
+    }
+
+    /// The same circuit by times gates of the same constants.
+    pub fn overs_by_times(parties: u32, gates: usize) -> Run {
+        let mut run = Run::overs(parties, gates);
+        for line in run.circuit.chunks_exact_mut(4) {
+            if line[0] == OVER {
+                line[0] = TIMES;
+            }
+        }
+        run
+    }
+
+    /// How many gates are over gates, or times gates in their place.
+    pub fn scaled(&self) -> usize {
+        let kinds = self.circuit.chunks_exact(4).map(|line| line[0]);
+        kinds.filter(|kind| [OVER, TIMES].contains(kind)).count()
+    }
+
+    /// Overs of an input, of a product and of a square before outputs, one of them a give.
+    pub fn over_each(parties: u32) -> Run {
+        let random = &mut generator(parties, 10);
+        let circuit = [
+            [IN, 0, 0, 0],
+            [OVER, 0, 0, random.nonzero()],
+            [MUL, 1, 0, 0],
+            [OVER, 2, 0, 2],
+            [OUT, 3, 0, 0],
+            [SQ, 3, 0, 0],
+            [OVER, 5, 0, random.nonzero()],
+            [GIVE, 6, parties - 1, 0],
+            [OVER, 1, 0, 3],
+            [OUT, 8, 0, 0],
+        ];
+        Run::of(random, parties, circuit.concat())
     }
 
     /// A product that is given to one party, whose opening and checks are then the last ones.

@@ -19,7 +19,7 @@ use reference::{field, Round, P};
 
 use cases::{Halves, Lists, Run, Sheet, LONGEST_ROW};
 use measure::{compare, Sides};
-use report::{Facts, JointRow, KindRow, Report, SheetRow, SingleRow};
+use report::{Facts, JointRow, KindRow, OverRow, Report, SheetRow, SingleRow};
 
 const PARTIES: [u32; 3] = [2, 5, 8];
 const GATES: [usize; 4] = [64, 128, 192, 256];
@@ -103,6 +103,24 @@ fn gives_agree() {
         let sheet = Sheet::of(&Run::gives(parties, 64));
         reading(&sheet);
         writing(&sheet);
+    }
+}
+
+/// Both halves of the last round of each sort in a run with overs after each, and sheets with overs: all sides must agree. They are
+/// not timed.
+fn overs_agree() {
+    for parties in PARTIES {
+        let run = Run::over_each(parties);
+        for halves in cases::last_rounds(&run, SINGLE_PARTY) {
+            send(&run, &halves);
+            receive(&run, &halves);
+        }
+        joint(&run);
+        for run in [run, Run::overs(parties, 64)] {
+            let sheet = Sheet::of(&run);
+            reading(&sheet);
+            writing(&sheet);
+        }
     }
 }
 
@@ -420,9 +438,31 @@ fn measured(repetitions: usize) -> Report {
     if !gives.is_empty() {
         gives_agree();
     }
+    // Each with the hearing of its input.
+    let overs: Vec<(&str, Run, Halves)> = PARTIES
+        .into_iter()
+        .filter(|_| knows(&Run::over_each(2)))
+        .flat_map(|parties| {
+            [
+                ("over", Run::overs(parties, KIND_GATES)),
+                ("times", Run::overs_by_times(parties, KIND_GATES)),
+            ]
+        })
+        .map(|(by, run)| {
+            let mut rounds = cases::last_rounds(&run, SINGLE_PARTY).into_iter();
+            let input = rounds.find(|halves| halves.round == Round::Input);
+            (by, run, input.expect("the run has an input"))
+        })
+        .collect();
+    if !overs.is_empty() {
+        overs_agree();
+    }
     let mut sides: Vec<Sides<'_>> = runs.iter().map(joint).collect();
     sides.extend(squares.iter().map(|(_, run)| joint(run)));
     sides.extend(gives.iter().map(|(_, run)| joint(run)));
+    for (_, run, input) in &overs {
+        sides.extend([joint(run), receive(run, input)]);
+    }
     for (run, halves) in singles() {
         sides.push(send(run, halves));
         sides.push(receive(run, halves));
@@ -443,6 +483,10 @@ fn measured(repetitions: usize) -> Report {
         gives: gives
             .iter()
             .map(|(by, run)| KindRow::gives(by, run, next()))
+            .collect(),
+        overs: overs
+            .iter()
+            .map(|(by, run, _)| OverRow::new(by, run, next(), next()))
             .collect(),
         single: singles()
             .map(|(run, halves)| SingleRow {
@@ -474,6 +518,7 @@ fn main() {
             let report = measured(1);
             assert!(!report.squares.is_empty(), "question 4 admits kind 8");
             assert!(!report.gives.is_empty(), "question 4 admits kind 9");
+            assert!(!report.overs.is_empty(), "question 4 admits kind 10");
             let requests = agreement::compare();
             println!("bench: equal answers and lists on every case, and tuned on {requests} requests more");
         }

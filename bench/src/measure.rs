@@ -22,6 +22,16 @@ impl Times {
         self.tuned.map(|tuned| self.proved / tuned)
     }
 
+    /// What is more than in other times.
+    pub fn less(self, other: Times) -> Times {
+        let tuned = self.tuned.zip(other.tuned);
+        Times {
+            proved: self.proved - other.proved,
+            rust: self.rust - other.rust,
+            tuned: tuned.map(|(tuned, other)| tuned - other),
+        }
+    }
+
     /// The times of one of `parts` equal parts.
     pub fn per(self, parts: f64) -> Times {
         Times {

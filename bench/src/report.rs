@@ -80,6 +80,27 @@ impl KindRow {
     }
 }
 
+/// A circuit of overs, or of times in their place: a joint run, and one receive, which works all of them out.
+pub struct OverRow {
+    parties: u32,
+    by: &'static str,
+    count: usize,
+    joint: Times,
+    receive: Times,
+}
+
+impl OverRow {
+    pub fn new(by: &'static str, run: &Run, joint: Times, receive: Times) -> OverRow {
+        OverRow {
+            parties: run.parties,
+            by,
+            count: run.scaled(),
+            joint,
+            receive,
+        }
+    }
+}
+
 pub struct SingleRow {
     pub round: Round,
     pub gates: usize,
@@ -101,6 +122,8 @@ pub struct Report {
     /// None where the proved entries do not know squares.
     pub squares: Vec<KindRow>,
     pub gives: Vec<KindRow>,
+    /// By over and by times gates in turns.
+    pub overs: Vec<OverRow>,
     pub single: Vec<SingleRow>,
     pub sheets: Vec<SheetRow>,
     pub product: Times,
@@ -166,6 +189,52 @@ fn by_kinds(out: &mut String, title: &str, what: &str, rows: &[KindRow]) {
     let _ = writeln!(out);
 }
 
+/// The table of circuits of overs, and what an inverse costs: by what an over takes longer than a times in its place.
+fn by_overs(out: &mut String, rows: &[OverRow]) {
+    if rows.is_empty() {
+        return;
+    }
+    let _ = writeln!(
+        out,
+        "### Joint run, and one receive, of a circuit of overs, by over gates and by times gates\n"
+    );
+    let heads = heads("µs");
+    let _ = writeln!(
+        out,
+        "| parties | gates | overs | by | joint run {heads} | receive {heads} |\n{}",
+        rule(14)
+    );
+    for row in rows {
+        let _ = writeln!(
+            out,
+            "| {} | {} | {} | {} | {} | {} |",
+            row.parties,
+            crate::KIND_GATES,
+            row.count,
+            row.by,
+            cells(row.joint, MICRO, 2),
+            cells(row.receive, MICRO, 3)
+        );
+    }
+    let _ = writeln!(out, "\nAn inverse, which is what an over takes longer than a times in its place, all parties of a joint run together:\n");
+    let _ = writeln!(
+        out,
+        "| parties | joint run proved ns | Rust ns | tuned ns | receive proved ns | Rust ns | tuned ns |\n{}",
+        rule(7)
+    );
+    for [over, times] in rows.as_chunks().0 {
+        let inverse = |over: Times, times: Times| over.less(times).per(rows[0].count as f64);
+        let _ = writeln!(
+            out,
+            "| {} | {} | {} |",
+            over.parties,
+            plain_cells(inverse(over.joint, times.joint), 1),
+            plain_cells(inverse(over.receive, times.receive), 1)
+        );
+    }
+    let _ = writeln!(out);
+}
+
 /// The line below the heads of so many columns.
 fn rule(columns: usize) -> String {
     "|---".repeat(columns) + "|"
@@ -210,6 +279,7 @@ impl Report {
             "outputs",
             &self.gives,
         );
+        by_overs(out, &self.overs);
         let _ = writeln!(out, "### One send, one receive, with all questions\n");
         let _ = writeln!(
             out,
@@ -298,7 +368,7 @@ impl Report {
              ## What is measured\n\n\
              All sides get the same requests and their own lists of equal length, cleared alike; before a case is timed, all must give equal answers and leave equal\n\
              lists. Batches of at least half a millisecond are timed in turns, all cases one after another and {} times over, and the medians are told. Five of eight gates of each circuit multiply; the\n\
-             others are linear, in and out gates, with an out gate every 32 gates. A circuit of squares is of the same shape, with squares for its products; a circuit of many outputs has one for every fourth gate, after two products and a sum, by give gates to parties at random or by out gates. Single halves are those of the last round of each sort, at party 1 of 5.\n\
+             others are linear, in and out gates, with an out gate every 32 gates. A circuit of squares is of the same shape, with squares for its products; a circuit of many outputs has one for every fourth gate, after two products and a sum, by give gates to parties at random or by out gates; a circuit of overs has one input and one output, and overs between by constants at random, or times by the same constants in their place. Single halves are those of the last round of each sort, at party 1 of 5; a circuit of overs is worked out by one receive, that of its input at party 1.\n\
              A check takes a hash for each party in a joint run; a seal that is sent takes one, and a reveal that is received one for each of the 5 parties. The circuit of 2 gates is an input that is given out: its check has one entry, so that a seal sent there is little more than one hash.\n\
              Sheets are for 5 parties; each is read, and the circuit that it is read as is written, a gate a line.\n\
              A field product is one of {} that multiply a list in place, once all its numbers are asked.\n\n\
