@@ -88,7 +88,9 @@ told n q top c j (suc (suc (suc (suc (suc (suc (suc (suc zero)))))))) x y z np q
     record { kind-is = refl; low = omega arith; operands = a; line-is = numbers-are refl (sym b) (sym d) }
 told n q top c j (suc (suc (suc (suc (suc (suc (suc (suc (suc zero))))))))) x y z np qp lo hi a b d =
     record { kind-is = refl; low = omega arith; operands = a; line-is = numbers-are refl (omega arith) (sym d) }
-told n q top c j (suc (suc (suc (suc (suc (suc (suc (suc (suc (suc k)))))))))) x y z np qp lo hi a b d = absurd (omega arith)
+told n q top c j (suc (suc (suc (suc (suc (suc (suc (suc (suc (suc zero)))))))))) x y z np qp lo hi a b d =
+    record { kind-is = refl; low = omega (arith, d .1); operands = a; line-is = numbers-are refl (sym b) (omega arith) }
+told n q top c j (suc (suc (suc (suc (suc (suc (suc (suc (suc (suc (suc k))))))))))) x y z np qp lo hi a b d = absurd (omega arith)
 
 -- a form with names as its operands, by what follows its word ----------------------------------------------------------------
 

@@ -7,7 +7,7 @@ use mathlib.Core.List.{List, [], _∷_}
 use lib.Dec.{eqb}
 use borrow.Author.Tests.{eqb-true, not-true}
 use Rattle.circuit.proofs.Tests.{both-left, both-right}
-use Rattle.forms.specs.Words.{Head, In, Add, Sub, Plus, Times, Mul, Out, Line, Sq, Give, Sort, Leaf, One, Two, Scaled, heads, letters, sort, kind, names}
+use Rattle.forms.specs.Words.{Head, In, Add, Sub, Plus, Times, Mul, Out, Line, Sq, Give, Over, Sort, Leaf, One, Two, Scaled, heads, letters, sort, kind, names}
 use Rattle.forms.specs.Form.{space}
 use Rattle.forms.specs.Machine.{starts, same}
 use Rattle.forms.specs.Entry.{picked, headOf}
@@ -30,6 +30,7 @@ listed Out = there (there (there (there (there (there here)))))
 listed Line = there (there (there (there (there (there (there here))))))
 listed Sq = there (there (there (there (there (there (there (there here)))))))
 listed Give = there (there (there (there (there (there (there (there (there here))))))))
+listed Over = there (there (there (there (there (there (there (there (there (there here)))))))))
 
 unfoldable pub allOf : (Head → Bool) → List Head → Bool
 allOf p [] = true
@@ -66,6 +67,7 @@ head-back Out = refl
 head-back Line = refl
 head-back Sq = refl
 head-back Give = refl
+head-back Over = refl
 
 pub kind-tells : (h k : Head) → eqb (kind h) (kind k) ≡ true → h ≡ k
 kind-tells h k e = sym (head-back h) ∙ (ap headOf (eqb-true (kind h) (kind k) e) ∙ head-back k)

@@ -7,7 +7,7 @@ use lib.ListN.{length}
 use lib.Dec.{eqb, leb}
 use Rattle.circuit.specs.Verdict.{Verdict, Accepted, Refused, ask, _then_}
 use Rattle.circuit.specs.Gate.{entry, gates}
-use Rattle.circuit.specs.Kind.{Shape, Role, Unused, Party, Wire, Constant}
+use Rattle.circuit.specs.Kind.{Shape, Role, Unused, Party, Wire, Constant, Divisor}
 use Rattle.circuit.specs.Accept.{askCircuit}
 use Rattle.protocol.specs.Ask.{askParties}
 use Rattle.protocol.specs.Send.{overwrite}
@@ -72,6 +72,7 @@ counted Unused x = 0
 counted Party x = x
 counted Wire x = 0
 counted Constant x = x
+counted Divisor x = x
 
 unfoldable pub numberOf : Shape → ℕ → ℕ → ℕ → ℕ
 numberOf s x y z = counted (s .first) x + counted (s .second) y + counted (s .constant) z

@@ -83,6 +83,12 @@ given = bytes "(in 0)\n(give (line 0) 1)\n"
 abbrev givenCircuit : List ℕ
 givenCircuit = 1 ∷ 0 ∷ 0 ∷ 0 ∷ 9 ∷ 0 ∷ 1 ∷ 0 ∷ []
 
+abbrev overed : List ℕ
+overed = bytes "(in 0)\n(over (line 0) 2)\n(out (line 1))\n"
+
+abbrev overedCircuit : List ℕ
+overedCircuit = 1 ∷ 0 ∷ 0 ∷ 0 ∷ 10 ∷ 0 ∷ 0 ∷ 2 ∷ 7 ∷ 1 ∷ 0 ∷ 0 ∷ []
+
 unfoldable pub table : List Case
 table =
     -- the empty text does not end within a line: a circuit of no gates
@@ -104,8 +110,9 @@ table =
     -- a constant that is no element: gate 1, row 0
     ∷ refused 2 (bytes "(plus (in 0) 2147483647)\n(out (line 0))\n") 6 1
     ∷ becomes 2 (bytes "(plus (in 0) 2147483646)\n(out (line 0))\n") (1 ∷ 0 ∷ 0 ∷ 0 ∷ 4 ∷ 0 ∷ 0 ∷ 2147483646 ∷ 7 ∷ 1 ∷ 0 ∷ 0 ∷ [])
-    -- an out inside: the "o"
-    ∷ refused 2 (bytes "(add (out (in 0)) (in 0))\n") 22 6
+    -- an out inside: "(o" may become "(over", the "u"
+    ∷ refused 2 (bytes "(add (out (in 0)) (in 0))\n") 22 7
+    ∷ refused 2 (bytes "(out (out (in 0)))\n") 22 7
     -- no earlier row: the "l"
     ∷ refused 2 (bytes "(add (line 0) (in 0))\n") 22 6
     -- no earlier row with a value: the "l"
@@ -152,10 +159,26 @@ table =
     -- a receiver that no number may be, and one that is no party
     ∷ refused 2 (bytes "(in 0)\n(give (line 0) 4294967296)\n") 22 31
     ∷ refused 2 (bytes "(in 0)\n(give (line 0) 2)\n") 5 1
+    -- an over, outermost and inside; its number is its gate's constant
+    ∷ becomes 2 overed overedCircuit
+    ∷ becomes 2 (bytes "(out (over (in 0) 3))\n") (1 ∷ 0 ∷ 0 ∷ 0 ∷ 10 ∷ 0 ∷ 0 ∷ 3 ∷ 7 ∷ 1 ∷ 0 ∷ 0 ∷ [])
+    -- a divisor that is 0, and one that is no element: gate 1, row 0; the largest element
+    ∷ refused 2 (bytes "(over (in 0) 0)\n(out (line 0))\n") 6 1
+    ∷ refused 2 (bytes "(over (in 0) 2147483647)\n(out (line 0))\n") 6 1
+    ∷ becomes 2 (bytes "(over (in 0) 2147483646)\n(out (line 0))\n") (1 ∷ 0 ∷ 0 ∷ 0 ∷ 10 ∷ 0 ∷ 0 ∷ 2147483646 ∷ 7 ∷ 1 ∷ 0 ∷ 0 ∷ [])
+    -- "(ov" lives, outermost and inside: the text ends within a line
+    ∷ refused 2 (bytes "(ov") 22 3
+    ∷ refused 2 (bytes "(add (ov") 22 8
+    -- outermost "(o" may become "(out" or "(over", and "(ov" only "(over"
+    ∷ refused 2 (bytes "(oo (in 0))\n") 22 2
+    ∷ refused 2 (bytes "(ovt (in 0))\n") 22 3
+    -- an over has a form and a number
+    ∷ refused 2 (bytes "(over 2 (in 0))\n") 22 6
     -- the sheet of a circuit, and room for a byte less
     ∷ writes shortCircuit (replicate 22 blank) (Done 22) short
     ∷ writes shortCircuit (replicate 21 blank) (Refusal 18 0) (replicate 21 blank)
     ∷ writes givenCircuit (replicate 25 blank) (Done 25) given
+    ∷ writes overedCircuit (replicate 40 blank) (Done 40) overed
     ∷ []
 
 -- long texts, as far as they are read

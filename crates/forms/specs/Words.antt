@@ -4,10 +4,10 @@ use Prim.Native.Nat.{ℕ}
 use mathlib.Core.Bool.{Bool, cond, not, _||_}
 use mathlib.Core.List.{List, [], _∷_}
 use lib.Dec.{eqb}
-use Rattle.circuit.specs.Gate.{kindIn, kindAdd, kindSub, kindPlus, kindTimes, kindMul, kindOut, kindSq, kindGive, decode}
-use Rattle.circuit.specs.Kind.{Shape, kindShape, Output, isClass, Role, Unused, Party, Wire, Constant}
+use Rattle.circuit.specs.Gate.{kindIn, kindAdd, kindSub, kindPlus, kindTimes, kindMul, kindOut, kindSq, kindGive, kindOver, decode}
+use Rattle.circuit.specs.Kind.{Shape, kindShape, Output, isClass, Role, Unused, Party, Wire, Constant, Divisor}
 pub use Rattle.forms.specs.declared.Head.{Head}
-pub use Rattle.forms.specs.declared.Head.the-variants.{In, Add, Sub, Plus, Times, Mul, Out, Line, Sq, Give}
+pub use Rattle.forms.specs.declared.Head.the-variants.{In, Add, Sub, Plus, Times, Mul, Out, Line, Sq, Give, Over}
 pub use Rattle.forms.specs.declared.Sort.{Sort}
 pub use Rattle.forms.specs.declared.Sort.the-variants.{Leaf, One, Two, Scaled}
 
@@ -25,7 +25,8 @@ abbrev row : List ℕ → Sort → ℕ → Word
 row letters sort kind = record { letters = letters; sort = sort; kind = kind }
 
 -- "A form is (in S), (add F F), (sub F F), (plus F K), (times F K), (mul F F), or inside another form (line J) .. An (out F)"; "The sheet gains
--- (sq F)"; "The sheet gains (give F S)". What a number is for, a constant or a party, is told by the kind. A byte is its number in ASCII
+-- (sq F)"; "The sheet gains (give F S)"; "The sheet gains (over F K)". What a number is for, a constant, a divisor or a party, is told by the
+-- kind. A byte is its number in ASCII
 abbrev pub word : Head → Word
 word In = row (105 ∷ 110 ∷ []) Leaf kindIn
 word Add = row (97 ∷ 100 ∷ 100 ∷ []) Two kindAdd
@@ -37,9 +38,10 @@ word Out = row (111 ∷ 117 ∷ 116 ∷ []) One kindOut
 word Line = row (108 ∷ 105 ∷ 110 ∷ 101 ∷ []) Leaf noKind
 word Sq = row (115 ∷ 113 ∷ []) One kindSq
 word Give = row (103 ∷ 105 ∷ 118 ∷ 101 ∷ []) Scaled kindGive
+word Over = row (111 ∷ 118 ∷ 101 ∷ 114 ∷ []) Scaled kindOver
 
 abbrev pub heads : List Head
-heads = In ∷ Add ∷ Sub ∷ Plus ∷ Times ∷ Mul ∷ Out ∷ Line ∷ Sq ∷ Give ∷ []
+heads = In ∷ Add ∷ Sub ∷ Plus ∷ Times ∷ Mul ∷ Out ∷ Line ∷ Sq ∷ Give ∷ Over ∷ []
 
 abbrev pub letters : Head → List ℕ
 letters h = word h .letters
@@ -79,6 +81,7 @@ placed Unused wire number = 0
 placed Party wire number = number
 placed Wire wire number = wire
 placed Constant wire number = number
+placed Divisor wire number = number
 
 -- the gate of a form: the gates of its operands, 0 where it has none, and its number, 0 where it has none
 unfoldable pub line : Head → ℕ → ℕ → ℕ → List ℕ

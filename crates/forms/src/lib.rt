@@ -13,6 +13,7 @@ pub enum Head {
     Line,
     Sq,
     Give,
+    Over,
 }
 
 // What follows a word: a number; a form; two forms; a form and a number.
