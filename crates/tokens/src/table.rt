@@ -68,14 +68,15 @@ pub fn row(h: Head) -> Row
             second: Role::Party,
             constant: Role::Unused,
         },
+        Head::Over => valued(4, Sort::Scaled, 10, Role::Wire, Role::Unused, Role::Divisor),
     }
 }
 
 // How many words there are.
-pub const HEADS: usize = 10;
+pub const HEADS: usize = 11;
 
 pub fn head_at(k: usize) -> Head
-    requires { ⌜ k < 10 ⌝ }
+    requires { ⌜ k < 11 ⌝ }
     ensures { λ r. ⌜ drop k heads ≡ r ∷ drop (k + 1) heads ⌝ }
 {
     if k == 0 {
@@ -105,5 +106,8 @@ pub fn head_at(k: usize) -> Head
     if k == 8 {
         return Head::Sq;
     }
-    Head::Give
+    if k == 9 {
+        return Head::Give;
+    }
+    Head::Over
 }

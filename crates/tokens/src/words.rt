@@ -50,6 +50,7 @@ fn starts_head(text: &[u8], from: usize, to: usize, h: Head) -> bool
         Head::Line => starts_word(text, from, to, b"line"),
         Head::Sq => starts_word(text, from, to, b"sq"),
         Head::Give => starts_word(text, from, to, b"give"),
+        Head::Over => starts_word(text, from, to, b"over"),
     }
 }
 
@@ -87,6 +88,7 @@ fn word_stands(text: &[u8], from: usize, h: Head) -> bool
         Head::Line => bytes_stand(text, from, b"line "),
         Head::Sq => bytes_stand(text, from, b"sq "),
         Head::Give => bytes_stand(text, from, b"give "),
+        Head::Over => bytes_stand(text, from, b"over "),
     }
 }
 
@@ -218,6 +220,9 @@ fn suggested(b: u8, next: u8) -> Head {
     }
     if b == b'g' {
         return Head::Give;
+    }
+    if next == b'v' {
+        return Head::Over;
     }
     Head::Out
 }

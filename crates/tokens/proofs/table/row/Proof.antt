@@ -49,10 +49,14 @@ returns-10 : tie.Need-returns-10
 unfolding valued isClass kindShape decode
 returns-10 c = row-as (c .enum-told10 .given .1) refl refl refl refl refl refl refl refl refl
 
+returns-11 : tie.Need-returns-11
+unfolding valued isClass kindShape decode
+returns-11 c = row-as (c .before .enum-told11 .given .1) (c .valued8 .ensures) refl refl refl refl refl refl refl refl
+
 pub row-spec : {M : Type 1} → statement M
 row-spec =
     tie.close
     (tie.spec (λ c. search needs) (λ c κs. search needs) (λ c. search needs) (λ c κs. search needs) (λ c. search needs) (λ c κs. search needs)
     (λ c. search needs) (λ c κs. search needs) (λ c. search needs) (λ c κs. search needs) (λ c. search needs) (λ c κs. search needs)
-    (λ c. search needs) (λ c. search needs) (λ c. search needs) (λ c κs. search needs) (λ c. search needs) returns returns-2 returns-3 returns-4
-    returns-5 returns-6 returns-7 returns-8 returns-9 returns-10)
+    (λ c. search needs) (λ c. search needs) (λ c. search needs) (λ c κs. search needs) (λ c. search needs) (λ c. search needs)
+    (λ c κs. search needs) returns returns-2 returns-3 returns-4 returns-5 returns-6 returns-7 returns-8 returns-9 returns-10 returns-11)

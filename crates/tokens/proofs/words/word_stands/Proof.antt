@@ -34,6 +34,9 @@ returns-9 c = rw (c .before .before .enum-told9 .given .1) (c .bytes-stand9 .ens
 returns-10 : tie.Need-returns-10
 returns-10 c = rw (c .before .before .enum-told10 .given .1) (c .bytes-stand10 .ensures)
 
+returns-11 : tie.Need-returns-11
+returns-11 c = rw (c .before .before .enum-told11 .given .1) (c .bytes-stand11 .ensures)
+
 pub word-stands-spec : {M : Type 1} → statement M
 word-stands-spec =
     tie.close
@@ -41,5 +44,6 @@ word-stands-spec =
     (λ c. search needs) (λ c. search needs) (λ c κs. search needs) (λ c. search needs) (λ c. search needs) (λ c κs. search needs)
     (λ c. search needs) (λ c. search needs) (λ c κs. search needs) (λ c. search needs) (λ c. search needs) (λ c κs. search needs)
     (λ c. search needs) (λ c. search needs) (λ c κs. search needs) (λ c. search needs) (λ c. search needs) (λ c κs. search needs)
-    (λ c. search needs) (λ c. search needs) (λ c κs. search needs) (λ c. search needs) (λ c. search needs) (λ c κs. search needs) returns
-    returns-2 returns-3 returns-4 returns-5 returns-6 returns-7 returns-8 returns-9 returns-10)
+    (λ c. search needs) (λ c. search needs) (λ c κs. search needs) (λ c. search needs) (λ c. search needs) (λ c κs. search needs)
+    (λ c. search needs) (λ c. search needs) (λ c κs. search needs) returns returns-2 returns-3 returns-4 returns-5 returns-6 returns-7 returns-8
+    returns-9 returns-10 returns-11)
