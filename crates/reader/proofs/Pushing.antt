@@ -9,11 +9,11 @@ use lib.ListN.{length, take, set, length-set}
 use lib.Seq.{take-suc-set}
 use Rattle.circuit.specs.Gate.{gateSize, decode}
 use Rattle.circuit.specs.Accept.{mostGates}
-use Rattle.circuit.specs.Kind.{Role, Unused, Party, Wire, Constant, kindShape}
+use Rattle.circuit.specs.Kind.{Role, Unused, Party, Wire, Constant, Divisor, kindShape}
 use Rattle.circuit.specs.Code.{roleOf}
 use Rattle.circuit.specs.declared.Role as C
 use Rattle.forms.specs.declared.Head.{Head}
-use Rattle.forms.specs.declared.Head.the-variants.{In, Add, Sub, Plus, Times, Mul, Out, Line, Sq, Give}
+use Rattle.forms.specs.declared.Head.the-variants.{In, Add, Sub, Plus, Times, Mul, Out, Line, Sq, Give, Over}
 use Rattle.forms.specs.declared.Sort.{Sort}
 use Rattle.forms.specs.declared.Sort.the-variants.{Leaf, One, Two, Scaled}
 use Rattle.forms.specs.Words.{sort, kind, names, shapeOf, placed, line}
@@ -60,12 +60,13 @@ pushed-gate l at count h a b d {r} o room long = record {
   sized = simp length-set refl;
 }
 
--- is it a constant?
+-- is it a constant, a divisor among them?
 abbrev pub isConstant : Role → Bool
 isConstant Unused = false
 isConstant Party = false
 isConstant Wire = false
 isConstant Constant = true
+isConstant Divisor = true
 
 -- where a form of a sort has the gates of its operands, and its number; with one operand the number is its constant, or stands second
 abbrev numbersBy : Bool → Sort → ℕ → ℕ → ℕ → List ℕ
@@ -87,6 +88,7 @@ module _ (h : Head) (x y n : ℕ) where
   line-by Line e = absurd (true≢false e)
   line-by Sq e = refl
   line-by Give e = refl
+  line-by Over e = refl
 
   pub line-as : (k : Sort) → sort h ≡ k → names h ≡ false → line h x y n ≡ kind h ∷ numbersBy (isConstant (shapeOf h .constant)) k x y n
   line-as k s e = line-by h e ∙ ap (λ (q : Sort). kind h ∷ numbersBy (isConstant (shapeOf h .constant)) q x y n) s

@@ -79,6 +79,7 @@ fn close_scaled(
     let constant = row.constant;
     match constant {
         Role::Constant => close_gate(lines, at, h, x, 0, n, count),
+        Role::Divisor => close_gate(lines, at, h, x, 0, n, count),
         Role::Unused => close_gate(lines, at, h, x, n, 0, count),
         Role::Party => close_gate(lines, at, h, x, n, 0, count),
         Role::Wire => close_gate(lines, at, h, x, n, 0, count),

@@ -25,8 +25,14 @@ returns-4 c =
     let s = c .before .before .before .before .before in
     rw (scaled-line (s .args .h) (s .args .x) (s .args .n) (s .pre .3) (c .before .before .before .before .row .ensures) (c .before .before .enum-told4 .given .1)) (c .close-gate4 .ensures)
 
+returns-5 : tie.Need-returns-5
+returns-5 c =
+    let s = c .before .before .before .before .before in
+    rw (scaled-line (s .args .h) (s .args .x) (s .args .n) (s .pre .3) (c .before .before .before .before .row .ensures) (c .before .before .enum-told5 .given .1)) (c .close-gate5 .ensures)
+
 pub close-scaled-spec : {M : Type 1} → statement M
 close-scaled-spec =
     tie.close
     (tie.spec (λ c κs. search needs) (λ c. search needs) (λ c κs. search needs) (λ c. search needs) (λ c κs. search needs) (λ c. search needs)
-    (λ c κs. search needs) (λ c. search needs) (λ c κs. search needs) returns returns-2 returns-3 returns-4)
+    (λ c κs. search needs) (λ c. search needs) (λ c κs. search needs) (λ c. search needs) (λ c κs. search needs) returns returns-2 returns-3
+    returns-4 returns-5)
