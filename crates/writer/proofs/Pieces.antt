@@ -23,10 +23,21 @@ use Rattle.writer.specs.declared.Parts.{Parts}
 use Rattle.writer.specs.Code.{formIn, rowText, rowRoom}
 
 -- a number that is no kind
-pub head-line : (k : ℕ) → 1 ≢ k → 2 ≢ k → 3 ≢ k → 4 ≢ k → 5 ≢ k → 6 ≢ k → 7 ≢ k → 8 ≢ k → 9 ≢ k → Line ≡ headOf k
+pub head-line : (k : ℕ) → 1 ≢ k → 2 ≢ k → 3 ≢ k → 4 ≢ k → 5 ≢ k → 6 ≢ k → 7 ≢ k → 8 ≢ k → 9 ≢ k → 10 ≢ k → Line ≡ headOf k
 unfolding headOf picked
-head-line k a b d e f g h i j =
-    rw (ne-eqb 1 k a, ne-eqb 2 k b, ne-eqb 3 k d, ne-eqb 4 k e, ne-eqb 5 k f, ne-eqb 6 k g, ne-eqb 7 k h, ne-eqb 8 k i, ne-eqb 9 k j) (same (eqb 0 k))
+head-line k a b d e f g h i j l =
+    rw (
+      ne-eqb 1 k a,
+      ne-eqb 2 k b,
+      ne-eqb 3 k d,
+      ne-eqb 4 k e,
+      ne-eqb 5 k f,
+      ne-eqb 6 k g,
+      ne-eqb 7 k h,
+      ne-eqb 8 k i,
+      ne-eqb 9 k j,
+      ne-eqb 10 k l,
+    ) (same (eqb 0 k))
   where
     same : (t : Bool) → Line ≡ cond t Line Line
     same true = refl

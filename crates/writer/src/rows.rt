@@ -32,6 +32,8 @@ const KIND_SQ: Word = 8;
 
 const KIND_GIVE: Word = 9;
 
+const KIND_OVER: Word = 10;
+
 // The word whose form makes a gate of this kind.
 fn head_of(kind: Word) -> Head
     ensures { λ r. ⌜ r ≡ headOf kind ⌝ }
@@ -46,6 +48,7 @@ fn head_of(kind: Word) -> Head
         KIND_OUT => Head::Out,
         KIND_SQ => Head::Sq,
         KIND_GIVE => Head::Give,
+        KIND_OVER => Head::Over,
         _ => Head::Line,
     }
 }
@@ -59,6 +62,7 @@ fn counted(role: Role, x: Word) -> Word
         Role::Party => x,
         Role::Wire => 0,
         Role::Constant => x,
+        Role::Divisor => x,
     }
 }
 

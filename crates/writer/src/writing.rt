@@ -52,6 +52,7 @@ fn put_begin(text: &mut [u8], at: usize, h: Head) -> usize
         Head::Line => put_bytes(text, at, b"(line "),
         Head::Sq => put_bytes(text, at, b"(sq "),
         Head::Give => put_bytes(text, at, b"(give "),
+        Head::Over => put_bytes(text, at, b"(over "),
     }
 }
 

@@ -21,7 +21,12 @@ returns-4 : tie.Need-returns-4
 unfolding counted
 returns-4 c = rw (c .enum-told4 .given .1)
 
+returns-5 : tie.Need-returns-5
+unfolding counted
+returns-5 c = rw (c .enum-told5 .given .1)
+
 pub counted-spec : {M : Type 1} → statement M
 counted-spec =
     tie.close
-    (tie.spec (λ c. search needs) (λ c. search needs) (λ c. search needs) (λ c. search needs) returns returns-2 returns-3 returns-4)
+    (tie.spec (λ c. search needs) (λ c. search needs) (λ c. search needs) (λ c. search needs) (λ c. search needs) returns returns-2 returns-3 returns-4
+    returns-5)

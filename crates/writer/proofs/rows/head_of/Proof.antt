@@ -43,11 +43,15 @@ unfolding headOf picked
 returns-9 c = rw (c .match .keys9)
 
 returns-10 : tie.Need-returns-10
-returns-10 c =
+unfolding headOf picked
+returns-10 c = rw (c .match .keys10)
+
+returns-11 : tie.Need-returns-11
+returns-11 c =
     let r = c .match .rest in
-    let s = r .0 .0 .0 .0 in
+    let s = r .0 .0 .0 .0 .0 in
     head-line _ (λ e. s .0 .0 .0 .0 .1 (sym e)) (λ e. s .0 .0 .0 .1 (sym e)) (λ e. s .0 .0 .1 (sym e)) (λ e. s .0 .1 (sym e)) (λ e. s .1 (sym e))
-    (λ e. r .0 .0 .0 .1 (sym e)) (λ e. r .0 .0 .1 (sym e)) (λ e. r .0 .1 (sym e)) (λ e. r .1 (sym e))
+    (λ e. r .0 .0 .0 .0 .1 (sym e)) (λ e. r .0 .0 .0 .1 (sym e)) (λ e. r .0 .0 .1 (sym e)) (λ e. r .0 .1 (sym e)) (λ e. r .1 (sym e))
 
 pub head-of-spec : {M : Type 1} → statement M
-head-of-spec = tie.close (tie.spec returns returns-2 returns-3 returns-4 returns-5 returns-6 returns-7 returns-8 returns-9 returns-10)
+head-of-spec = tie.close (tie.spec returns returns-2 returns-3 returns-4 returns-5 returns-6 returns-7 returns-8 returns-9 returns-10 returns-11)

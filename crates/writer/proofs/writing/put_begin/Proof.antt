@@ -45,6 +45,10 @@ put-bytes-requires-10 : tie.Need-put-bytes-requires-10
 unfolding begin
 put-bytes-requires-10 c κs = rw (c .before .before .enum-told10 .given .1) at (c .before .before .before .before .before .pre)
 
+put-bytes-requires-11 : tie.Need-put-bytes-requires-11
+unfolding begin
+put-bytes-requires-11 c κs = rw (c .before .before .enum-told11 .given .1) at (c .before .before .before .before .before .pre)
+
 returns : tie.Need-returns
 unfolding begin
 returns c = rw (c .before .before .before .before .before .enum-told .given .1) (c .before .before .put-bytes .ensures)
@@ -85,6 +89,10 @@ returns-10 : tie.Need-returns-10
 unfolding begin
 returns-10 c = rw (c .before .before .before .before .before .enum-told10 .given .1) (c .before .before .put-bytes10 .ensures)
 
+returns-11 : tie.Need-returns-11
+unfolding begin
+returns-11 c = rw (c .before .before .before .before .before .enum-told11 .given .1) (c .before .before .put-bytes11 .ensures)
+
 pub put-begin-spec : {M : Type 1} → statement M
 put-begin-spec =
     tie.close
@@ -93,6 +101,6 @@ put-begin-spec =
     (λ c. search needs) (λ c. search needs) put-bytes-requires-5 (λ c. search needs) (λ c. search needs) put-bytes-requires-6
     (λ c. search needs) (λ c. search needs) put-bytes-requires-7 (λ c. search needs) (λ c. search needs) put-bytes-requires-8
     (λ c. search needs) (λ c. search needs) put-bytes-requires-9 (λ c. search needs) (λ c. search needs) put-bytes-requires-10
-    (λ c. search needs) returns (λ c. search needs) returns-2 (λ c. search needs) returns-3 (λ c. search needs) returns-4 (λ c. search needs)
-    returns-5 (λ c. search needs) returns-6 (λ c. search needs) returns-7 (λ c. search needs) returns-8 (λ c. search needs) returns-9
-    (λ c. search needs) returns-10)
+    (λ c. search needs) (λ c. search needs) put-bytes-requires-11 (λ c. search needs) returns (λ c. search needs) returns-2 (λ c. search needs)
+    returns-3 (λ c. search needs) returns-4 (λ c. search needs) returns-5 (λ c. search needs) returns-6 (λ c. search needs) returns-7
+    (λ c. search needs) returns-8 (λ c. search needs) returns-9 (λ c. search needs) returns-10 (λ c. search needs) returns-11)
