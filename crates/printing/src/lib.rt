@@ -173,6 +173,7 @@ fn print_own(parties: u32, kind: Kind, transcript: &[Word], place: Place) -> Pla
         Kind::Out => place,
         Kind::Sq => print_round(b"sq", parties, kind, 0, Round::Own, transcript, place),
         Kind::Give => place,
+        Kind::Over => place,
     }
 }
 
