@@ -1,4 +1,4 @@
--- What is claimed of the joint run: accuracy, rounds, aborts, and secrecy; of parties apart, that they are the joint run; and of marks, what they bind to.
+-- What is claimed of the joint run: accuracy, rounds, aborts, secrecy, and that over undoes times; of parties apart, that they are the joint run; and of marks, what they bind to.
 pub mod Premises
 pub mod Accuracy
 pub mod Abort

@@ -15,7 +15,7 @@ use Rattle.protocol.specs.Plain.{value}
 use Rattle.theorems.specs.Premises.{after}
 use Rattle.theorems.specs.Accuracy.{scratchAfter}
 
--- gate t is of gate x and gate u of gate t, each by the constant k
+-- gate t is of kind one and names gate x, gate u is of kind other and names gate t, and both have the constant k; their second is unused
 pub record InTurn (c : List ℕ) (one other : Kind) (x t u k : ℕ) : Type 0 where
   pub one-is : gate c t ≡ gateOf one x 0 k
   pub other-is : gate c u ≡ gateOf other t 0 k
@@ -30,17 +30,21 @@ module _ (O : Ops) (J : Joint) where
     abbrev pub partAfter : ℕ → ℕ → ℕ → Part
     partAfter r i x = wire (layout (J .circuit)) (scratchAfter O J scratch r i) x
 
-    -- after any number of rounds, at each party, of each gate u worked out
+    -- gate u is worked out after r rounds
+    abbrev pub WorkedOut : ℕ → ℕ → Type 0
+    WorkedOut r u = u < after O J scratch r .point .gate
+
+    -- after any number of rounds, at each party
     pub record Undone : Type 0 where
       -- "It multiplies share and MAC share alike by the constant's inverse."
       pub divides : (r i u : ℕ)
-          → u < after O J scratch r .point .gate
+          → WorkedOut r u
           → i < J .parties
           → gate (J .circuit) u .kind ≡ Over
           → partAfter r i u ≡ over O (gate (J .circuit) u .constant) (partAfter r i (gate (J .circuit) u .first))
       -- the share and the MAC share of gate x come back
       pub parts : (r i x t u k : ℕ)
-          → u < after O J scratch r .point .gate
+          → WorkedOut r u
           → i < J .parties
           → EitherOrder (J .circuit) x t u k
           → partAfter r i u ≡ partAfter r i x
