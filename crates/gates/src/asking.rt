@@ -174,10 +174,10 @@ fn ends_well(parties: usize, size: usize, c: &[Word], j: usize, s: Shape) -> boo
             if constant == 0 {
                 return false;
             }
-            if size <= constant {
-                return false;
+            if constant < size {
+                return number_well(parties, size, c, j, first, first_role);
             }
-            number_well(parties, size, c, j, first, first_role)
+            false
         }
     }
 }

@@ -285,8 +285,8 @@ pub fn after_linear(
         Kind::Sq => {}
         Kind::Give => {}
         Kind::Over => {
-            let w = parts::times(k, scratch::wire_at(l, y, x));
-            scratch::put_wire(l, y, j, w);
+            let quotient = parts::times(k, scratch::wire_at(l, y, x));
+            scratch::put_wire(l, y, j, quotient);
         }
     }
 }
