@@ -1,6 +1,6 @@
 -- What one pass over the gates finds: a gate of which it says yes is valid.
 -- Assumes nothing.
-use Prim.Native.Nat.{ℕ, zero, suc, _*_}
+use Prim.Native.Nat.{ℕ, zero, suc, _*_, _<_}
 use mathlib.Core.Path.{_≡_, refl, sym, ap, subst, _∙_}
 use mathlib.Core.Bool.{Bool, true, false}
 use mathlib.Core.List.{List}
@@ -9,7 +9,7 @@ use lib.ListN.{getD}
 use lib.Dec.{leb}
 use borrow.Author.Tests.{leb-true, leb-false, le-leb}
 use Rattle.circuit.specs.Gate.{Out, gateSize, firstKind, lastKind, decode, entry, gate}
-use Rattle.circuit.specs.Kind.{Shape, Role, Output, kindShape, isClass, shape}
+use Rattle.circuit.specs.Kind.{Shape, Role, Unused, Party, Wire, Constant, Divisor, Output, kindShape, isClass, isDivisor, shape}
 use Rattle.circuit.specs.Accept.{isKind}
 use Rattle.circuit.specs.Valid.{Fits, ValidGate}
 use Rattle.circuit.specs.Code.{classOf, roleOf, shapeOf}
@@ -31,6 +31,14 @@ unfolding shapeOf
 not-out s x at said h = kind-found x (ap (λ (t : Shape). isClass Output (t .class)) (sym at) ∙ sym said ∙ h)
 
 module _ (n q : ℕ) (c : List ℕ) (j : ℕ) where
+  -- a divisor is an element other than 0
+  pub divisor-fits : (r : Role) {x y : ℕ} → isDivisor r ≡ true → y ≡ x → (y ≡ 0 → ⊥) → y < q → Fits n q c j r x
+  divisor-fits Unused e is other low = false-no e
+  divisor-fits Party e is other low = false-no e
+  divisor-fits Wire e is other low = false-no e
+  divisor-fits Constant e is other low = false-no e
+  divisor-fits Divisor e is other low = (omega arith, omega arith)
+
   -- where the code finds the kind of gate j
   kind-at-gate : {x : ℕ} → x ≡ getD c (gateSize * j) 0 → x ≡ entry c j 0
   kind-at-gate here = here ∙ kind-at c j

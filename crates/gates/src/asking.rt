@@ -14,7 +14,7 @@ ghost use Prim.Native.Nat.{ℕ, _+_, _*_, _<_, _≤_};
 ghost use lib.ListN.{length};
 ghost use Rattle.circuit.specs.Verdict.{Accepted, each};
 ghost use Rattle.circuit.specs.Gate.{gateSize, decode, entry, gate, gates};
-ghost use Rattle.circuit.specs.Kind.{kindShape};
+ghost use Rattle.circuit.specs.Kind.{kindShape, isDivisor};
 ghost use Rattle.circuit.specs.Accept.{mostGates, isKind, mayName, nameOk, restOk, askGate, askCircuit};
 ghost use Rattle.circuit.specs.Valid.{Fits, ValidGate};
 ghost use Rattle.circuit.specs.Code.{verdictOf, roleOf, shapeOf};
@@ -170,21 +170,36 @@ fn ends_well(parties: usize, size: usize, c: &[Word], j: usize, s: Shape) -> boo
             }
             number_well(parties, size, c, j, first, first_role)
         }
-        Role::Divisor => {
-            if constant == 0 {
-                return false;
-            }
-            if constant < size {
-                return number_well(parties, size, c, j, first, first_role);
-            }
-            false
-        }
+        Role::Divisor => false,
     }
 }
 
+// Are the numbers of gate j, which divides by its constant, what a shape says that they are for?
+fn divided_well(parties: usize, size: usize, c: &[Word], j: usize, s: Shape) -> bool
+    requires { ⌜ (gateSize * j + gateSize ≤ length (now c))
+        × ((i : ℕ) → i < j → isKind (entry (now c) i 0) ≡ true)
+        × (isDivisor (roleOf (s .constant)) ≡ true) ⌝ }
+    ensures { λ r. ⌜ (r ≡ true → Fits parties size (now (c .entry)) j (roleOf (s .first)) (gate (now (c .entry)) j .first)) ⌝ }
+    ensures { λ r. ⌜ (r ≡ true → Fits parties size (now (c .entry)) j (roleOf (s .second)) (gate (now (c .entry)) j .second)) ⌝ }
+    ensures { λ r. ⌜ (r ≡ true → Fits parties size (now (c .entry)) j (roleOf (s .constant)) (gate (now (c .entry)) j .constant)) ⌝ }
+{
+    let constant = field::index(reading::constant_at(c, j));
+    if constant == 0 {
+        return false;
+    }
+    if constant < size {
+        let second_role = s.second;
+        if number_well(parties, size, c, j, reading::second_at(c, j), second_role) {
+            let first_role = s.first;
+            return number_well(parties, size, c, j, reading::first_at(c, j), first_role);
+        }
+    }
+    false
+}
+
 // The weight of gate j for party me, if questions 4 to 6 of it are answered with yes. It parts the gates by the role of the second number and
-// then by that of the last, so that few tests remain for each, and the weight is known by then. A role that no kind gives its second number is
-// left to the scan.
+// then by that of the last, so that few tests remain for each, and the weight is known by then. A gate that divides is asked by itself, which
+// leaves the others as few tests as they had. A role that no kind gives its second number is left to the scan.
 fn gate_well(parties: usize, size: usize, me: usize, c: &[Word], j: usize) -> usize
     requires { ⌜ (gateSize * j + gateSize ≤ length (now c)) × ((i : ℕ) → i < j → isKind (entry (now c) i 0) ≡ true) ⌝ }
     ensures valid { λ r. ⌜ ((r ≡ unsure → ⊥) → ValidGate parties size (now (c .entry)) j) ⌝ }
@@ -194,6 +209,13 @@ fn gate_well(parties: usize, size: usize, me: usize, c: &[Word], j: usize) -> us
     let s = reading::shape_at(c, j);
     if !kind_well(s, field::index(c[at])) {
         return counting::UNSURE;
+    }
+    let last = s.constant;
+    if shapes::is_divisor(last) {
+        if !divided_well(parties, size, c, j, s) {
+            return counting::UNSURE;
+        }
+        return counting::weight_of(c, me, j, s);
     }
     let second = reading::second_at(c, j);
     let role = s.second;

@@ -17,7 +17,7 @@ use Rattle.circuit.proofs.Tests.{false-no}
 use Rattle.protocol.specs.Part.{Part, plus, minus}
 use Rattle.protocol.specs.Scratch.{Layout, slotsSize, putWire}
 use Rattle.protocol.specs.Position.{reach}
-use Rattle.protocol.specs.Receive.{operand, linear, putLinear, afterLinear, settle}
+use Rattle.protocol.specs.Receive.{operand, operandOf, linear, putLinear, afterLinear, settle}
 use Rattle.protocol.specs.Holding.{Worked, Read, Reads}
 use Rattle.protocol.specs.Ready.{Settles}
 use Rattle.protocol.proofs.Slots.{length-put}
@@ -63,7 +63,7 @@ linear-second O i key Over x z z′ a h = refl
 
 -- a gate with what it is worked out with in the place of its constant
 abbrev pub operated : Ops → Gate → Gate
-operated O g = gateOf (g .kind) (g .first) (g .second) (operand O (shape g .constant) (g .constant))
+operated O g = gateOf (g .kind) (g .first) (g .second) (operandOf O g)
 
 -- what is written of its numbers is what a gate leaves
 pub put-operated : (O : Ops) (i key : ℕ) (y : Layout) (l : List ℕ) (j : ℕ) (g : Gate) {h : Gate} → h ≡ operated O g

@@ -6,9 +6,9 @@ use mathlib.Core.List.{List, [], _∷_, _++_}
 use lib.ListN.{getD}
 use Rattle.algebra.specs.Ops.{Ops}
 use Rattle.circuit.specs.Gate.{Kind, In, Add, Sub, Plus, Times, Mul, Out, Sq, Give, Over, Gate, gate, gates}
-use Rattle.circuit.specs.Kind.{shape, isOut, seenBy, everyone}
+use Rattle.circuit.specs.Kind.{isOut, seenBy, everyone}
 use Rattle.protocol.specs.Party.{inputOf}
-use Rattle.protocol.specs.Receive.{operand}
+use Rattle.protocol.specs.Receive.{operandOf}
 use Rattle.protocol.specs.Joint.{Joint, party}
 
 module _ (O : Ops) where
@@ -32,7 +32,7 @@ module _ (O : Ops) where
 
   unfoldable pub valueOf : ℕ → List ℕ → Gate → ℕ
   valueOf input vs g =
-      kindValue (g .kind) input (getD vs (g .first) 0) (getD vs (g .second) 0) (operand O (shape g .constant) (g .constant))
+      kindValue (g .kind) input (getD vs (g .first) 0) (getD vs (g .second) 0) (operandOf O g)
 
   module _ (J : Joint) where
     -- the owner's input for gate j

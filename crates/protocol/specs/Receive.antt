@@ -95,6 +95,9 @@ module _ (O : Ops) where
   unfoldable pub operand : Role → ℕ → ℕ
   operand r k = cond (isDivisor r) (inv k) k
 
+  abbrev pub operandOf : Gate → ℕ
+  operandOf g = operand (shape g .constant) (g .constant)
+
   -- a gate that needs no round, of gates x and z and an operand k. "add; sub: first and second name earlier lines"; "plus; times: .. the
   -- constant is added or multiplied"; over "multiplies share and MAC share alike by the constant's inverse"
   unfoldable pub linear : ℕ → ℕ → Kind → Part → Part → ℕ → Part
@@ -116,7 +119,7 @@ module _ (O : Ops) where
   -- and for gate j, which is g
   unfoldable pub afterLinear : ℕ → ℕ → Layout → List ℕ → ℕ → Gate → List ℕ
   afterLinear i key y l j g =
-      putLinear i key y l j (g .kind) (g .first) (g .second) (operand (shape g .constant) (g .constant))
+      putLinear i key y l j (g .kind) (g .first) (g .second) (operandOf g)
 
   -- "hearing does all such lines up to the next stop": from gate j on, where left gates are left
   unfoldable pub settle : ℕ → ℕ → List ℕ → Layout → ℕ → ℕ → List ℕ → List ℕ

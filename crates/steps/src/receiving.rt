@@ -38,7 +38,7 @@ ghost use Rattle.protocol.specs.Scratch.{slotsSize};
 ghost use Rattle.protocol.specs.Party.{partyOf, aAt, bAt, cAt};
 ghost use Rattle.protocol.specs.Position.{reach, enter, resume};
 ghost use Rattle.protocol.specs.Send.{shown};
-ghost use Rattle.protocol.specs.Receive.{heardSum, afterInput, putDifferences, afterOpening, afterOpenOutput, score, operand, putLinear, settle, onward, received, fits, misfit, weighs};
+ghost use Rattle.protocol.specs.Receive.{heardSum, afterInput, putDifferences, afterOpening, afterOpenOutput, score, operandOf, putLinear, settle, onward, received, fits, misfit, weighs};
 ghost use Rattle.protocol.specs.Holding.{Below, Held, Opened, Reads};
 ghost use Rattle.protocol.specs.Code.{layoutOf, pointOf, blameOf, rulingOf};
 ghost use Rattle.protocol.specs.Ready.{Opening, Settles, Stands, Ready, Receives, Named, Summed};
@@ -234,7 +234,7 @@ pub fn operand_at(c: &[Word], j: usize, role: Role) -> Word
     requires { ⌜ (gateSize * j + gateSize ≤ length (now c))
         × (roleOf role ≡ shape (gate (now c) j) .constant)
         × (isDivisor (shape (gate (now c) j) .constant) ≡ true → gate (now c) j .constant < size) ⌝ }
-    ensures { λ r. ⌜ r ≡ operand ops (shape (gate (now (c .entry)) j) .constant) (gate (now (c .entry)) j .constant) ⌝ }
+    ensures { λ r. ⌜ r ≡ operandOf ops (gate (now (c .entry)) j) ⌝ }
 {
     let k = gates::reading::constant_at(c, j);
     if circuit::shapes::is_divisor(role) {

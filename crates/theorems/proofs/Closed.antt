@@ -24,14 +24,14 @@ use Rattle.circuit.proofs.KindLaws.{class-is, local-no-out, owned-no-out, opens
 use Rattle.circuit.proofs.Gates.{local-named, output-named, opens-named, factor-named}
 use Rattle.protocol.specs.Part.{Part, partAt, minus, shift, product}
 use Rattle.protocol.specs.Party.{key, recordOf, inputOf, maskAt, wholeMaskAt, aAt, bAt, cAt}
-use Rattle.protocol.specs.Receive.{linear}
+use Rattle.protocol.specs.Receive.{operandOf, linear}
 use Rattle.protocol.proofs.Wires.{Carries, carries-minus, carries-shift, carries-product}
 use Rattle.protocol.specs.Joint.{Joint, party}
 use Rattle.protocol.specs.Plain.{kindValue, plainInput, value}
 use Rattle.protocol.specs.Good.{recordAt, wholeKey, shareSum, macSum, Authentic, GoodRecord, GoodMask, GoodTriple}
 use Rattle.theorems.proofs.Course.{course, course-is, strong}
 use Rattle.theorems.proofs.Given.{Given}
-use Rattle.theorems.proofs.KindValues.{operandOf, local-computes, local-second, owned-value, opens-value}
+use Rattle.theorems.proofs.KindValues.{local-computes, local-second, owned-value, opens-value}
 use Rattle.theorems.proofs.Values.{value-is}
 
 -- what all parties open: wire x less what stands at k in the record of gate j; or wire x itself

@@ -25,13 +25,13 @@ use Rattle.protocol.specs.Scratch.{layout, slotsSize, Value, ValueMac, read, wi
 use Rattle.protocol.specs.Position.{reach}
 use Rattle.protocol.specs.Party.{recordOf, maskAt, aAt, bAt, cAt}
 use Rattle.protocol.specs.Send as Send
-use Rattle.protocol.specs.Receive.{afterInput, putDifferences, afterOpening, afterOpenOutput, linear, putLinear, afterLinear, settle}
+use Rattle.protocol.specs.Receive.{operandOf, afterInput, putDifferences, afterOpening, afterOpenOutput, linear, putLinear, afterLinear, settle}
 use Rattle.protocol.specs.Joint.{Joint, party}
 use Rattle.protocol.proofs.Tails.{SameSlots, wire-same}
 use Rattle.protocol.proofs.Slots.{length-put, length-opened, wire-put-same, wire-put-other, value-put}
 use Rattle.protocol.proofs.Slots.{value-mac-put, wire-opened}
 use Rattle.protocol.proofs.Slots.{value-opened-same, value-mac-opened-same, value-opened-other, value-mac-opened-other}
-use Rattle.theorems.proofs.KindValues.{operandOf, local-second}
+use Rattle.theorems.proofs.KindValues.{local-second}
 use Rattle.theorems.proofs.Closed.{Opening, Masked, Shown, shows, differences, openings, length-openings, openings-local, openings-owned, openings-opens}
 use Rattle.theorems.proofs.Closed.{keys, prepared, ownerWord, masked, sumOf, multiplied, wireBy, wires, opened, wires-are}
 

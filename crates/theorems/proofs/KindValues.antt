@@ -17,13 +17,9 @@ use Rattle.circuit.proofs.Tests.{by-cases}
 use Rattle.circuit.proofs.KindLaws.{owned-no-out}
 use Rattle.circuit.proofs.Gates.{gate-zero, second-fits, local-named}
 use Rattle.protocol.specs.Part.{Part, plus, minus, scale, shift}
-use Rattle.protocol.specs.Receive.{operand, linear}
+use Rattle.protocol.specs.Receive.{linear}
 use Rattle.protocol.specs.Plain.{kindValue}
 use Rattle.protocol.proofs.Wires.{Carries, carries-plus, carries-minus, carries-scale, carries-shift}
-
--- what gate g is worked out with
-abbrev pub operandOf : Ops → Gate → ℕ
-operandOf O g = operand O (shape g .constant) (g .constant)
 
 module _ {O : Ops} (F : Field O) where
   open Ops O using (norm, mul)

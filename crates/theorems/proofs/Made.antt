@@ -30,7 +30,7 @@ use Rattle.protocol.specs.Scratch.{layout, slotsSize, scratchSize, wire, putWir
 use Rattle.protocol.specs.Position.{Point, Stage, Send, Receive, Finished, Aborted, finished, aborted, reach, resume}
 use Rattle.protocol.specs.Party.{Party, key}
 use Rattle.protocol.specs.Send.{noted}
-use Rattle.protocol.specs.Receive.{afterInput, putDifferences, afterOpening, afterOpenOutput, linear, putLinear, afterLinear, settle, passed, onward, ownReceived, checkPassed, received, left}
+use Rattle.protocol.specs.Receive.{operandOf, afterInput, putDifferences, afterOpening, afterOpenOutput, linear, putLinear, afterLinear, settle, passed, onward, ownReceived, checkPassed, received, left}
 use Rattle.protocol.specs.Joint.{Joint, party}
 use Rattle.protocol.specs.Run.{State, begun, said, notes, ends, step}
 use Rattle.protocol.proofs.Writing.{Elements, shift-elements, product-elements}
@@ -41,7 +41,7 @@ use Rattle.protocol.proofs.Lengths.{length-noted}
 use Rattle.protocol.proofs.Following.{followed, next-followed, next-aborted, start-is}
 use Rattle.protocol.proofs.Points.{Reached, reached, Entered, ended, begun as beginning, entered, FitsStage}
 use Rattle.theorems.specs.Premises.{Enough, after}
-use Rattle.theorems.proofs.KindValues.{operandOf, local-second}
+use Rattle.theorems.proofs.KindValues.{local-second}
 use Rattle.theorems.proofs.Runs.{Idle, after-step, after-idle}
 use Rattle.theorems.proofs.Sealing.{Kept, kept-room, kept-after, said-long, going-at}
 use Rattle.theorems.proofs.Standing.{handedNonce, handed-long, notes-handed}

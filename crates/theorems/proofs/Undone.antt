@@ -19,7 +19,7 @@ use Rattle.circuit.proofs.KindLaws.{local-no-out}
 use Rattle.protocol.specs.Part.{Part, scale}
 use Rattle.protocol.specs.Over.{over, Undoes}
 use Rattle.protocol.specs.Party.{key}
-use Rattle.protocol.specs.Receive.{operand, linear}
+use Rattle.protocol.specs.Receive.{operandOf, operand, linear}
 use Rattle.protocol.specs.Joint.{Joint, party}
 use Rattle.protocol.specs.Plain.{kindValue, plainInput, value}
 use Rattle.protocol.proofs.Writing.{Elements}
@@ -27,7 +27,7 @@ use Rattle.protocol.proofs.Overs.{undoes}
 use Rattle.theorems.specs.Premises.{Accepts, InputsPass, Enough, after}
 use Rattle.theorems.specs.Undone.{EitherOrder, partAfter, Undone, UndoneValues}
 use Rattle.theorems.proofs.Given.{input-normed}
-use Rattle.theorems.proofs.KindValues.{operandOf, value-normed}
+use Rattle.theorems.proofs.KindValues.{value-normed}
 use Rattle.theorems.proofs.Values.{value-is}
 use Rattle.theorems.proofs.Made.{done-after}
 

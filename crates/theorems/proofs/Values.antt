@@ -10,9 +10,10 @@ use Rattle.circuit.specs.Kind.{Class, Local, Owned, Opens, Output, shape, facto
 use Rattle.circuit.specs.Valid.{Valid}
 use Rattle.circuit.proofs.Gates.{local-named, opens-named, factor-named}
 use Rattle.protocol.specs.Joint.{Joint}
+use Rattle.protocol.specs.Receive.{operandOf}
 use Rattle.protocol.specs.Plain.{kindValue, valueOf, plainInput, values, value}
 use Rattle.theorems.proofs.Course.{before, before-at, course}
-use Rattle.theorems.proofs.KindValues.{operandOf, local-second, owned-value, output-value, opens-value}
+use Rattle.theorems.proofs.KindValues.{local-second, owned-value, output-value, opens-value}
 
 module _ {O : Ops} (F : Field O) (J : Joint) where
   -- how value j is made of the values before it
