@@ -12,7 +12,7 @@ const HEAD: &str = "\
 use Prim.Native.Nat.{ℕ}
 use mathlib.Core.Path.{_≡_, refl}
 use mathlib.Core.List.{List, [], _∷_}
-use Rattle.field.specs.Prime.{modular}
+use Rattle.field.specs.Prime.{euclid, modular}
 use Rattle.circuit.specs.Round.{First, Second, Own, Open, Commit, Reveal}
 use Rattle.protocol.specs.Position.{Send, Receive, Finished, Aborted}
 use Rattle.protocol.specs.Party.{Party}
@@ -52,7 +52,7 @@ pub fn theorems(answered: &[Answered]) -> String {
         };
         let _ = write!(
             text,
-            "\n-- {}\ncase-{number} :\n    {}\nunfolding hashing modular\ncase-{number} = {proofs}\n",
+            "\n-- {}\ncase-{number} :\n    {}\nunfolding hashing euclid modular\ncase-{number} = {proofs}\n",
             one.label(),
             equations.join("\n    × "),
         );
