@@ -83,11 +83,11 @@ given = bytes "(in 0)\n(give (line 0) 1)\n"
 abbrev givenCircuit : List ℕ
 givenCircuit = 1 ∷ 0 ∷ 0 ∷ 0 ∷ 9 ∷ 0 ∷ 1 ∷ 0 ∷ []
 
-abbrev overed : List ℕ
-overed = bytes "(in 0)\n(over (line 0) 2)\n(out (line 1))\n"
+abbrev halved : List ℕ
+halved = bytes "(in 0)\n(over (line 0) 2)\n(out (line 1))\n"
 
-abbrev overedCircuit : List ℕ
-overedCircuit = 1 ∷ 0 ∷ 0 ∷ 0 ∷ 10 ∷ 0 ∷ 0 ∷ 2 ∷ 7 ∷ 1 ∷ 0 ∷ 0 ∷ []
+abbrev halvedCircuit : List ℕ
+halvedCircuit = 1 ∷ 0 ∷ 0 ∷ 0 ∷ 10 ∷ 0 ∷ 0 ∷ 2 ∷ 7 ∷ 1 ∷ 0 ∷ 0 ∷ []
 
 unfoldable pub table : List Case
 table =
@@ -160,7 +160,7 @@ table =
     ∷ refused 2 (bytes "(in 0)\n(give (line 0) 4294967296)\n") 22 31
     ∷ refused 2 (bytes "(in 0)\n(give (line 0) 2)\n") 5 1
     -- an over, outermost and inside; its number is its gate's constant
-    ∷ becomes 2 overed overedCircuit
+    ∷ becomes 2 halved halvedCircuit
     ∷ becomes 2 (bytes "(out (over (in 0) 3))\n") (1 ∷ 0 ∷ 0 ∷ 0 ∷ 10 ∷ 0 ∷ 0 ∷ 3 ∷ 7 ∷ 1 ∷ 0 ∷ 0 ∷ [])
     -- a divisor that is 0, and one that is no element: gate 1, row 0; the largest element
     ∷ refused 2 (bytes "(over (in 0) 0)\n(out (line 0))\n") 6 1
@@ -178,7 +178,7 @@ table =
     ∷ writes shortCircuit (replicate 22 blank) (Done 22) short
     ∷ writes shortCircuit (replicate 21 blank) (Refusal 18 0) (replicate 21 blank)
     ∷ writes givenCircuit (replicate 25 blank) (Done 25) given
-    ∷ writes overedCircuit (replicate 40 blank) (Done 40) overed
+    ∷ writes halvedCircuit (replicate 40 blank) (Done 40) halved
     ∷ []
 
 -- long texts, as far as they are read

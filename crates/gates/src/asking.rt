@@ -145,7 +145,7 @@ fn number_well(parties: usize, size: usize, c: &[Word], j: usize, x: usize, role
 }
 
 // Are the first and the last number of gate j what a shape says that they are for? A role that no kind gives its last number is left to the
-// scan.
+// scan, and a gate that divides is not asked here.
 fn ends_well(parties: usize, size: usize, c: &[Word], j: usize, s: Shape) -> bool
     requires { ⌜ (gateSize * j + gateSize ≤ length (now c)) × ((i : ℕ) → i < j → isKind (entry (now c) i 0) ≡ true) ⌝ }
     ensures { λ r. ⌜ (r ≡ true → Fits parties size (now (c .entry)) j (roleOf (s .first)) (gate (now (c .entry)) j .first)) ⌝ }

@@ -14,16 +14,18 @@ use Rattle.field.specs.Words.{ops}
 use Rattle.field.specs.Prime.{modular}
 use Rattle.field.specs.Prime.Laws.{prime-is-modular}
 use Rattle.circuit.proofs.Tests.{false-no}
+use Rattle.circuit.specs.Gate.{gates}
 use Rattle.circuit.specs.Round.{commitsIn, checkCount}
 use Rattle.protocol.specs.Joint.{party}
 use Rattle.protocol.specs.Run.{Run, begun}
+use Rattle.protocol.specs.Plain.{scoresSeen}
 use Rattle.protocol.specs.Good.{Good}
 use Rattle.protocol.specs.Docket.{circuit, docket, rooms}
 use Rattle.protocol.proofs.Computing.{computing}
 use Rattle.theorems.proofs.Known.{hashed}
-use Rattle.theorems.proofs.Hashed.{runs, whole-is, answer-is, scratch-is, hashing}
+use Rattle.theorems.proofs.Hashed.{runs, whole-is, answer-is, left-alike, hashing}
 use Rattle.theorems.proofs.Docket.{accepts, docket-table}
-use Rattle.theorems.specs.Premises.{Enough}
+use Rattle.theorems.specs.Premises.{Accepts, InputsPass, Enough}
 use Rattle.theorems.specs.Matching.{leftOut, addLists, only, plainly, inputMove, valueMove, moved, productMove, maskMove, maskRecordMove, recordMove, prepMove, match, rule}
 use Rattle.theorems.specs.Secrecy.{bandOf, Compared, Alike}
 use Rattle.theorems.specs.Example.{A, inputs₁, inputs₂, preps, matched, blank, unwritten, exampleRun, wordsOn, Example}
@@ -34,23 +36,26 @@ differ-at : (k : ℕ) (l m : List ℕ) → eqb (getD l k 0) (getD m k 0) ≡ fal
 differ-at k l m h e = eqb-false _ _ h (ap (λ (l : List ℕ). getD l k 0) e)
 
 -- Two sets of inputs that agree at party 1 agree at A's party.
-pub agree : (c x x′ : List ℕ)
+agree : (c x x′ : List ℕ)
     → party (plainly 2 c x′) 1 .inputs ≡ party (plainly 2 c x) 1 .inputs
     → (i : ℕ) → i < 2 → A i ≡ true → party (plainly 2 c x′) i .inputs ≡ party (plainly 2 c x) i .inputs
 agree c x x′ e zero l a = false-no a
 agree c x x′ e (suc zero) l a = e
 agree c x x′ e (suc (suc i)) l a = absurd (omega arith)
 
-compares : Compared modular 2 circuit A inputs₁ inputs₂
-unfolding computing modular plainly
-compares =
+-- Such inputs, which give scores that A's party sees alike, can be compared.
+pub comparing : (c x x′ : List ℕ) → Accepts modular 2 c → InputsPass modular c x → InputsPass modular c x′
+    → party (plainly 2 c x′) 1 .inputs ≡ party (plainly 2 c x) 1 .inputs
+    → scoresSeen modular (plainly 2 c x′) A (gates c) ≡ scoresSeen modular (plainly 2 c x) A (gates c)
+    → Compared modular 2 c A x x′
+comparing c x x′ accepts first second same scores =
     record {
-      accepts = record { parties = refl; circuit = refl };
+      accepts = accepts;
       outside = (0, omega arith, refl);
-      first = refl;
-      second = refl;
-      agree = agree circuit inputs₁ inputs₂ refl;
-      equal-scores = refl;
+      first = first;
+      second = second;
+      agree = agree c x x′ same;
+      equal-scores = scores;
     }
 
 -- The docket's preprocessing is good.
@@ -75,7 +80,7 @@ computed : Example modular
 unfolding hashing modular leftOut addLists only plainly inputMove valueMove moved productMove maskMove maskRecordMove recordMove prepMove match rule
 computed =
     record {
-      compared = compares;
+      compared = comparing circuit inputs₁ inputs₂ accepts refl refl refl refl;
       good = is-good;
       member = refl;
       inputs-differ = differ-at 0 inputs₂ inputs₁ refl;
@@ -87,8 +92,8 @@ computed =
       first-words = words preps inputs₁;
       second-words = words matched inputs₂;
       same-bands =
-          ap (λ (l : List ℕ). bandOf modular 2 circuit A l 1) (scratch-is modular (exampleRun modular matched inputs₂) rooms blank unwritten accepts (enough matched inputs₂))
-          ∙ sym (ap (λ (l : List ℕ). bandOf modular 2 circuit A l 1) (scratch-is modular (exampleRun modular preps inputs₁) rooms blank unwritten accepts (enough preps inputs₁)));
+          left-alike modular (exampleRun modular matched inputs₂) (exampleRun modular preps inputs₁) rooms blank unwritten accepts (enough matched inputs₂) accepts
+          (enough preps inputs₁) (λ l. bandOf modular 2 circuit A l 1) refl;
       first-accepted = refl;
       unmatched-accepted = refl;
       unmatched-word = refl;

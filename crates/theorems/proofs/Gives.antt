@@ -25,7 +25,7 @@ use Rattle.theorems.specs.Matching.{leftOut, addLists, only, plainly, in
 use Rattle.theorems.specs.Secrecy.{bandOf}
 use Rattle.theorems.specs.Gives.{A, circuit₁, preps₁, circuit, preps, matched, inputs₁, inputs₂, rooms₁, rooms, blank, unwritten, hearing, given₁, answered, giving, Gives}
 use Rattle.theorems.proofs.Known.{hashed}
-use Rattle.theorems.proofs.Hashed.{runs, state-is, whole-is, answer-is, scratch-is, outputs-are, reveal-is, hashing}
+use Rattle.theorems.proofs.Hashed.{runs, state-is, whole-is, answer-is, left-alike, outputs-are, reveal-is, hashing}
 use Rattle.theorems.proofs.Docket.{allBelow, below}
 
 good-records₁ : (j : ℕ) → j < gates circuit₁ → GoodRecord modular 2 circuit₁ preps₁ j (gate circuit₁ j) (shape (gate circuit₁ j) .class)
@@ -118,8 +118,8 @@ computed =
       other-output = outputs-are modular (giving modular matched inputs₂) rooms blank unwritten accepts (enough matched inputs₂);
       same-words = words matched inputs₂;
       same-bands =
-          ap (λ (l : List ℕ). bandOf modular 2 circuit A l 0) (scratch-is modular (giving modular matched inputs₂) rooms blank unwritten accepts (enough matched inputs₂))
-          ∙ sym (ap (λ (l : List ℕ). bandOf modular 2 circuit A l 0) (scratch-is modular (giving modular preps inputs₁) rooms blank unwritten accepts (enough preps inputs₁)));
+          left-alike modular (giving modular matched inputs₂) (giving modular preps inputs₁) rooms blank unwritten accepts (enough matched inputs₂) accepts
+          (enough preps inputs₁) (λ l. bandOf modular 2 circuit A l 0) refl;
       not-to-receiver = λ is. let e : _≡_ {A = ℕ} 14 11 = ap (λ (l : List ℕ). getD l 0 0) (is .equal-scores) in absurd (omega (arith, e));
     }
 

@@ -146,8 +146,11 @@ module _ (O : Ops) (J : Joint) (scratch t o : List ℕ) (accepts : Accepts O (J 
       ap (λ (R : Run). jointly (verdict O J scratch t o) (ended (R .last .point .stage) (R .last .point .gate) (R .last .blame) (R .rounds)))
       (whole-is O J scratch accepts enough)
 
-  pub scratch-is : jointScratch O J scratch t o
-      ≡ leave (verdict O J scratch t o) (joined (J .parties) (R .last .scratch) ++ drop (J .parties * scratchSize (J .parties) (J .circuit)) scratch) scratch
+  -- the scratch that it leaves
+  abbrev pub leftBy : List ℕ
+  leftBy = leave (verdict O J scratch t o) (joined (J .parties) (R .last .scratch) ++ drop (J .parties * scratchSize (J .parties) (J .circuit)) scratch) scratch
+
+  pub scratch-is : jointScratch O J scratch t o ≡ leftBy
   unfolding jointScratch
   scratch-is =
       ap (λ (R : Run). leave (verdict O J scratch t o) (joined (J .parties) (R .last .scratch) ++ drop (J .parties * scratchSize (J .parties) (J .circuit)) scratch) scratch)
@@ -160,6 +163,14 @@ module _ (O : Ops) (J : Joint) (scratch t o : List ℕ) (accepts : Accepts O (J 
   pub outputs-are : jointOutputs O J scratch t o ≡ leave (verdict O J scratch t o) (overwrite (R .outputs) o) o
   unfolding jointOutputs
   outputs-are = ap (λ (R : Run). leave (verdict O J scratch t o) (overwrite (R .outputs) o) o) (whole-is O J scratch accepts enough)
+
+-- what is alike of the scratch that two runs leave, where it is computed
+pub left-alike : (O : Ops) (J K : Joint) (scratch t o : List ℕ) (accepts : Accepts O (J .parties) (J .circuit)) (enough : Enough J scratch)
+    (accepts′ : Accepts O (K .parties) (K .circuit)) (enough′ : Enough K scratch) (f : List ℕ → List ℕ)
+    → f (leftBy O J scratch t o accepts enough) ≡ f (leftBy O K scratch t o accepts′ enough′)
+    → f (jointScratch O J scratch t o) ≡ f (jointScratch O K scratch t o)
+left-alike O J K scratch t o accepts enough accepts′ enough′ f e =
+    ap f (scratch-is O J scratch t o accepts enough) ∙ e ∙ sym (ap f (scratch-is O K scratch t o accepts′ enough′))
 
 -- the lowest party whose reveal does not fit its mark, where marks are made by the hash H
 unfoldable pub misfits : (List ℕ → List ℕ) → ℕ → List ℕ → List ℕ → Blame

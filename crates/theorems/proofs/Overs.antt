@@ -1,7 +1,7 @@
 -- The examples with over gates, computed.
 -- Assumes nothing.
 use Prim.Native.Nat.{ℕ, zero, suc, _<_}
-use mathlib.Core.Path.{_≡_, refl, sym, ap, subst, _∙_}
+use mathlib.Core.Path.{_≡_, refl, sym, ap, subst}
 use mathlib.Core.List.{List}
 use native.Mathlib.Omega.{arith}
 use borrow.Author.Tests.{leb-true}
@@ -22,9 +22,9 @@ use Rattle.theorems.specs.Example.{A}
 use Rattle.theorems.specs.Gives.{blank, unwritten}
 use Rattle.theorems.specs.Overs.{circuit₁, preps₁, circuit, preps, matched, inputs₁, inputs₂, rooms₁, rooms, halving, dividing, Overs}
 use Rattle.theorems.proofs.Known.{hashed}
-use Rattle.theorems.proofs.Hashed.{runs, whole-is, answer-is, scratch-is, outputs-are, hashing}
+use Rattle.theorems.proofs.Hashed.{runs, whole-is, answer-is, left-alike, outputs-are, hashing}
 use Rattle.theorems.proofs.Docket.{allBelow, below}
-use Rattle.theorems.proofs.Example.{agree}
+use Rattle.theorems.proofs.Example.{comparing}
 
 good-records₁ : (j : ℕ) → j < gates circuit₁ → GoodRecord modular 2 circuit₁ preps₁ j (gate circuit₁ j) (shape (gate circuit₁ j) .class)
 unfolding computing modular
@@ -94,20 +94,12 @@ computed =
       rounds = answer-is modular (dividing modular preps inputs₁) rooms blank unwritten accepts (enough preps inputs₁);
       output = outputs-are modular (dividing modular preps inputs₁) rooms blank unwritten accepts (enough preps inputs₁);
       words = words preps inputs₁;
-      compared =
-          record {
-            accepts = accepts;
-            outside = (0, omega arith, refl);
-            first = refl;
-            second = refl;
-            agree = agree circuit inputs₁ inputs₂ refl;
-            equal-scores = refl;
-          };
+      compared = comparing circuit inputs₁ inputs₂ accepts refl refl refl refl;
       match-is = refl;
       same-words = words matched inputs₂;
       same-bands =
-          ap (λ (l : List ℕ). bandOf modular 2 circuit A l 1) (scratch-is modular (dividing modular matched inputs₂) rooms blank unwritten accepts (enough matched inputs₂))
-          ∙ sym (ap (λ (l : List ℕ). bandOf modular 2 circuit A l 1) (scratch-is modular (dividing modular preps inputs₁) rooms blank unwritten accepts (enough preps inputs₁)));
+          left-alike modular (dividing modular matched inputs₂) (dividing modular preps inputs₁) rooms blank unwritten accepts (enough matched inputs₂) accepts
+          (enough preps inputs₁) (λ l. bandOf modular 2 circuit A l 1) refl;
     }
 
 -- at the operations that the contracts cite
