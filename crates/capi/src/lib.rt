@@ -1,4 +1,6 @@
 // The entries for callers in C: numbers and lists of numbers only. A call returns its refusal; an accepted one writes its answer into a lent list.
+#![tactic(auto)]
+
 pub mod fits;
 pub mod sheets;
 
@@ -26,7 +28,7 @@ use protocol::{Blame, Stage};
 
 // What a call returns: a refusal's number and index, or 0 and 0 where it is accepted.
 #[repr(C)]
-#[derive(Drop)]
+#[derive(Clone, Copy)]
 pub struct Refusal {
     pub number: u32,
     pub index: usize,

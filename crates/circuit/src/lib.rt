@@ -1,16 +1,18 @@
 // The circuit format as far as no field element is in it: kinds and what they tell, rounds, counts, and verdicts on questions.
+#![tactic(auto)]
+
 pub mod counting;
 pub mod rounds;
 pub mod shapes;
 
 // What a list of questions comes to: the first no has a number and an index.
-#[derive(Drop)]
+#[derive(Clone, Copy)]
 pub enum Verdict {
     Accepted,
     Refused { number: u32, index: usize },
 }
 
-#[derive(Drop)]
+#[derive(Clone, Copy)]
 pub enum Kind {
     In,
     Add,
@@ -25,7 +27,7 @@ pub enum Kind {
 }
 
 // Worked out alone; an input of one party; opens values; an output.
-#[derive(Drop)]
+#[derive(Clone, Copy)]
 pub enum Class {
     Local,
     Owned,
@@ -34,7 +36,7 @@ pub enum Class {
 }
 
 // What a number of a gate is for. A divisor is a constant other than 0.
-#[derive(Drop)]
+#[derive(Clone, Copy)]
 pub enum Role {
     Unused,
     Party,
@@ -45,7 +47,7 @@ pub enum Role {
 
 // What a kind tells: its class, the numbers that it reads of the preprocessing, how many values it opens, its words, and what its
 // numbers are for.
-#[derive(Drop)]
+#[derive(Clone, Copy)]
 pub struct Shape {
     pub class: Class,
     pub prep: usize,
@@ -57,14 +59,14 @@ pub struct Shape {
 }
 
 // Of what is opened and unchecked before an output, and of the output.
-#[derive(Drop)]
+#[derive(Clone, Copy)]
 pub enum Check {
     First,
     Second,
 }
 
 // A gate's own round; the opening of an output; the commitment and the reveal of a check.
-#[derive(Drop)]
+#[derive(Clone, Copy)]
 pub enum Round {
     Own,
     Open,
@@ -73,7 +75,7 @@ pub enum Round {
 }
 
 // What a whole run takes: numbers of a party's preprocessing, opened entries, in gates, outputs, words of one party, coefficients, checks.
-#[derive(Drop)]
+#[derive(Clone, Copy)]
 pub struct Totals {
     pub prep: usize,
     pub openings: usize,
@@ -85,7 +87,7 @@ pub struct Totals {
 }
 
 // What is counted of the gates before one, for one party.
-#[derive(Drop)]
+#[derive(Clone, Copy)]
 pub struct Tally {
     pub prep: usize,
     pub openings: usize,

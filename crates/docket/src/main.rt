@@ -1,4 +1,6 @@
 // Runs document 01's docket and prints it: for each round its kind and the words of all parties, then the outputs.
+#![tactic(auto)]
+
 use field::Word;
 use joint::JointAnswer;
 

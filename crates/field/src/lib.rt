@@ -1,4 +1,6 @@
 // The arithmetic of the field of the prime 2^31 - 1, on numbers below it.
+#![tactic(auto)]
+
 ghost use Rattle.std.specs.Prelude.{◌≡◌, ◌+◌, ◌*◌, ◌/◌, ◌%◌, ◌<◌};
 ghost use Rattle.algebra.specs.Element.{Is};
 ghost use Rattle.field.specs.Prime.{norm, add, sub, mul, inv};

@@ -1,4 +1,5 @@
 // Will it fit: which numbers the wires of a circuit can take, and how far one input can move a score.
+#![tactic(auto)]
 
 pub mod asking;
 pub mod moving;
@@ -15,14 +16,14 @@ use field::Word;
 use gates::reading;
 
 // An in gate and the largest change of its input, or none.
-#[derive(Drop)]
+#[derive(Clone, Copy)]
 pub enum Change {
     Nothing,
     Of { gate: usize, amount: Word },
 }
 
 // A gate that leaves is named; or every gate fits.
-#[derive(Drop)]
+#[derive(Clone, Copy)]
 pub enum Answer {
     Refusal { number: u32, index: usize },
     Leaves { gate: usize },
@@ -30,21 +31,21 @@ pub enum Answer {
 }
 
 // The numbers from a lowest to a highest.
-#[derive(Drop)]
+#[derive(Clone, Copy)]
 pub struct Interval {
     pub lowest: Word,
     pub highest: Word,
 }
 
 // What a gate comes to.
-#[derive(Drop)]
+#[derive(Clone, Copy)]
 pub enum Reach {
     Stays { lowest: Word, highest: Word },
     Leaves,
 }
 
 // What a walk over the gates finds: the first that leaves; or that none does, and how many scores have a move.
-#[derive(Drop)]
+#[derive(Clone, Copy)]
 pub enum Found {
     Leaves { gate: usize },
     Fits { outs: usize },

@@ -1,8 +1,9 @@
 // Sheets, circuits as text: the words of forms and what follows each. What a sheet is, which circuit it is, and how it is read are in specs/,
 // what follows of them in proofs/. There are no functions here.
+#![tactic(auto)]
 
 // The words that begin a form.
-#[derive(Drop)]
+#[derive(Clone, Copy)]
 pub enum Head {
     In,
     Add,
@@ -18,7 +19,7 @@ pub enum Head {
 }
 
 // What follows a word: a number; a form; two forms; a form and a number.
-#[derive(Drop)]
+#[derive(Clone, Copy)]
 pub enum Sort {
     Leaf,
     One,
@@ -27,7 +28,7 @@ pub enum Sort {
 }
 
 // What an entry answers: how many gates were read, how many bytes were written.
-#[derive(Drop)]
+#[derive(Clone, Copy)]
 pub enum Answer {
     Refusal { number: u32, index: usize },
     Done { count: usize },

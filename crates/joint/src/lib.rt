@@ -1,4 +1,6 @@
 // All parties of the online phase in one run.
+#![tactic(auto)]
+
 mod asking;
 mod framing;
 mod receiving;
@@ -15,7 +17,7 @@ use field::Word;
 use protocol::{Blame, Layout};
 
 // A refusal's number and index; the rounds made; the gate at which the run is aborted, whom the stop names, and the rounds made.
-#[derive(Drop)]
+#[derive(Clone, Copy)]
 pub enum JointAnswer {
     Refusal {
         number: u32,
@@ -31,7 +33,7 @@ pub enum JointAnswer {
 
 // What stays the same from gate to gate: the number of parties, the layout and the length of a party's scratch, and the length of its
 // preprocessing.
-#[derive(Drop)]
+#[derive(Clone, Copy)]
 pub struct Frame {
     pub parties: usize,
     pub layout: Layout,
@@ -42,7 +44,7 @@ pub struct Frame {
 // What goes on from gate to gate: the gate that the run has come to, before which linear gates may be left to do, and where the record of the next
 // gate that has rounds stands in each party's preprocessing; how many opened entries wait for a check; and how many coefficients are used, checks
 // begun, words written, outputs released and rounds made.
-#[derive(Drop)]
+#[derive(Clone, Copy)]
 pub struct Stop {
     pub gate: usize,
     pub prep: usize,
@@ -55,7 +57,7 @@ pub struct Stop {
 }
 
 // A check that is made: the sum of the check shares, and where the run stands if it goes on.
-#[derive(Drop)]
+#[derive(Clone, Copy)]
 pub struct Checkup {
     pub sum: Word,
     pub next: Stop,

@@ -1,4 +1,6 @@
 // One party: its questions and its three entries.
+#![tactic(auto)]
+
 pub mod asking;
 
 ghost use Rattle.std.specs.Prelude.{◌≡◌, true, cond, ◌&&◌, ◌+◌, ◌*◌, ◌<◌, ◌≤◌, length, drop};
@@ -21,7 +23,7 @@ use protocol::{Blame, Layout, Ruling, Site, Stage};
 use steps::{Conclusion, receiving, sending};
 
 // The slots of one sort.
-#[derive(Drop)]
+#[derive(Clone, Copy)]
 pub enum Sort {
     Shares,
     Macs,
@@ -30,7 +32,7 @@ pub enum Sort {
 }
 
 // Where a party stands: the check share is 0 unless a commitment is sent and its reveal is not.
-#[derive(Drop)]
+#[derive(Clone, Copy)]
 pub struct Position {
     pub gate: usize,
     pub stage: Stage,
@@ -38,7 +40,7 @@ pub struct Position {
 }
 
 // What an entry answers. An abort names a party, or nobody.
-#[derive(Drop)]
+#[derive(Clone, Copy)]
 pub enum Answer {
     Refusal { number: u32, index: usize },
     Next(Position),
@@ -47,14 +49,14 @@ pub enum Answer {
 }
 
 // What questions 1 to 12, or 1 to 13, come to: where they accept, the layout of the scratch and the site of a gate.
-#[derive(Drop)]
+#[derive(Clone, Copy)]
 pub enum Lent {
     Refused { number: u32, index: usize },
     Accepted(Layout, Site),
 }
 
 // What all questions of a sending or a receiving come to: where they accept, what the step needs.
-#[derive(Drop)]
+#[derive(Clone, Copy)]
 pub enum Asked {
     Refused { number: u32, index: usize },
     Accepted(Layout, Site, Round),

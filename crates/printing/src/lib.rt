@@ -1,4 +1,6 @@
 // Printing numbers, lists and the rounds of a joint run on standard output.
+#![tactic(auto)]
+
 ghost use Rattle.std.specs.Prelude.{◌+◌, ◌*◌, ◌≤◌, length};
 ghost use Rattle.circuit.specs.Gate.{gate_size};
 ghost use Rattle.circuit.specs.Accept.{most_gates};
@@ -21,7 +23,7 @@ const ZERO: u8 = 48;
 const MOST_GATES: usize = gates::asking::MOST_GATES;
 
 // Where a joint run's rounds stand in its transcript, and how many of them are still to print.
-#[derive(Drop)]
+#[derive(Clone, Copy)]
 pub struct Place {
     pub at: usize,
     pub left: usize,

@@ -1,5 +1,7 @@
 // The online phase as far as no field element is in it: where the numbers of a scratch stand, and the points of a run. What a party sends and
 // works out, over any field, is in specs/, and what follows for any field in proofs/.
+#![tactic(auto)]
+
 ghost use Rattle.std.specs.Prelude.{◌≡◌, ◌+◌, ◌*◌, ◌≤◌};
 ghost use Rattle.circuit.specs.Round.{commit_words};
 ghost use Rattle.circuit.specs.Code.{round_of};
@@ -13,14 +15,14 @@ use circuit::rounds::{COMMIT_WORDS, NONCE_WORDS};
 use circuit::{Check, Round};
 
 // How many gates there are, and how many opened entries there is room for.
-#[derive(Drop)]
+#[derive(Clone, Copy)]
 pub struct Layout {
     pub gates: usize,
     pub capacity: usize,
 }
 
 // A place of the scratch.
-#[derive(Drop)]
+#[derive(Clone, Copy)]
 pub enum Slot {
     Share(usize),
     Mac(usize),
@@ -29,7 +31,7 @@ pub enum Slot {
 }
 
 // The sending or the receiving half of a round, or an end.
-#[derive(Drop)]
+#[derive(Clone, Copy)]
 pub enum Stage {
     Send(Round),
     Receive(Round),
@@ -38,28 +40,28 @@ pub enum Stage {
 }
 
 // A gate and a stage.
-#[derive(Drop)]
+#[derive(Clone, Copy)]
 pub struct Point {
     pub gate: usize,
     pub stage: Stage,
 }
 
 // Whom a stop names: the party whose reveal does not fit its mark, or nobody.
-#[derive(Drop)]
+#[derive(Clone, Copy)]
 pub enum Blame {
     Nobody,
     Blames(usize),
 }
 
 // How a round ends.
-#[derive(Drop)]
+#[derive(Clone, Copy)]
 pub enum Ruling {
     Passed,
     Stopped(Blame),
 }
 
 // Where a gate's numbers stand, for one party: its record in the preprocessing, the unchecked entries before it, the input for it.
-#[derive(Drop)]
+#[derive(Clone, Copy)]
 pub struct Site {
     pub gate: usize,
     pub prep: usize,

@@ -1,4 +1,6 @@
 // The reader of sheets: a text is read as the circuit that it says, or refused.
+#![tactic(auto)]
+
 pub mod nesting;
 pub mod rows;
 
@@ -31,7 +33,7 @@ const COUNT: u32 = 24;
 
 // A form that is read, as far as the byte behind it: how many gates there are now, the gate that has its value, and whether it has one. Or a
 // refusal.
-#[derive(Drop)]
+#[derive(Clone, Copy)]
 pub enum Outcome {
     Done {
         to: usize,
@@ -46,7 +48,7 @@ pub enum Outcome {
 }
 
 // How many gates the rows of a text make, or a refusal.
-#[derive(Drop)]
+#[derive(Clone, Copy)]
 pub enum Reading {
     Done { count: usize },
     Refused { number: u32, index: usize },

@@ -1,4 +1,6 @@
 // Reads requests as text from standard input, and prints their answers, as docs/REPLAY.md says.
+#![tactic(auto)]
+
 mod answering;
 mod sheets;
 
@@ -18,7 +20,7 @@ const LINE_FEED: u8 = 10;
 const MOST: u64 = 18446744073709551615;
 
 // What is read of a request, and how much of a line: its number, how many of its bytes, and whether it has more than there is room for.
-#[derive(Drop)]
+#[derive(Clone, Copy)]
 pub struct Course {
     pub request: Request,
     pub number: u64,

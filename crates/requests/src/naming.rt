@@ -59,7 +59,7 @@ pub const OUTSIDE: usize = 12;
 
 pub const LOST: usize = 13;
 
-#[derive(Drop)]
+#[derive(Clone, Copy)]
 pub enum Named {
     Stage(Stage),
     None,

@@ -15,14 +15,14 @@ use text::Numbers;
 const HASH: u8 = 35;
 
 // A number, or what is wrong; TooMany where there is not just one.
-#[derive(Drop)]
+#[derive(Clone, Copy)]
 pub enum One {
     Number(u32),
     Fault(Numbers),
 }
 
 // What a line leads to: the request goes on; or it wants a list, which begins at a place of the line.
-#[derive(Drop)]
+#[derive(Clone, Copy)]
 pub struct Step {
     pub request: Request,
     pub listed: bool,
@@ -30,7 +30,7 @@ pub struct Step {
 }
 
 // A position, or that there is none.
-#[derive(Drop)]
+#[derive(Clone, Copy)]
 pub enum Placed {
     Position(Position),
     Fault,

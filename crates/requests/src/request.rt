@@ -24,7 +24,7 @@ pub const WORDS_ROOM: usize = 196608;
 pub const NONCES_ROOM: usize = 262144;
 
 // The entry, the field that comes next, the position, and the number that is read of each field: of a list it is the length.
-#[derive(Drop)]
+#[derive(Clone, Copy)]
 pub struct Request {
     pub entry: usize,
     pub wanted: usize,

@@ -1,4 +1,6 @@
 // A list of elements times a factor, for the benchmark: what one proved product costs without the protocol.
+#![tactic(auto)]
+
 ghost use Rattle.std.specs.Prelude.{◌≡◌, ◌<◌};
 ghost use Rattle.field.specs.Words.{size};
 ghost use Rattle.protocol.specs.Holding.{Below};

@@ -1,4 +1,6 @@
 // The hash function SHA-256 of FIPS 180-4, for messages that are one block: at most 13 words, each four bytes with the high byte first.
+#![tactic(auto)]
+
 ghost use Rattle.std.specs.Prelude.{◌≡◌, ◌≤◌, ◌++◌, length, drop};
 ghost use Rattle.sha256.specs.Sha256.{word_of, words_of};
 ghost use Rattle.sha256.specs.Digest.{digest, same};

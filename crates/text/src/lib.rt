@@ -1,17 +1,19 @@
 // Words and numbers in a line of text.
+#![tactic(auto)]
+
 ghost use Rattle.std.specs.Prelude.{◌+◌, ◌*◌, ◌<◌, ◌≤◌, ◌≡◌, true, ◌||◌, ltb, length, take, drop};
 ghost use Rattle.text.specs.Text.{is_space, is_digit, digit, belongs, run, alike, numbers_in, read_into, whole};
 ghost use Rattle.text.specs.Code.{Word, numbers_told};
 
 // Where a word starts and ends in its line. Where there is no word, both are the line's end.
-#[derive(Drop)]
+#[derive(Clone, Copy)]
 pub struct Span {
     pub start: usize,
     pub end: usize,
 }
 
 // How many numbers a text has, or the first thing that is wrong with it.
-#[derive(Drop)]
+#[derive(Clone, Copy)]
 pub enum Numbers {
     Count(usize),
     Unlike,

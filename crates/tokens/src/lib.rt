@@ -1,4 +1,6 @@
 // The leaves of reading a sheet: the table of words, a byte, a word, a number or a name.
+#![tactic(auto)]
+
 pub mod numbers;
 pub mod table;
 pub mod words;
@@ -20,7 +22,7 @@ pub const FEED: u8 = b'\n';
 
 // What the table says of a word: how long it is, what follows it, the kind of its gate, whether it names a row, whether its gate has a value,
 // and what the gate's numbers are for.
-#[derive(Drop)]
+#[derive(Clone, Copy)]
 pub struct Row {
     pub length: usize,
     pub sort: Sort,
@@ -33,35 +35,35 @@ pub struct Row {
 }
 
 // A word of the table, or none.
-#[derive(Drop)]
+#[derive(Clone, Copy)]
 pub enum Found {
     Word { head: Head },
     Nothing,
 }
 
 // What stands where a word is wanted: a word and its space, or the byte at which it dies.
-#[derive(Drop)]
+#[derive(Clone, Copy)]
 pub enum Spelt {
     Is { head: Head, to: usize },
     Dies { index: usize },
 }
 
 // Digits as far as their bracket, or something else.
-#[derive(Drop)]
+#[derive(Clone, Copy)]
 pub enum Digits {
     Are { value: Word, to: usize },
     Unsure,
 }
 
 // What stands where a number is wanted: a number as far as its bracket, or the byte at which it dies.
-#[derive(Drop)]
+#[derive(Clone, Copy)]
 pub enum Number {
     Is { value: Word, to: usize },
     Dies { index: usize },
 }
 
 // The name of a row, its gate and where the text goes on, or something else.
-#[derive(Drop)]
+#[derive(Clone, Copy)]
 pub enum Name {
     Is { wire: Word, to: usize },
     Other,

@@ -1,4 +1,6 @@
 // The writer of sheets: each gate of a circuit as a row.
+#![tactic(auto)]
+
 mod lengths;
 mod rows;
 mod writing;
@@ -16,7 +18,7 @@ use forms::{Answer, Head};
 use gates::reading;
 
 // What a row is made of: its word, the rows that it names and its number. Where it has fewer, the others tell nothing.
-#[derive(Drop)]
+#[derive(Clone, Copy)]
 pub struct Parts {
     pub head: Head,
     pub first: usize,
