@@ -8,5 +8,5 @@ use Rattle.sha256.proofs.hash.Goals as goal
 pub returns : goal.returns
 unfolding H₀
 returns c =
-    c.compress.ensures.0
+    c.compress.ensures.value
     ∙ one_block _ _ c.requires (λ i. (c.shared_slice_known-1.given i).fits) c.copy.ensures (search rules)

@@ -7,4 +7,4 @@ use Rattle.sha256.proofs.block.compress.Goals as goal
 pub returns : goal.returns
 unfolding compress
 returns c =
-    let r = c.rounds.ensures in (c.sums.ensures ∙ ap₂ sums r.0 refl, r.1)
+    let r = c.rounds.ensures in record { value = c.sums.ensures ∙ ap₂ sums r.value refl; w_after = r.w_after }

@@ -7,4 +7,4 @@ use Rattle.sha256.proofs.functions.plus.Goals as goal
 pub returns : goal.returns
 unfolding ◌⊞◌
 returns c =
-    c.wrapping_add_u32.ensures
+    c.wrapping_add_u32.ensures.value
