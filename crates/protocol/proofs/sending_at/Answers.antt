@@ -1,0 +1,10 @@
+-- `protocol::sending_at` meets its contract: it makes the point.
+-- Assumes nothing.
+use mathlib.Core.Path.{refl}
+use Rattle.protocol.specs.Code.{point_of}
+use Rattle.protocol.proofs.sending_at.Goals as goal
+
+pub returns : goal.returns
+unfolding point_of
+returns c =
+    refl
