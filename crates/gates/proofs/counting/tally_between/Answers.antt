@@ -1,0 +1,12 @@
+-- `gates::counting::tally_between` meets its contract: after each turn the count is that of the gates before j.
+-- Assumes nothing.
+use Prim.Native.Nat.{◌≤◌, ◌-◌}
+use mathlib.Core.Path.{◌≡◌}
+use native.Mathlib.Omega.{arith}
+use borrow.Author.Rules.{rules}
+use Rattle.circuit.specs.Code.{Tallied}
+use Rattle.gates.proofs.counting.tally_between.Goals as goal
+
+pub returns : goal.returns
+returns c =
+    let l = c.loop-j in let e : l.j ≡ c.args.to = omega (arith, l.invariant.0) in rw e at l.invariant.1

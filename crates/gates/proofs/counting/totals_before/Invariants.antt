@@ -1,0 +1,16 @@
+use Prim.Native.Nat.{◌≤◌, ◌-◌}
+use mathlib.Core.Path.{◌≡◌, refl, sym, ◌∙◌}
+use native.Mathlib.Omega.{arith}
+use borrow.Author.Rules.{rules}
+use Rattle.circuit.specs.Round.{over_run}
+use Rattle.circuit.specs.Count.{total, count, prep_at, unchecked}
+use Rattle.circuit.specs.Code.{Totalled}
+use Rattle.circuit.proofs.Counts.{unchecked_few, unchecked_more}
+use Rattle.circuit.proofs.KindLaws.{shape_small}
+use Rattle.gates.proofs.counting.totals_before.Given as goal
+
+abbrev pub invariant-loop-j : goal.invariant-loop-j
+invariant-loop-j l = (l.j ≤ l.count) × (l.waiting ≡ unchecked l.c l.j) × Totalled l.c l.j l.t
+
+abbrev pub decreases-loop-j : goal.decreases-loop-j
+decreases-loop-j l = l.count - l.j
