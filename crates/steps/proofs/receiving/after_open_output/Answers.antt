@@ -1,0 +1,16 @@
+-- `steps::receiving::after_open_output` meets its contract: the entry is written with the MAC share of what is shown.
+-- Assumes nothing.
+use mathlib.Core.Path.{◌∙◌}
+use borrow.Author.Rules.{rules}
+use Rattle.protocol.specs.Receive.{afterOpenOutput}
+use Rattle.steps.proofs.Numbers.{mac_is}
+use Rattle.steps.proofs.receiving.after_open_output.Goals as goal
+
+pub shown_part-shown-requires : goal.shown_part-shown-requires
+shown_part-shown-requires c =
+    (c.requires.0, c.requires.2, c.requires.3, c.requires.4)
+
+pub returns : goal.returns
+unfolding afterOpenOutput
+returns c =
+    c.put_opened.ensures ∙ rw (mac_is c.shown_part-shown.ensures)
