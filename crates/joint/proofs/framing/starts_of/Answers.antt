@@ -1,0 +1,47 @@
+-- `joint::framing::starts_of` meets its contract. The loop's invariant: the starts of the parties before i are there. The measure is the number of parties left.
+-- Assumes nothing.
+use Prim.Native.Nat.{◌-◌}
+use mathlib.Core.Path.{refl}
+use native.Mathlib.Omega.{arith}
+use Rattle.joint.proofs.Arrays.{Starting, starting, starting_small, starting_again, starting_done}
+use Rattle.joint.proofs.framing.starts_of.Goals as goal
+
+pub count_inputs-counts-requires : goal.count_inputs-counts-requires
+count_inputs-counts-requires c =
+    (c.requires.0, c.requires.1, c.requires.2)
+
+pub loop-i-init : goal.loop-i-init
+loop-i-init c =
+    starting _ _ refl
+
+pub offset_bounds-starts-i : goal.offset_bounds-starts-i
+offset_bounds-starts-i c =
+    omega (arith, c.requires.2)
+
+pub bounds-starts-i : goal.bounds-starts-i
+bounds-starts-i c =
+    omega (arith, c.requires.2)
+
+pub offset_bounds-counts-i : goal.offset_bounds-counts-i
+offset_bounds-counts-i c =
+    omega (arith, c.requires.2)
+
+pub bounds-counts-i : goal.bounds-counts-i
+bounds-counts-i c =
+    omega (arith, c.requires.2)
+
+pub overflow_add-at : goal.overflow_add-at
+overflow_add-at c =
+    omega (arith, starting_small _ _ c.requires.0 c.requires.1 c.count_inputs-counts.ensures c.loop-i.invariant c.loop-i-test.true)
+
+pub overflow_add-i : goal.overflow_add-i
+overflow_add-i c =
+    omega (arith, c.requires.2)
+
+pub loop-i-preserved : goal.loop-i-preserved
+loop-i-preserved c =
+    starting_again _ _ c.requires.0 c.requires.1 c.count_inputs-counts.ensures c.loop-i.invariant c.loop-i-test.true c.requires.2
+
+pub returns : goal.returns
+returns c =
+    starting_done _ _ c.loop-i.invariant c.loop-i-test.false

@@ -1,0 +1,13 @@
+use Prim.Native.Nat.{◌-◌}
+use native.Mathlib.Omega.{arith}
+use Rattle.protocol.proofs.Filling.{Filled, filled_start, filled_length, filled_fits, filled_part, filled_again, filled_done}
+use Rattle.joint.proofs.Cutting.{band_tail}
+use Rattle.joint.proofs.ReceiveTurns.{marks_left, marks_each}
+use Rattle.joint.proofs.receiving.receive_marks.Given as goal
+
+abbrev pub invariant-loop-i : goal.invariant-loop-i
+invariant-loop-i l =
+    Filled l.f.parties l.f.scratch (marks_left l.f l.initial.scratch l.marks) l.initial.scratch l.scratch l.i l.start
+
+abbrev pub decreases-loop-i : goal.decreases-loop-i
+decreases-loop-i l = l.f.parties - l.i

@@ -1,0 +1,77 @@
+-- `joint::receiving::receive_outputs` meets its contract. The loop's invariant: the bands of the parties before i are done, and the others are as they were. The measure is the number of parties left.
+-- Assumes nothing.
+use Prim.Native.Nat.{◌-◌}
+use native.Mathlib.Omega.{arith}
+use Rattle.protocol.proofs.Filling.{Filled, filled_start, filled_length, filled_fits, filled_part, filled_again, filled_done}
+use Rattle.joint.proofs.Cutting.{prep_end, cut_is, cut_low, mask_cut, band_room}
+use Rattle.joint.proofs.ReceiveTurns.{output_left, output_each}
+use Rattle.joint.proofs.receiving.receive_outputs.Goals as goal
+
+pub loop-i-init : goal.loop-i-init
+loop-i-init c =
+    filled_start _ _ _ _
+
+pub overflow_add-end : goal.overflow_add-end
+overflow_add-end c =
+    omega (arith, c.well_formed, filled_fits _ _ _ _ c.requires.0.room (output_each c.requires.0 c.args.preps.now c.args.at c.args.x c.args.give c.args.e) c.loop-i.invariant c.loop-i-test.true, filled_length _ _ _ _ c.requires.0.room (output_each c.requires.0 c.args.preps.now c.args.at c.args.x c.args.give c.args.e) c.loop-i.invariant)
+
+pub overflow_mul-first : goal.overflow_mul-first
+overflow_mul-first c =
+    omega (arith, c.well_formed, prep_end c.requires.1 c.loop-i.i c.loop-i-test.true)
+
+pub overflow_add-first : goal.overflow_add-first
+overflow_add-first c =
+    omega (arith, c.well_formed, prep_end c.requires.1 c.loop-i.i c.loop-i-test.true, c.requires.1.fits)
+
+pub overflow_mul-last : goal.overflow_mul-last
+overflow_mul-last c =
+    omega (arith, c.well_formed, prep_end c.requires.1 c.loop-i.i c.loop-i-test.true)
+
+pub overflow_add-last : goal.overflow_add-last
+overflow_add-last c =
+    omega (arith, c.well_formed, prep_end c.requires.1 c.loop-i.i c.loop-i-test.true)
+
+pub offset_bounds-scratch-start : goal.offset_bounds-scratch-start
+offset_bounds-scratch-start c =
+    omega (arith, c.well_formed, filled_fits _ _ _ _ c.requires.0.room (output_each c.requires.0 c.args.preps.now c.args.at c.args.x c.args.give c.args.e) c.loop-i.invariant c.loop-i-test.true, filled_length _ _ _ _ c.requires.0.room (output_each c.requires.0 c.args.preps.now c.args.at c.args.x c.args.give c.args.e) c.loop-i.invariant)
+
+pub slice_bounds-after_open_output-end : goal.slice_bounds-after_open_output-end
+slice_bounds-after_open_output-end c =
+    filled_fits _ _ _ _ c.requires.0.room (output_each c.requires.0 c.args.preps.now c.args.at c.args.x c.args.give c.args.e) c.loop-i.invariant c.loop-i-test.true
+
+pub offset_bounds-preps-first : goal.offset_bounds-preps-first
+offset_bounds-preps-first c =
+    omega (arith, c.well_formed, prep_end c.requires.1 c.loop-i.i c.loop-i-test.true, c.requires.1.fits)
+
+pub slice_bounds-after_open_output-count-in-loop-i : goal.slice_bounds-after_open_output-count-in-loop-i
+slice_bounds-after_open_output-count-in-loop-i c =
+    omega (arith, c.requires.1.fits)
+
+-- ?? part-after-open-output-start-2 : tie.Need-slice-bounds-after-open-output-start-2 invariant-loop decreases-loop
+-- part-after-open-output-start-2 c = omega (arith, c.before.before.before.before.before.before.before.before.before.before.requires.1.fits)
+
+-- ?? part-after-open-output-end-2 : tie.Need-slice-bounds-after-open-output-end-2 invariant-loop decreases-loop
+-- part-after-open-output-end-2 c = prep_end c.before.before.before.before.before.before.before.before.before.before.requires.1 c.before.before.before.before.before.before.before.loop.i c.before.before.before.before.before.if1.true
+
+pub after_open_output-requires : goal.after_open_output-requires
+after_open_output-requires c =
+    rw (filled_part _ _ _ _ c.requires.0.room (output_each c.requires.0 c.args.preps.now c.args.at c.args.x c.args.give c.args.e) c.loop-i.invariant c.loop-i-test.true, cut_is c.requires.1 c.loop-i.i c.loop-i-test.true) (band_room c.requires.0 c.loop-i.i c.loop-i-test.true, c.requires.3, c.requires.4 c.loop-i.i c.loop-i-test.true, (λ g. omega (arith, mask_cut c.requires.1 (c.requires.2 g) c.loop-i.i c.loop-i-test.true)), cut_low c.requires.1 c.loop-i.i c.loop-i-test.true)
+
+pub overflow_add-i : goal.overflow_add-i
+overflow_add-i c =
+    omega (arith, c.loop-i-test.true, c.well_formed, c.requires.0.room)
+
+pub loop-i-smaller : goal.loop-i-smaller
+loop-i-smaller c =
+    omega (arith, c.loop-i-test.true)
+
+pub loop-i-preserved : goal.loop-i-preserved
+loop-i-preserved c =
+    filled_again _ _ _ _ c.requires.0.room (output_each c.requires.0 c.args.preps.now c.args.at c.args.x c.args.give c.args.e) c.loop-i.invariant c.loop-i-test.true (rw (filled_part _ _ _ _ c.requires.0.room (output_each c.requires.0 c.args.preps.now c.args.at c.args.x c.args.give c.args.e) c.loop-i.invariant c.loop-i-test.true, cut_is c.requires.1 c.loop-i.i c.loop-i-test.true) at c.after_open_output.ensures)
+
+-- ?? same_length : tie.Need-same-length invariant-loop decreases-loop
+-- same_length c = filled_length _ _ _ _ c.before.before.before.before.before.requires.0.room (output_each c.before.before.before.before.before.requires.0 c.before.before.before.before.before.args.preps.now c.before.before.before.before.before.args.at c.before.before.before.before.before.args.x c.before.before.before.before.before.args.give c.before.before.before.before.before.args.e) c.before.before.loop.invariant
+
+pub returns : goal.returns
+returns c =
+    filled_done _ _ _ _ c.requires.0.room (output_each c.requires.0 c.args.preps.now c.args.at c.args.x c.args.give c.args.e) c.loop-i.invariant c.loop-i-test.false

@@ -1,0 +1,13 @@
+use Prim.Native.Nat.{◌-◌}
+use native.Mathlib.Omega.{arith}
+use Rattle.protocol.proofs.Filling.{Filled, filled_start, filled_length, filled_fits, filled_part, filled_again, filled_done}
+use Rattle.joint.proofs.Cutting.{prep_end, cut_is, cut_low, mask_cut, band_room}
+use Rattle.joint.proofs.ReceiveTurns.{output_left, output_each}
+use Rattle.joint.proofs.receiving.receive_outputs.Given as goal
+
+abbrev pub invariant-loop-i : goal.invariant-loop-i
+invariant-loop-i l =
+    Filled l.f.parties l.f.scratch (output_left l.f l.preps l.initial.scratch l.at l.x l.give l.e) l.initial.scratch l.scratch l.i l.start
+
+abbrev pub decreases-loop-i : goal.decreases-loop-i
+decreases-loop-i l = l.f.parties - l.i

@@ -1,0 +1,73 @@
+-- `joint::sending::reveal_words` meets its contract. The loop's invariant: the parties before i have their words in out, and the rest is as it was. The measure is the number of parties left.
+-- Assumes nothing.
+use Prim.Native.Nat.{◌-◌}
+use native.Mathlib.Omega.{arith}
+use Rattle.circuit.specs.Round.{reveal_words}
+use Rattle.protocol.proofs.Filling.{Filled, filled_start, filled_length, filled_fits, filled_again}
+use Rattle.protocol.proofs.Gathering.{put_room, part_room, part_put, put_done}
+use Rattle.joint.specs.Code.{revealed_by}
+use Rattle.joint.proofs.Cutting.{band_fits, band_is, band_tail}
+use Rattle.joint.proofs.SendTurns.{reveal_long}
+use Rattle.joint.proofs.sending.reveal_words.Goals as goal
+
+pub loop-i-init : goal.loop-i-init
+loop-i-init c =
+    filled_start _ _ _ _
+
+pub overflow_add-b : goal.overflow_add-b
+overflow_add-b c =
+    omega (arith, c.well_formed, filled_fits _ _ _ _ (put_room c.args.f.parties reveal_words c.args.out.now c.requires.3) (reveal_long c.requires.2 c.args.held.now) c.loop-i.invariant c.loop-i-test.true, filled_length _ _ _ _ (put_room c.args.f.parties reveal_words c.args.out.now c.requires.3) (reveal_long c.requires.2 c.args.held.now) c.loop-i.invariant)
+
+pub overflow_mul-start : goal.overflow_mul-start
+overflow_mul-start c =
+    omega (arith, c.well_formed, band_fits c.requires.2 c.loop-i.i c.loop-i-test.true)
+
+pub overflow_add-end : goal.overflow_add-end
+overflow_add-end c =
+    omega (arith, c.well_formed, band_fits c.requires.2 c.loop-i.i c.loop-i-test.true)
+
+pub offset_bounds-held-i : goal.offset_bounds-held-i
+offset_bounds-held-i c =
+    omega (arith, c.well_formed, c.requires.1, c.loop-i-test.true)
+
+pub bounds-held-i : goal.bounds-held-i
+bounds-held-i c =
+    omega (arith, c.requires.1, c.loop-i-test.true)
+
+pub offset_bounds-scratch-start : goal.offset_bounds-scratch-start
+offset_bounds-scratch-start c =
+    omega (arith, c.well_formed, band_fits c.requires.2 c.loop-i.i c.loop-i-test.true)
+
+pub slice_bounds-reveal_words-end : goal.slice_bounds-reveal_words-end
+slice_bounds-reveal_words-end c =
+    band_fits c.requires.2 c.loop-i.i c.loop-i-test.true
+
+pub offset_bounds-out-a : goal.offset_bounds-out-a
+offset_bounds-out-a c =
+    omega (arith, c.well_formed, filled_fits _ _ _ _ (put_room c.args.f.parties reveal_words c.args.out.now c.requires.3) (reveal_long c.requires.2 c.args.held.now) c.loop-i.invariant c.loop-i-test.true, filled_length _ _ _ _ (put_room c.args.f.parties reveal_words c.args.out.now c.requires.3) (reveal_long c.requires.2 c.args.held.now) c.loop-i.invariant)
+
+-- ?? part-reveal-words-end-2 : tie.Need-slice-bounds-reveal-words-end-2 invariant-loop decreases-loop
+-- part-reveal-words-end-2 c = filled_fits _ _ _ _ (put_room c.before.before.before.before.before.before.before.before.before.before.args.f.parties reveal_words c.before.before.before.before.before.before.before.before.before.before.args.out.now c.before.before.before.before.before.before.before.before.before.before.requires.3) (reveal_long c.before.before.before.before.before.before.before.before.before.before.requires.2 c.before.before.before.before.before.before.before.before.before.before.args.held.now) c.before.before.before.before.before.before.loop.invariant c.before.before.before.before.if1.true
+
+pub reveal_words-requires : goal.reveal_words-requires
+reveal_words-requires c =
+    rw (band_is c.requires.2 c.loop-i.i c.loop-i-test.true) (omega (arith, band_tail c.requires.2 c.loop-i.i c.loop-i-test.true), part_room _ _ _ (filled_fits _ _ _ _ (put_room c.args.f.parties reveal_words c.args.out.now c.requires.3) (reveal_long c.requires.2 c.args.held.now) c.loop-i.invariant c.loop-i-test.true))
+
+pub overflow_add-i : goal.overflow_add-i
+overflow_add-i c =
+    omega (arith, c.loop-i-test.true, c.requires.0)
+
+pub loop-i-smaller : goal.loop-i-smaller
+loop-i-smaller c =
+    omega (arith, c.loop-i-test.true)
+
+pub loop-i-preserved : goal.loop-i-preserved
+loop-i-preserved c =
+    filled_again _ _ _ _ (put_room c.args.f.parties reveal_words c.args.out.now c.requires.3) (reveal_long c.requires.2 c.args.held.now) c.loop-i.invariant c.loop-i-test.true (part_put _ _ _ (filled_fits _ _ _ _ (put_room c.args.f.parties reveal_words c.args.out.now c.requires.3) (reveal_long c.requires.2 c.args.held.now) c.loop-i.invariant c.loop-i-test.true) (reveal_long c.requires.2 c.args.held.now c.loop-i.i c.loop-i-test.true) (rw (band_is c.requires.2 c.loop-i.i c.loop-i-test.true) at c.reveal_words.ensures))
+
+-- ?? same_length : tie.Need-same-length invariant-loop decreases-loop
+-- same_length c = filled_length _ _ _ _ (put_room c.before.before.before.before.before.before.args.f.parties reveal_words c.before.before.before.before.before.before.args.out.now c.before.before.before.before.before.before.requires.3) (reveal_long c.before.before.before.before.before.before.requires.2 c.before.before.before.before.before.before.args.held.now) c.before.before.loop.invariant
+
+pub returns : goal.returns
+returns c =
+    put_done _ _ _ c.requires.3 (reveal_long c.requires.2 c.args.held.now) c.loop-i.invariant c.loop-i-test.false
