@@ -1,0 +1,53 @@
+-- `fit::asking::ask_ranges` meets its contract: the ranges before k are asked and passed, and one that is refused is the first.
+-- Assumes nothing.
+use Prim.Native.Nat.{◌-◌}
+use native.Mathlib.Omega.{arith}
+use borrow.Author.Rules.{rules}
+use borrow.Author.Tests.{eq-eqb, ne_eqb}
+use Rattle.field.specs.Words.{size}
+use Rattle.circuit.specs.Verdict.{ask}
+use Rattle.circuit.specs.Code.{verdict_of}
+use Rattle.circuit.proofs.Loops.{Asking, asking_starts, asking_goes_on, asking_refuses, asking_ends, yes_then, no_then}
+use Rattle.ranges.specs.Interval.{interval_at}
+use Rattle.ranges.specs.Entry.{range_ok}
+use Rattle.fit.proofs.Questions.{range_yes, range_no}
+use Rattle.fit.proofs.asking.ask_ranges.Goals as goal
+
+pub overflow_mul-ins : goal.overflow_mul-ins
+overflow_mul-ins c =
+    omega (arith, c.requires)
+
+pub returns-then-ranges-ins : goal.returns-then-ranges-ins
+unfolding verdict_of
+returns-then-ranges-ins c =
+    no_then 26 0 _ (ne_eqb _ _ c.if-ranges-ins.true)
+
+pub loop-k-init : goal.loop-k-init
+loop-k-init c =
+    asking_starts _ _
+
+pub interval_at-requires : goal.interval_at-requires
+interval_at-requires c =
+    omega (arith, c.if-ranges-ins.false, c.loop-k-test.true)
+
+pub returns-then-not-range_ok : goal.returns-then-not-range_ok
+unfolding verdict_of
+returns-then-not-range_ok c =
+    yes_then 26 0 _ (eq-eqb _ _ c.if-ranges-ins.false) (asking_refuses _ _ _ c.loop-k.invariant c.loop-k-test.true (range_no _ _ c.range_ok.ensures c.interval_at.ensures c.if-not-range_ok.true-raw))
+
+pub overflow_add-k : goal.overflow_add-k
+overflow_add-k c =
+    omega (arith, c.loop-k-test.true)
+
+pub loop-k-smaller : goal.loop-k-smaller
+loop-k-smaller c =
+    omega (arith, c.loop-k-test.true)
+
+pub loop-k-preserved : goal.loop-k-preserved
+loop-k-preserved c =
+    asking_goes_on _ _ _ c.loop-k.invariant c.loop-k-test.true (range_yes _ _ c.range_ok.ensures c.interval_at.ensures c.if-not-range_ok.false-raw)
+
+pub returns : goal.returns
+unfolding verdict_of
+returns c =
+    yes_then 26 0 _ (eq-eqb _ _ c.if-ranges-ins.false) (asking_ends _ _ _ c.loop-k.invariant c.loop-k-test.false)

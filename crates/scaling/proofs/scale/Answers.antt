@@ -1,0 +1,41 @@
+-- `scaling::scale` meets its contract: the loop scales one number after another, by a factor that is given twice.
+-- Assumes nothing.
+use Prim.Native.Nat.{ℕ, ◌+◌, ◌-◌, ◌/◌}
+use mathlib.Core.Path.{◌≡◌, ap, ◌∙◌}
+use native.Mathlib.Omega.{arith}
+use borrow.Author.Rules.{rules}
+use lib.ListN.{length, length-set}
+use Rattle.field.specs.Prime.{mul}
+use Rattle.scaling.proofs.Scaling.{Scaling, scaling_starts, scaling_again, scaling_ends}
+use Rattle.scaling.proofs.scale.Goals as goal
+
+-- half of twice a factor is the factor
+half : (k x : ℕ) → mul x ((k + k) / 2) ≡ mul x k
+half k x = let e : (k + k) / 2 ≡ k = omega arith in ap (λ (n : ℕ). mul x n) e
+
+pub overflow_add-twice : goal.overflow_add-twice
+overflow_add-twice c =
+    record { fits = omega (arith, c.requires.0) }
+
+pub loop-i-init : goal.loop-i-init
+loop-i-init c =
+    scaling_starts _ _ c.requires.1
+
+pub mul_twice-requires : goal.mul_twice-requires
+mul_twice-requires c =
+    (c.loop-i.invariant.low _, omega arith, omega (arith, c.requires.0))
+
+pub loop-i-smaller : goal.loop-i-smaller
+loop-i-smaller c =
+    simp length-set (omega arith)
+
+pub loop-i-preserved : goal.loop-i-preserved
+loop-i-preserved c =
+    scaling_again _ _ c.loop-i.invariant (omega arith) (c.mul_twice.ensures.is ∙ half c.args.by _)
+
+-- ?? same_length : tie.Need-same-length invariant-loop decreases-loop
+-- same_length c = c.before.loop.invariant.long
+
+pub returns : goal.returns
+returns c =
+    scaling_ends _ _ c.loop-i.invariant (omega arith)
