@@ -62,8 +62,7 @@ fn put_fit(answer: &mut [u64], a: Answer)
 }
 
 // Whether a circuit fits. Where its answer has no room, its intervals have none: no accepted circuit is empty, so that nothing is written.
-#[unsafe(no_mangle)]
-pub extern "C" fn spdz_will_fit(
+pub fn spdz_will_fit(
     parties: usize,
     c: &[Word],
     ranges: &[Word],

@@ -350,8 +350,7 @@ fn without_room(v: Verdict) -> Refusal
 }
 
 // Opening a run.
-#[unsafe(no_mangle)]
-pub extern "C" fn spdz_open_run(
+pub fn spdz_open_run(
     parties: usize,
     me: usize,
     c: &[Word],
@@ -378,8 +377,7 @@ pub extern "C" fn spdz_open_run(
 }
 
 // Sending: the words of the position's round, and the nonce that a commitment notes.
-#[unsafe(no_mangle)]
-pub extern "C" fn spdz_send(
+pub fn spdz_send(
     parties: usize,
     me: usize,
     c: &[Word],
@@ -450,8 +448,7 @@ pub extern "C" fn spdz_send(
 }
 
 // Receiving: what the words of all lead to.
-#[unsafe(no_mangle)]
-pub extern "C" fn spdz_receive(
+pub fn spdz_receive(
     parties: usize,
     me: usize,
     c: &[Word],
@@ -493,8 +490,7 @@ pub extern "C" fn spdz_receive(
 }
 
 // The joint run of all parties. Where its answer has no room, none of the outputs has: every circuit has one, so that nothing is run.
-#[unsafe(no_mangle)]
-pub extern "C" fn spdz_joint_run(
+pub fn spdz_joint_run(
     parties: usize,
     c: &[Word],
     preps: &[Word],

@@ -46,8 +46,7 @@ fn put_sheet(answer: &mut [u64], kind: u64, a: Answer)
 }
 
 // Reading a sheet. Where its answer has no room, its circuit has none: no accepted circuit is empty, so that nothing is written.
-#[unsafe(no_mangle)]
-pub extern "C" fn spdz_read_sheet(
+pub fn spdz_read_sheet(
     parties: usize,
     text: &[u8],
     circuit: &mut [Word],
@@ -76,13 +75,7 @@ pub extern "C" fn spdz_read_sheet(
 }
 
 // Writing a sheet. Where its answer has no room, its text has none: no sheet of an accepted circuit is empty, so that nothing is written.
-#[unsafe(no_mangle)]
-pub extern "C" fn spdz_write_sheet(
-    parties: usize,
-    c: &[Word],
-    text: &mut [u8],
-    answer: &mut [u64],
-) -> Refusal
+pub fn spdz_write_sheet(parties: usize, c: &[Word], text: &mut [u8], answer: &mut [u64]) -> Refusal
     ensures returned { result ≡ returned (write_call parties c.now text.old answer.old) }
     ensures answer { answer.new
         ≡ leave (write_call parties c.now text.old answer.old)

@@ -18,8 +18,7 @@ const FACTOR_QUESTION: u32 = 1;
 const VALUES_QUESTION: u32 = 2;
 
 // Each number of a list times a factor, in place; nothing is written where one of them is no element.
-#[unsafe(no_mangle)]
-pub extern "C" fn spdz_scale(values: &mut [Word], by: Word) -> u32
+pub fn spdz_scale(values: &mut [Word], by: Word) -> u32
     ensures returned { result ≡ refusal_number (ask_scale by values.old) }
     ensures values { values.new ≡ leave (ask_scale by values.old) (scaled by values.old) values.old }
 {

@@ -1,0 +1,53 @@
+// The entries for callers in C that read and write sheets.
+ghost use Rattle.std.specs.Prelude.{◌≡◌, length};
+ghost use Rattle.field.specs.Words.{size, largest};
+ghost use Rattle.protocol.specs.Send.{overwrite};
+ghost use Rattle.protocol.specs.Entry.{leave};
+ghost use Rattle.forms.specs.Entry.{readAnswer, readCircuit, writeAnswer, writeText};
+ghost use Rattle.capi.specs.Calls.{returned};
+ghost use Rattle.capi.specs.Sheets.{sheet_read, sheet_written, sheet_numbers, read_call, write_call};
+
+use capi::Refusal;
+use field::Word;
+
+// Reading a sheet. Where its answer has no room, its circuit has none: no accepted circuit is empty, so that nothing is written.
+#[unsafe(no_mangle)]
+pub extern "C" fn spdz_read_sheet(
+    parties: usize,
+    text: &[u8],
+    circuit: &mut [Word],
+    answer: &mut [u64],
+) -> Refusal
+    ensures returned { result ≡ returned (read_call parties text.now circuit.old answer.old) }
+    ensures answer { answer.new
+        ≡ leave (read_call parties text.now circuit.old answer.old)
+        (overwrite (sheet_numbers sheet_read (readAnswer parties size largest text.now (length circuit.old))) answer.old)
+        answer.old }
+    ensures circuit { circuit.new
+        ≡ leave (read_call parties text.now circuit.old answer.old)
+        (readCircuit parties size largest text.now circuit.old)
+        circuit.old }
+{
+    capi::sheets::spdz_read_sheet(parties, text, circuit, answer)
+}
+
+// Writing a sheet. Where its answer has no room, its text has none: no sheet of an accepted circuit is empty, so that nothing is written.
+#[unsafe(no_mangle)]
+pub extern "C" fn spdz_write_sheet(
+    parties: usize,
+    c: &[Word],
+    text: &mut [u8],
+    answer: &mut [u64],
+) -> Refusal
+    ensures returned { result ≡ returned (write_call parties c.now text.old answer.old) }
+    ensures answer { answer.new
+        ≡ leave (write_call parties c.now text.old answer.old)
+        (overwrite (sheet_numbers sheet_written (writeAnswer parties size c.now (length text.old))) answer.old)
+        answer.old }
+    ensures text { text.new
+        ≡ leave (write_call parties c.now text.old answer.old)
+        (writeText parties size c.now text.old)
+        text.old }
+{
+    capi::sheets::spdz_write_sheet(parties, c, text, answer)
+}
