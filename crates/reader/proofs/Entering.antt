@@ -14,7 +14,6 @@ use Rattle.protocol.specs.Ask.{ask_parties}
 use Rattle.protocol.specs.Entry.{leave}
 use Rattle.field.specs.Words.{size, largest}
 use Rattle.forms.specs.Machine.{reading, No}
-use Rattle.forms.specs.Entry as E
 use Rattle.forms.specs.Entry.{answer, ask_shape, rows_in, circuit_in, askRead, readAnswer, readCircuit}
 use Rattle.forms.specs.Code.{answer_of}
 use Rattle.forms.specs.declared.Answer.{Answer}
