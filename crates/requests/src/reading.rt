@@ -1,7 +1,7 @@
 // Reading a line of a request.
 ghost use Rattle.std.specs.Prelude.{◌≤◌, ◌≡◌, IfOk};
 ghost use Rattle.requests.specs.Order.{placed};
-ghost use Rattle.requests.specs.Lines as W;
+ghost use Rattle.requests.specs.Lines as L;
 ghost use Rattle.requests.specs.Lines.{one_in, position_in, goes, take_number, take_position, take_wanted, take_field, take_line};
 
 use crate::naming::{
@@ -238,7 +238,7 @@ fn begin<W: Write>(
     bare: bool,
     request: Request,
 ) -> io::Result<Request>
-    ensures { IfOk result (λ r. r ≡ W.begin entry bare request) }
+    ensures { IfOk result (λ r. r ≡ L.begin entry bare request) }
 {
     if request.wanted < COMPLETE {
         complain_wanted(to, number, request)?;
