@@ -21,9 +21,6 @@ pub loop-i-preserved : goal.loop-i-preserved
 loop-i-preserved c =
     rw (← low_at _ _ c.loop-i-test.true) (one_more _ _ _ (rw (length_lows) c.loop-i-test.true) c.loop-i.invariant)
 
--- ?? same_length : tie.Need-same-length invariant-loop decreases-loop
--- same_length c = sym c.before.loop.invariant.as_long ∙ length_lows _ ∙ c.before.before.requires
-
 pub returns : goal.returns
 returns c =
     all_done _ _ _ (rw (length_lows) c.loop-i-test.false) c.loop-i.invariant

@@ -7,9 +7,6 @@ pub loop-i-init : goal.loop-i-init
 loop-i-init c =
     none_yet _ _ c.requires
 
--- ?? cast-list : tie.Need-overflow-cast-list invariant-loop decreases-loop
--- cast-list c = omega (arith, c.shared-slice-known.given c.before.before.loop.i)
-
 pub bounds-list-i : goal.bounds-list-i
 bounds-list-i c =
     within _ _ c.loop-i.invariant c.loop-i-test.true
@@ -17,9 +14,6 @@ bounds-list-i c =
 pub loop-i-preserved : goal.loop-i-preserved
 loop-i-preserved c =
     one_more _ _ _ c.loop-i-test.true c.loop-i.invariant
-
--- ?? same_length : tie.Need-same-length invariant-loop decreases-loop
--- same_length c = sym c.before.loop.invariant.as_long ∙ c.before.before.requires
 
 pub returns : goal.returns
 returns c =
