@@ -14,6 +14,8 @@ use requests::entries::{print_named, print_refusal};
 use requests::naming::PARTIES;
 use requests::reading::shorter;
 use requests::request::{ROOM, Request, part};
+use std::io;
+use std::io::Write;
 
 // The most gates of a circuit that is read.
 const MOST_GATES: usize = gates::asking::MOST_GATES;
@@ -82,32 +84,43 @@ fn write_list(parties: usize, c: &[Word], text: &mut [Word]) -> Answer {
     write_in(parties, c, &mut room[..n], text)
 }
 
-fn print_answer(name: &[u8], answer: Answer) {
+fn print_answer<W: Write>(to: &mut W, name: &[u8], answer: Answer) -> io::Result<()> {
     match answer {
-        Answer::Refusal { number, index } => print_refusal(number, index),
+        Answer::Refusal { number, index } => print_refusal(to, number, index),
         Answer::Done { count } => {
-            print_named(name, count);
-            printing::print(b"\n");
+            print_named(to, name, count)?;
+            printing::print(to, b"\n")
         }
     }
 }
 
-pub fn answer_read(request: Request, text: &[Word], circuit: &mut [Word]) {
+pub fn answer_read<W: Write>(
+    to: &mut W,
+    request: Request,
+    text: &[Word],
+    circuit: &mut [Word],
+) -> io::Result<()> {
     let read = request.read;
     let answer = read_list(read[PARTIES] as usize, text, circuit);
-    print_answer(b"lines", answer);
-    printing::print_list(b"circuit", circuit);
+    print_answer(to, b"lines", answer)?;
+    printing::print_list(to, b"circuit", circuit)
 }
 
-pub fn answer_write(request: Request, c: &[Word], text: &mut [Word]) {
+pub fn answer_write<W: Write>(
+    to: &mut W,
+    request: Request,
+    c: &[Word],
+    text: &mut [Word],
+) -> io::Result<()> {
     let read = request.read;
     let answer = write_list(read[PARTIES] as usize, c, text);
-    print_answer(b"bytes", answer);
-    printing::print_list(b"text", text);
+    print_answer(to, b"bytes", answer)?;
+    printing::print_list(to, b"text", text)
 }
 
 // A circuit of so many gates, from the start of a list, is run.
-fn answer_gates(
+fn answer_gates<W: Write>(
+    to: &mut W,
     request: Request,
     count: usize,
     circuit: &[Word],
@@ -118,9 +131,10 @@ fn answer_gates(
     nonces: &[u8],
     transcript: &mut [Word],
     outputs: &mut [Word],
-) {
+) -> io::Result<()> {
     let n = part(GATE_SIZE * shorter(count, MOST_GATES), circuit);
     answer_joint(
+        to,
         request,
         &circuit[..n],
         preps,
@@ -130,11 +144,12 @@ fn answer_gates(
         nonces,
         transcript,
         outputs,
-    );
+    )
 }
 
 // A sheet that is read is run as its circuit.
-pub fn answer_score(
+pub fn answer_score<W: Write>(
+    to: &mut W,
     request: Request,
     text: &[Word],
     preps: &[Word],
@@ -144,12 +159,13 @@ pub fn answer_score(
     nonces: &[u8],
     transcript: &mut [Word],
     outputs: &mut [Word],
-) {
+) -> io::Result<()> {
     let read = request.read;
     let mut circuit = circuit_room();
     match read_list(read[PARTIES] as usize, text, &mut circuit) {
-        Answer::Refusal { number, index } => print_refusal(number, index),
+        Answer::Refusal { number, index } => print_refusal(to, number, index),
         Answer::Done { count } => answer_gates(
+            to,
             request,
             count,
             &circuit,
