@@ -3,12 +3,9 @@
 use mathlib.Core.Path.{refl}
 use Rattle.party.specs.Code.{position_of}
 use Rattle.capi.specs.Stages.{position, nowhere}
-use Rattle.capi.proofs.nowhere.Statement.{statement}
-use Rattle.capi.proofs.nowhere.Tie as tie
+use Rattle.capi.proofs.nowhere.Goals as goal
 
-returns : tie.Need-returns
+pub returns : goal.returns
 unfolding position_of position nowhere
-returns c = refl
-
-pub nowhere_spec : {M : Type 1} → statement M
-nowhere_spec = tie.close (tie.spec returns)
+returns c =
+    refl
