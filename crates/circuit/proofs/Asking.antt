@@ -9,7 +9,7 @@ use native.Mathlib.Numerals.{add-one}
 use native.Mathlib.Omega.{arith}
 use lib.ListN.{length, get_or}
 use borrow.Author.Tests.{eq-eqb, le-leb}
-use Rattle.circuit.specs.Verdict.{Verdict, Accepted, Refused, ask, ◌then◌, each}
+use Rattle.circuit.specs.Verdict.{Verdict, Accepted, Refused, ask, each}
 use Rattle.circuit.specs.Gate.{gate_size, entry, gate, gates}
 use Rattle.circuit.specs.Kind.{Role, Shape, shape, role, is_out}
 use Rattle.circuit.specs.Accept.{fewest_gates, most_gates, is_kind, name_ok, rest_ok, ask_name, ask_rest, ask_gate, ask_size, ask_last, ask_circuit}

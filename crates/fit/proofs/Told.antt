@@ -1,6 +1,6 @@
 -- What the entry answers and writes: on a refusal, where a gate leaves, and where all fits.
 -- Assumes nothing.
-use Prim.Native.Nat.{ℕ, ◌+◌, ◌*◌, ◌-◌, ◌<◌, ◌≤◌}
+use Prim.Native.Nat.{ℕ, ◌*◌, ◌-◌, ◌<◌, ◌≤◌}
 use mathlib.Core.Path.{◌≡◌, sym, ◌∙◌}
 use mathlib.Core.Bool.{true, ◌&&◌}
 use mathlib.Core.List.{List, ◌++◌}
@@ -10,7 +10,7 @@ use lib.ListN.{length, take, drop}
 use lib.Seq.{length-take-le}
 use borrow.Author.Tests.{ltb-true, ltb-false, leb-true, eqb-true}
 use Rattle.field.specs.Words.{size}
-use Rattle.circuit.specs.Verdict.{Accepted, Refused, ask, ◌then◌, each}
+use Rattle.circuit.specs.Verdict.{Accepted, Refused, ask, ◌then◌}
 use Rattle.circuit.specs.Gate.{Kind, In, Add, Sub, Plus, Times, Mul, Out, Sq, Give, Over, gate, gates}
 use Rattle.circuit.specs.Kind.{Output, kind_shape, is_out}
 use Rattle.circuit.specs.Count.{count, in_count, out_count}

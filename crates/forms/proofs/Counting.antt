@@ -11,7 +11,7 @@ use lib.Dec.{eqb}
 use borrow.Author.Tests.{eqb-true, not-true}
 use Rattle.circuit.proofs.Tests.{by_cases, both_left, both_right}
 use Rattle.forms.specs.Words.{names}
-use Rattle.forms.specs.Form.{Form, one, gates_in, gates_in_all, opening, closing}
+use Rattle.forms.specs.Form.{Form, gates_in, gates_in_all, opening, closing}
 use Rattle.forms.specs.Refusals.{count, count_names, line_letter}
 use Rattle.forms.specs.Machine.{
   Frame,

@@ -11,7 +11,7 @@ use lib.Dec.{eqb}
 use borrow.Author.Tests.{eqb-true, eqb-false, not-true}
 use Rattle.circuit.proofs.Tests.{both_left, both_right}
 use Rattle.forms.specs.Words.{Head, Sort, Leaf, One, Two, Scaled, heads, letters, sort}
-use Rattle.forms.specs.Form.{Form, one, marks, begin, print, print_rows, decimal, number_fits, opening, closing, space, feed, naught, ten}
+use Rattle.forms.specs.Form.{Form, marks, begin, print, print_rows, decimal, number_fits, opening, closing, space, feed, naught, ten}
 use Rattle.forms.specs.Machine.{
   Frame,
   first,

@@ -10,7 +10,7 @@ use Rattle.field.specs.Words.{size}
 use Rattle.circuit.specs.Gate.{gate_size, gates}
 use Rattle.circuit.specs.Kind.{shape, is_in, is_out}
 use Rattle.circuit.specs.Count.{total, count, prep_at, prep_size, capacity, in_count, out_count}
-use Rattle.circuit.specs.Round.{commit_words, words, over_run, word_count, coefficient_count, check_count}
+use Rattle.circuit.specs.Round.{commit_words, over_run, word_count, coefficient_count, check_count}
 use Rattle.circuit.specs.Accept.{most_gates}
 use Rattle.circuit.specs.Valid.{Valid}
 use Rattle.circuit.specs.Code.{Totalled}

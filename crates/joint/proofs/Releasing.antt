@@ -8,7 +8,7 @@ use native.Mathlib.Omega.{arith}
 use lib.ListN.{length, set}
 use Rattle.circuit.specs.Count.{capacity}
 use Rattle.circuit.specs.Round.{Round}
-use Rattle.protocol.specs.Scratch.{Layout, layout, written_at}
+use Rattle.protocol.specs.Scratch.{layout, written_at}
 use Rattle.protocol.specs.Receive.{Ruling, passed}
 use Rattle.protocol.specs.declared.Layout as D
 use Rattle.protocol.specs.Code.{layout_of}

@@ -18,7 +18,7 @@ use Rattle.circuit.proofs.KindLaws.{is_class_lem, everyone_sees}
 use Rattle.circuit.proofs.Gates.{first_fits, second_fits, output_named}
 use Rattle.protocol.specs.Send.{overwrite}
 use Rattle.protocol.specs.Joint.{Joint}
-use Rattle.protocol.specs.Plain.{plain_input, values, value, score_of, scores_seen, scores}
+use Rattle.protocol.specs.Plain.{plain_input, value, score_of, scores_seen, scores}
 use Rattle.ranges.specs.Interval.{interval, interval_size, interval_at, range_at, kind_reach, reach, stays, intervals, gate_stays}
 use Rattle.ranges.specs.Move.{Change, Of, change_at, moves, score_moves}
 use Rattle.ranges.specs.Entry.{moves_told, fit_intervals, fit_moves}

@@ -24,7 +24,6 @@ use Rattle.protocol.specs.Ready.{Receives}
 use Rattle.protocol.specs.declared.Layout.{Layout}
 use Rattle.protocol.specs.declared.Site.{Site}
 use Rattle.protocol.specs.declared.Blame.{Blame}
-use Rattle.protocol.specs.declared.Ruling.{Ruling}
 use Rattle.protocol.specs.declared.Ruling.TheVariants.{Passed, Stopped}
 use Rattle.protocol.proofs.Following.{followed, ruling_other, next_follows, next_stops}
 use Rattle.protocol.proofs.Readiness.{class_of, output_words, tail_there}

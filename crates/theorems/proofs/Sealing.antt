@@ -21,7 +21,7 @@ use Rattle.circuit.proofs.Tests.{false_no}
 use Rattle.protocol.specs.Scratch.{layout, scratch_size, nonce_of, put_nonce, put_marks}
 use Rattle.protocol.specs.Position.{Point, Stage, Send, Receive, Finished, Aborted, aborted, start, follow, may_hold}
 use Rattle.protocol.specs.Send.{noted}
-use Rattle.protocol.specs.Receive.{Nobody, Passed, passed, fits, weighs, heard_sum, next, received, finds, left}
+use Rattle.protocol.specs.Receive.{Nobody, Passed, passed, weighs, heard_sum, next, received, finds, left}
 use Rattle.protocol.specs.Joint.{Joint, party, nonce_for}
 use Rattle.protocol.specs.Run.{State, begun, takes, said, notes, ends, step}
 use Rattle.protocol.proofs.Following.{ruling_other, next_holds, start_is}

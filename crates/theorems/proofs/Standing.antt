@@ -10,7 +10,7 @@ use lib.ListN.{length}
 use Rattle.algebra.specs.Ops.{Ops}
 use Rattle.algebra.specs.Field.{Field}
 use Rattle.algebra.proofs.Ring.{sub_lt}
-use Rattle.circuit.specs.Gate.{gate, gates}
+use Rattle.circuit.specs.Gate.{gates}
 use Rattle.circuit.specs.Count.{unchecked}
 use Rattle.circuit.specs.Round.{Check, First, Second, Round, Own, Open, Commit, Reveal, is_commit, opened_in, nonce_in}
 use Rattle.circuit.specs.Valid.{Valid}

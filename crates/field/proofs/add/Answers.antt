@@ -1,6 +1,5 @@
 -- `field::add` meets its contract: a sum of two numbers below p is its own remainder, or has p to be taken off once.
 -- Assumes nothing.
-use borrow.Author.Rules.{rules}
 use native.Mathlib.Omega.{arith}
 use Rattle.field.specs.Prime.Laws.{add_eq}
 use Rattle.field.proofs.add.Goals as goal

@@ -1,6 +1,5 @@
 -- `field::add_element` meets its contract: an element is below 2^32 and stands for itself.
 -- Assumes nothing.
-use borrow.Author.Rules.{rules}
 use mathlib.Core.Path.{◌∙◌, ap}
 use native.Mathlib.Omega.{arith}
 use Rattle.field.specs.Prime.{add}

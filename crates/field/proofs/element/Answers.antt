@@ -1,7 +1,6 @@
 -- `field::element` meets its contract: one fold comes below 2 * p, so that at most one p has to be taken off.
 -- Assumes nothing.
 use borrow.Author.Rules.{rules}
-use mathlib.Core.Logic.{⊎_elim}
 use native.Mathlib.Omega.{arith}
 use Rattle.field.proofs.Folding.{low_fits, fold_fits_word, element_small, element_large}
 use Rattle.field.proofs.element.Goals as goal

@@ -3,7 +3,7 @@
 use borrow.Author.Rules.{rules}
 use native.Mathlib.Nat.{div-le_self, mod-lt}
 use native.Mathlib.Omega.{arith}
-use Rattle.field.proofs.Turns.{Turning, turning_start, turning_again, turning_done, quotient_fits}
+use Rattle.field.proofs.Turns.{turning_start, turning_again, turning_done, quotient_fits}
 use Rattle.field.proofs.inverse.Goals as goal
 
 pub loop-y-init : goal.loop-y-init

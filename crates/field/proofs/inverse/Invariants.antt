@@ -1,7 +1,4 @@
-use borrow.Author.Rules.{rules}
-use native.Mathlib.Nat.{div-le_self, mod-lt}
-use native.Mathlib.Omega.{arith}
-use Rattle.field.proofs.Turns.{Turning, turning_start, turning_again, turning_done, quotient_fits}
+use Rattle.field.proofs.Turns.{Turning}
 use Rattle.field.proofs.inverse.Given as goal
 
 abbrev pub invariant-loop-y : goal.invariant-loop-y

@@ -1,6 +1,5 @@
 -- `field::sub` meets its contract: of numbers below p, the difference, or the difference with p put on, is below p.
 -- Assumes nothing.
-use borrow.Author.Rules.{rules}
 use native.Mathlib.Omega.{arith}
 use Rattle.field.specs.Prime.Laws.{sub_eq}
 use Rattle.field.proofs.sub.Goals as goal

@@ -1,6 +1,6 @@
 -- What is promised of the operations of Prime: the equations that define them, and the laws of a field, of all natural numbers.
 -- Assumes nothing.
-use Rattle.std.specs.Prelude.{ℕ, zero, suc, ◌+◌, ◌*◌, ◌-◌, ◌/◌, ◌%◌, ◌<◌, ◌≡◌, refl}
+use Rattle.std.specs.Prelude.{ℕ, zero, suc, ◌+◌, ◌*◌, ◌-◌, ◌%◌, ◌<◌, ◌≡◌, refl}
 use Rattle.std.proofs.Common.{ap, sym, ◌∙◌, arith}
 use Rattle.std.proofs.Math.Nat.{mod-add-div}
 use Rattle.field.specs.Prime.{p, norm, add, neg, sub, mul, euclid, turns, inv, prime, modular}

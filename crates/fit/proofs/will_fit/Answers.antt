@@ -1,7 +1,6 @@
 -- `fit::will_fit` meets its contract: a refusal is told; else the walk is made, and only where nothing leaves its lists are handed over.
 -- Assumes nothing.
 use native.Mathlib.Omega.{arith}
-use borrow.Author.Rules.{rules}
 use Rattle.circuit.specs.Gate.{gates}
 use Rattle.circuit.specs.Code.{verdict_of}
 use Rattle.fit.specs.Code.{change_of, answer_of, found_of}

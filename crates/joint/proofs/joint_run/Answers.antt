@@ -1,7 +1,6 @@
 -- `joint::joint_run` meets its contract. A refusal leaves all as it was, and what is accepted gives what the run asks.
 -- Assumes nothing.
 use mathlib.Core.Path.{sym, ap, ◌∙◌}
-use borrow.Author.Rules.{rules}
 use Rattle.circuit.specs.Code.{verdict_of}
 use Rattle.joint.specs.Code.{joint_answer_of}
 use Rattle.joint.proofs.Measures.{count_is, count_fits, count_few}

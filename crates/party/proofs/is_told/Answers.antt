@@ -1,6 +1,5 @@
 -- `party::is_told` meets its contract: the round releases, and the gate tells whom.
 -- Assumes nothing.
-use borrow.Author.Rules.{rules}
 use Rattle.party.proofs.is_told.Goals as goal
 
 pub returns-then-releases : goal.returns-then-releases

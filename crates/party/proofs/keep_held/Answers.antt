@@ -2,7 +2,6 @@
 -- Assumes nothing.
 use mathlib.Core.Path.{sym, ◌∙◌}
 use Rattle.protocol.specs.Position.{keep}
-use borrow.Author.Rules.{rules}
 use Rattle.party.proofs.keep_held.Goals as goal
 
 pub returns-then-is_commit : goal.returns-then-is_commit

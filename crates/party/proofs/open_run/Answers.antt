@@ -9,7 +9,6 @@ use Rattle.party.specs.Code.{answer_of, position_of, lent_of}
 use Rattle.protocol.proofs.Following.{start_is}
 use Rattle.party.proofs.Accepted.{lends_here}
 use Rattle.protocol.proofs.Entries.{open_refused, open_accepted}
-use borrow.Author.Rules.{rules}
 use Rattle.party.proofs.open_run.Goals as goal
 
 pub returns-in-Refused : goal.returns-in-Refused

@@ -1,7 +1,6 @@
 -- `party::outcome_of` meets its contract: a round that stops is an abort, and any other leads to the next position.
 -- Assumes nothing.
 use mathlib.Core.Path.{◌∙◌}
-use borrow.Author.Rules.{rules}
 use Rattle.protocol.specs.Position.{holding}
 use Rattle.protocol.specs.Code.{point_of, ruling_of}
 use Rattle.party.specs.Code.{answer_of, position_of, leads_to}

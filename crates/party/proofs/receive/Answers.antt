@@ -1,7 +1,6 @@
 -- `party::receive` meets its contract: what its questions accept, the step receives, and what it concludes tells the answer.
 -- Assumes nothing.
 use mathlib.Core.Path.{sym, ap, ◌∙◌}
-use borrow.Author.Rules.{rules}
 use Rattle.field.specs.Words.{ops}
 use Rattle.protocol.proofs.Entries.{receive_refused}
 use Rattle.protocol.proofs.Readiness.{gate_there}

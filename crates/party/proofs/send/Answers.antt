@@ -1,7 +1,6 @@
 -- `party::send` meets its contract: what its questions accept, the step sends.
 -- Assumes nothing.
 use mathlib.Core.Path.{sym, ap, ◌∙◌}
-use borrow.Author.Rules.{rules}
 use Rattle.field.specs.Words.{ops}
 use Rattle.protocol.proofs.Entries.{send_refused}
 use Rattle.party.specs.Code.{answer_of, asked_of, position_of}

@@ -1,7 +1,6 @@
 -- `protocol::marks_at` meets its contract: the marks stand behind the nonce.
 -- Assumes nothing.
 use native.Mathlib.Omega.{arith}
-use borrow.Author.Rules.{rules}
 use Rattle.protocol.specs.Scratch.{nonce_at, marks_at}
 use Rattle.protocol.proofs.marks_at.Goals as goal
 

@@ -3,7 +3,6 @@
 use native.Mathlib.Omega.{arith}
 use Rattle.protocol.specs.Scratch.{offset, slots_size}
 use Rattle.protocol.specs.Code.{layout_of}
-use borrow.Author.Rules.{rules}
 use Rattle.protocol.proofs.offset_of.Goals as goal
 
 pub overflow_add-result : goal.overflow_add-result

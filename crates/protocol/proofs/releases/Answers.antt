@@ -1,6 +1,5 @@
 -- `protocol::releases` meets its contract: each sort of round has its line in the definition.
 -- Assumes nothing.
-use borrow.Author.Rules.{rules}
 use Rattle.protocol.proofs.releases.Goals as goal
 
 pub returns-in-Own : goal.returns-in-Own

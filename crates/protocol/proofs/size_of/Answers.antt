@@ -1,7 +1,6 @@
 -- `protocol::size_of` meets its contract: the sum is the definition.
 -- Assumes nothing.
 use native.Mathlib.Omega.{arith}
-use borrow.Author.Rules.{rules}
 use Rattle.protocol.specs.Scratch.{slots_size, nonce_at, marks_at}
 use Rattle.protocol.specs.Code.{layout_of}
 use Rattle.protocol.proofs.size_of.Goals as goal

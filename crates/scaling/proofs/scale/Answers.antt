@@ -1,12 +1,11 @@
 -- `scaling::scale` meets its contract: the loop scales one number after another, by a factor that is given twice.
 -- Assumes nothing.
-use Prim.Native.Nat.{ℕ, ◌+◌, ◌-◌, ◌/◌}
+use Prim.Native.Nat.{ℕ, ◌+◌, ◌/◌}
 use mathlib.Core.Path.{◌≡◌, ap, ◌∙◌}
 use native.Mathlib.Omega.{arith}
-use borrow.Author.Rules.{rules}
-use lib.ListN.{length, length-set}
+use lib.ListN.{length-set}
 use Rattle.field.specs.Prime.{mul}
-use Rattle.scaling.proofs.Scaling.{Scaling, scaling_starts, scaling_again, scaling_ends}
+use Rattle.scaling.proofs.Scaling.{scaling_starts, scaling_again, scaling_ends}
 use Rattle.scaling.proofs.scale.Goals as goal
 
 -- half of twice a factor is the factor

@@ -1,10 +1,6 @@
-use Prim.Native.Nat.{ℕ, ◌+◌, ◌-◌, ◌/◌}
-use mathlib.Core.Path.{◌≡◌, ap, ◌∙◌}
-use native.Mathlib.Omega.{arith}
-use borrow.Author.Rules.{rules}
-use lib.ListN.{length, length-set}
-use Rattle.field.specs.Prime.{mul}
-use Rattle.scaling.proofs.Scaling.{Scaling, scaling_starts, scaling_again, scaling_ends}
+use Prim.Native.Nat.{◌-◌}
+use lib.ListN.{length}
+use Rattle.scaling.proofs.Scaling.{Scaling}
 use Rattle.scaling.proofs.scale.Given as goal
 
 abbrev pub invariant-loop-i : goal.invariant-loop-i

@@ -8,7 +8,6 @@ use Rattle.circuit.proofs.Verdicts.{elements_below}
 use Rattle.protocol.specs.Entry.{leave}
 use Rattle.scaling.specs.Scale.{refusal_number}
 use Rattle.scaling.proofs.Scaling.{factor_refused, numbers_refused, numbers_accepted}
-use borrow.Author.Rules.{rules}
 use Rattle.scaling.proofs.spdz_scale.Goals as goal
 
 pub returns-then-by-ge-SIZE : goal.returns-then-by-ge-SIZE

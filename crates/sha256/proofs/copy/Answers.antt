@@ -1,7 +1,7 @@
 -- `sha256::copy` meets its contract: the loop writes the elements one after the other.
 -- Assumes nothing.
-use Rattle.std.proofs.Common.{◌-◌, length, refl, arith, rules}
-use Rattle.sha256.proofs.Written.{Written, written_start, written_long, written_again, written_done}
+use Rattle.std.proofs.Common.{refl, arith, rules}
+use Rattle.sha256.proofs.Written.{written_start, written_long, written_again, written_done}
 use Rattle.sha256.proofs.copy.Goals as goal
 
 pub loop-i-init : goal.loop-i-init

@@ -1,5 +1,5 @@
-use Rattle.std.proofs.Common.{◌-◌, length, refl, arith, rules}
-use Rattle.sha256.proofs.Written.{Written, written_start, written_long, written_again, written_done}
+use Rattle.std.proofs.Common.{◌-◌, length}
+use Rattle.sha256.proofs.Written.{Written}
 use Rattle.sha256.proofs.copy.Given as goal
 
 abbrev pub invariant-loop-i : goal.invariant-loop-i

@@ -1,7 +1,7 @@
 -- `sha256::is_same` meets its contract: lists of other lengths differ, and the loop keeps that there is no difference so far.
 -- Assumes nothing.
-use Rattle.std.proofs.Common.{◌-◌, length, sym, rules}
-use Rattle.sha256.proofs.Alike.{Alike, other_length, alike_start, alike_again, alike_not, alike_done}
+use Rattle.std.proofs.Common.{sym, rules}
+use Rattle.sha256.proofs.Alike.{other_length, alike_start, alike_again, alike_not, alike_done}
 use Rattle.sha256.proofs.is_same.Goals as goal
 
 pub returns-then-x-y : goal.returns-then-x-y

@@ -1,5 +1,5 @@
-use Rattle.std.proofs.Common.{◌-◌, length, sym, rules}
-use Rattle.sha256.proofs.Alike.{Alike, other_length, alike_start, alike_again, alike_not, alike_done}
+use Rattle.std.proofs.Common.{◌-◌, length}
+use Rattle.sha256.proofs.Alike.{Alike}
 use Rattle.sha256.proofs.is_same.Given as goal
 
 abbrev pub invariant-loop-i : goal.invariant-loop-i

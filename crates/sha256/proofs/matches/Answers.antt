@@ -1,6 +1,6 @@
 -- `sha256::matches` meets its contract: the hash is compared.
 -- Assumes nothing.
-use Rattle.std.proofs.Common.{refl, ◌∙◌, ap₂, rules}
+use Rattle.std.proofs.Common.{refl, ◌∙◌, ap₂}
 use Rattle.sha256.specs.Digest.{same}
 use Rattle.sha256.proofs.matches.Goals as goal
 

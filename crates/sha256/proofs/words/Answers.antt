@@ -1,8 +1,7 @@
 -- `sha256::words` meets its contract: the loop writes the words one after the other.
 -- Assumes nothing.
-use Rattle.std.proofs.Common.{◌-◌, arith, rules}
-use Rattle.sha256.specs.Sha256.{words_of}
-use Rattle.sha256.proofs.Written.{Written, written_long}
+use Rattle.std.proofs.Common.{arith, rules}
+use Rattle.sha256.proofs.Written.{written_long}
 use Rattle.sha256.proofs.Bytes.{words_start, words_again, words_done}
 use Rattle.sha256.proofs.words.Goals as goal
 

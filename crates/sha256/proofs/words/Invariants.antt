@@ -1,7 +1,6 @@
-use Rattle.std.proofs.Common.{◌-◌, arith, rules}
+use Rattle.std.proofs.Common.{◌-◌}
 use Rattle.sha256.specs.Sha256.{words_of}
-use Rattle.sha256.proofs.Written.{Written, written_long}
-use Rattle.sha256.proofs.Bytes.{words_start, words_again, words_done}
+use Rattle.sha256.proofs.Written.{Written}
 use Rattle.sha256.proofs.words.Given as goal
 
 abbrev pub invariant-loop-i : goal.invariant-loop-i

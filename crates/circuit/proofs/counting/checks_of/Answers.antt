@@ -1,7 +1,6 @@
 -- `circuit::counting::checks_of` meets its contract: an output has two checks or one, and no other gate any.
 -- Assumes nothing.
 use mathlib.Core.Path.{sym}
-use borrow.Author.Rules.{rules}
 use borrow.Author.Tests.{ne_eqb}
 use Rattle.circuit.proofs.RoundLaws.{checks_first, checks_later, checks_valued}
 use Rattle.circuit.proofs.KindLaws.{is_class_lem}

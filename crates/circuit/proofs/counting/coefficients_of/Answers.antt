@@ -1,7 +1,6 @@
 -- `circuit::counting::coefficients_of` meets its contract: an output takes one for each entry that was unchecked and one for the shown value.
 -- Assumes nothing.
 use mathlib.Core.Path.{sym, ◌∙◌}
-use borrow.Author.Rules.{rules}
 use Rattle.circuit.proofs.RoundLaws.{coefficients_all, coefficients_valued}
 use Rattle.circuit.proofs.KindLaws.{is_class_lem}
 use Rattle.circuit.proofs.counting.coefficients_of.Goals as goal

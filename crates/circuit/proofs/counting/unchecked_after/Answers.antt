@@ -1,7 +1,6 @@
 -- `circuit::counting::unchecked_after` meets its contract: a gate with a value adds what it opens, and an output leaves nothing.
 -- Assumes nothing.
 use mathlib.Core.Path.{sym, ◌∙◌}
-use borrow.Author.Rules.{rules}
 use Rattle.circuit.proofs.Counts.{unchecked_valued, unchecked_out}
 use Rattle.circuit.specs.Code.{shape_of}
 use Rattle.circuit.proofs.counting.unchecked_after.Goals as goal

@@ -1,7 +1,6 @@
 -- `circuit::counting::words_of` meets its contract: an output has two checks or one beside its own round, a local gate no round, and any other its own round alone.
 -- Assumes nothing.
 use mathlib.Core.Path.{sym, ◌∙◌}
-use borrow.Author.Rules.{rules}
 use Rattle.circuit.proofs.RoundLaws.{words_local, words_first, words_later, words_valued}
 use Rattle.circuit.proofs.KindLaws.{is_class_lem}
 use Rattle.circuit.proofs.Verdicts.{said_yes, said_no}

@@ -1,7 +1,6 @@
 -- `circuit::rounds::coefficients_in` meets its contract: a commitment takes as many as are opened, and no other round takes any.
 -- Assumes nothing.
 use mathlib.Core.Path.{sym, ◌∙◌}
-use borrow.Author.Rules.{rules}
 use Rattle.circuit.specs.Round.{coefficients_in}
 use Rattle.circuit.proofs.rounds.coefficients_in.Goals as goal
 

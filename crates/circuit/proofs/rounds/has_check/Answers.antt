@@ -1,6 +1,5 @@
 -- `circuit::rounds::has_check` meets its contract: the first check is of something, the second there is always.
 -- Assumes nothing.
-use borrow.Author.Rules.{rules}
 use Rattle.circuit.proofs.rounds.has_check.Goals as goal
 
 pub returns-in-First : goal.returns-in-First

@@ -1,7 +1,6 @@
 -- `circuit::rounds::has_round` meets its contract: the class and, of a check, what is unchecked tell each sort of round.
 -- Assumes nothing.
 use mathlib.Core.Path.{sym, ◌∙◌}
-use borrow.Author.Rules.{rules}
 use Rattle.circuit.proofs.RoundLaws.{is_among}
 use Rattle.circuit.proofs.rounds.has_round.Goals as goal
 

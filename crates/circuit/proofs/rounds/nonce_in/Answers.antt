@@ -1,7 +1,6 @@
 -- `circuit::rounds::nonce_in` meets its contract: a commitment is handed a nonce, and no other round.
 -- Assumes nothing.
 use mathlib.Core.Path.{sym, ◌∙◌}
-use borrow.Author.Rules.{rules}
 use Rattle.circuit.specs.Round.{nonce_in}
 use Rattle.circuit.proofs.rounds.nonce_in.Goals as goal
 

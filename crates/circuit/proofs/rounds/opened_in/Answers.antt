@@ -1,6 +1,5 @@
 -- `circuit::rounds::opened_in` meets its contract: each sort of round has its line in the definition.
 -- Assumes nothing.
-use borrow.Author.Rules.{rules}
 use Rattle.circuit.proofs.rounds.opened_in.Goals as goal
 
 pub returns-in-Commit : goal.returns-in-Commit

@@ -1,6 +1,5 @@
 -- `circuit::shapes::is_give` meets its contract: its two tests are the definition's.
 -- Assumes nothing.
-use borrow.Author.Rules.{rules}
 use Rattle.circuit.proofs.shapes.is_give.Goals as goal
 
 pub returns-then-is_out : goal.returns-then-is_out

@@ -1,6 +1,5 @@
 -- `circuit::shapes::is_linear` meets its contract: its test of the number is the definition's.
 -- Assumes nothing.
-use borrow.Author.Rules.{rules}
 use Rattle.circuit.specs.Kind.{is_class}
 use Rattle.circuit.proofs.shapes.is_linear.Goals as goal
 

@@ -1,6 +1,5 @@
 -- `circuit::shapes::shape_of` meets its contract: each kind has its row in the definition.
 -- Assumes nothing.
-use borrow.Author.Rules.{rules}
 use Rattle.circuit.specs.Kind.{kind_shape}
 use Rattle.circuit.specs.Code.{shape_of}
 use Rattle.circuit.proofs.shapes.shape_of.Goals as goal

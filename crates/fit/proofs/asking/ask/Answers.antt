@@ -1,6 +1,5 @@
 -- `fit::asking::ask` meets its contract: each question that refuses is the first that does, and the last asks of the two lists.
 -- Assumes nothing.
-use borrow.Author.Rules.{rules}
 use Rattle.circuit.specs.Code.{verdict_of}
 use Rattle.fit.specs.Code.{change_of}
 use Rattle.fit.proofs.Questions.{refused_setting, setting_fits, setting_kinds, setting_ins, refused_ranges, refused_change, asked_rooms}

@@ -1,7 +1,6 @@
 -- `fit::asking::ask_change` meets its contract: without a change nothing is asked, and else whether the gate is an in gate.
 -- Assumes nothing.
 use mathlib.Core.Path.{sym, ◌∙◌}
-use borrow.Author.Rules.{rules}
 use Rattle.circuit.proofs.Verdicts.{ask_yes, ask_no}
 use Rattle.circuit.specs.Code.{verdict_of}
 use Rattle.ranges.specs.Entry.{ask_change}

@@ -1,14 +1,9 @@
 use Prim.Native.Nat.{◌-◌}
-use native.Mathlib.Omega.{arith}
-use borrow.Author.Rules.{rules}
-use borrow.Author.Tests.{eq-eqb, ne_eqb}
 use Rattle.field.specs.Words.{size}
 use Rattle.circuit.specs.Verdict.{ask}
-use Rattle.circuit.specs.Code.{verdict_of}
-use Rattle.circuit.proofs.Loops.{Asking, asking_starts, asking_goes_on, asking_refuses, asking_ends, yes_then, no_then}
+use Rattle.circuit.proofs.Loops.{Asking}
 use Rattle.ranges.specs.Interval.{interval_at}
 use Rattle.ranges.specs.Entry.{range_ok}
-use Rattle.fit.proofs.Questions.{range_yes, range_no}
 use Rattle.fit.proofs.asking.ask_ranges.Given as goal
 
 abbrev pub invariant-loop-k : goal.invariant-loop-k

@@ -1,7 +1,6 @@
 -- `fit::asking::ask_rooms` meets its contract: both lists are asked in one question.
 -- Assumes nothing.
 use mathlib.Core.Path.{sym, ◌∙◌}
-use borrow.Author.Rules.{rules}
 use borrow.Author.Tests.{le-leb, lt-leb}
 use Rattle.circuit.proofs.Tests.{both_true}
 use Rattle.circuit.proofs.Verdicts.{ask_yes, ask_no}

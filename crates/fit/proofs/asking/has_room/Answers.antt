@@ -3,7 +3,6 @@
 use Prim.Native.Nat.{ℕ}
 use mathlib.Core.Path.{ap}
 use lib.Dec.{leb}
-use borrow.Author.Rules.{rules}
 use Rattle.fit.proofs.asking.has_room.Goals as goal
 
 pub returns-in-Of : goal.returns-in-Of

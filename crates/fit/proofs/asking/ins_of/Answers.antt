@@ -1,12 +1,9 @@
 -- `fit::asking::ins_of` meets its contract: the in gates before j are counted.
 -- Assumes nothing.
-use Prim.Native.Nat.{◌-◌, ◌≤◌}
-use mathlib.Core.Path.{◌≡◌, ap, ◌∙◌}
+use mathlib.Core.Path.{ap, ◌∙◌}
 use mathlib.Core.Bool.{Bool, cond}
 use native.Mathlib.Omega.{arith}
-use borrow.Author.Rules.{rules}
 use Rattle.circuit.specs.Kind.{is_in}
-use Rattle.circuit.specs.Count.{count}
 use Rattle.fit.proofs.Questions.{tally_none, tally_more, tally_low, tally_all}
 use Rattle.fit.proofs.asking.ins_of.Goals as goal
 

@@ -1,11 +1,7 @@
 use Prim.Native.Nat.{◌-◌, ◌≤◌}
-use mathlib.Core.Path.{◌≡◌, ap, ◌∙◌}
-use mathlib.Core.Bool.{Bool, cond}
-use native.Mathlib.Omega.{arith}
-use borrow.Author.Rules.{rules}
+use mathlib.Core.Path.{◌≡◌}
 use Rattle.circuit.specs.Kind.{is_in}
 use Rattle.circuit.specs.Count.{count}
-use Rattle.fit.proofs.Questions.{tally_none, tally_more, tally_low, tally_all}
 use Rattle.fit.proofs.asking.ins_of.Given as goal
 
 abbrev pub invariant-loop-j : goal.invariant-loop-j

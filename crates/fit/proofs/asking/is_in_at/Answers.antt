@@ -1,6 +1,5 @@
 -- `fit::asking::is_in_at` meets its contract: a gate that is there is asked its class, and one that is not is no in gate.
 -- Assumes nothing.
-use borrow.Author.Rules.{rules}
 use Rattle.fit.proofs.Questions.{in_line, no_line}
 use Rattle.fit.proofs.asking.is_in_at.Goals as goal
 

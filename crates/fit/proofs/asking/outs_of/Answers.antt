@@ -1,12 +1,9 @@
 -- `fit::asking::outs_of` meets its contract: the outputs before j are counted.
 -- Assumes nothing.
-use Prim.Native.Nat.{◌-◌, ◌≤◌}
-use mathlib.Core.Path.{◌≡◌, refl, sym, ap, ◌∙◌}
+use mathlib.Core.Path.{refl, sym, ap, ◌∙◌}
 use mathlib.Core.Bool.{Bool, cond, not}
 use native.Mathlib.Omega.{arith}
-use borrow.Author.Rules.{rules}
 use Rattle.circuit.specs.Kind.{is_out}
-use Rattle.circuit.specs.Count.{count}
 use Rattle.fit.proofs.Questions.{tally_none, tally_more, tally_low, tally_all}
 use Rattle.fit.proofs.Walks.{out_said}
 use Rattle.fit.proofs.asking.outs_of.Goals as goal

@@ -1,7 +1,6 @@
 -- `fit::moving::capped` meets its contract: a move below the size stays, and any other is the largest element.
 -- Assumes nothing.
 use native.Mathlib.Omega.{arith}
-use borrow.Author.Rules.{rules}
 use Rattle.fit.proofs.Ends.{capped_low, capped_high}
 use Rattle.fit.proofs.moving.capped.Goals as goal
 

@@ -1,7 +1,6 @@
 -- `fit::moving::kind_move` meets its contract: each kind has its line in the definition.
 -- Assumes nothing.
 use native.Mathlib.Omega.{arith}
-use borrow.Author.Rules.{rules}
 use Rattle.ranges.specs.Move.{kind_move}
 use Rattle.fit.proofs.Ends.{product_low}
 use Rattle.fit.proofs.moving.kind_move.Goals as goal

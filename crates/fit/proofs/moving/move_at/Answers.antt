@@ -1,6 +1,5 @@
 -- `fit::moving::move_at` meets its contract: the numbers, intervals and moves that the gate names are found, and its kind decides.
 -- Assumes nothing.
-use borrow.Author.Rules.{rules}
 use Rattle.fit.proofs.Ends.{fair_at, move_made}
 use Rattle.fit.proofs.moving.move_at.Goals as goal
 

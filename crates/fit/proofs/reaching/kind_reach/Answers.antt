@@ -1,7 +1,6 @@
 -- `fit::reaching::kind_reach` meets its contract: each kind has its line in the definition, and ends in order stay in order.
 -- Assumes nothing.
 use mathlib.Core.Path.{refl}
-use borrow.Author.Rules.{rules}
 use borrow.Author.Tests.{lt-ltb, le-ltb}
 use Rattle.ranges.specs.Interval.{kind_reach}
 use Rattle.fit.proofs.reaching.kind_reach.Goals as goal

@@ -2,7 +2,6 @@
 -- Assumes nothing.
 use native.Mathlib.Omega.{arith}
 use native.Mathlib.Nat.{mul-le-mul}
-use borrow.Author.Rules.{rules}
 use Rattle.fit.proofs.Ends.{product_low}
 use Rattle.fit.proofs.reaching.product.Goals as goal
 

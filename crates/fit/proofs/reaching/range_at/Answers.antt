@@ -1,7 +1,6 @@
 -- `fit::reaching::range_at` meets its contract: the range is there, or past the last it is nothing.
 -- Assumes nothing.
 use native.Mathlib.Omega.{arith}
-use borrow.Author.Rules.{rules}
 use Rattle.fit.proofs.Ends.{range_none}
 use Rattle.fit.proofs.reaching.range_at.Goals as goal
 

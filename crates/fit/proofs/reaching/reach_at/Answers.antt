@@ -1,6 +1,5 @@
 -- `fit::reaching::reach_at` meets its contract: the numbers and intervals that the gate names are found, and its kind decides.
 -- Assumes nothing.
-use borrow.Author.Rules.{rules}
 use Rattle.fit.proofs.Ends.{fair_at, reach_made}
 use Rattle.fit.proofs.reaching.reach_at.Goals as goal
 

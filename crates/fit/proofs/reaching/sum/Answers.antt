@@ -1,6 +1,5 @@
 -- `fit::reaching::sum` meets its contract: sums of ends in order are in order.
 -- Assumes nothing.
-use borrow.Author.Rules.{rules}
 use Rattle.fit.proofs.reaching.sum.Goals as goal
 
 -- ?? field c.up_to.ensures at After-up_to

@@ -1,6 +1,5 @@
 -- `fit::reaching::up_to` meets its contract: ends below the size stay, and others leave.
 -- Assumes nothing.
-use borrow.Author.Rules.{rules}
 use Rattle.fit.proofs.Ends.{up_stays, up_leaves}
 use Rattle.fit.proofs.reaching.up_to.Goals as goal
 

@@ -1,6 +1,5 @@
 -- `fit::working::follow` meets its contract: the move of the gate is put, and an output's score has that of the gate that it names.
 -- Assumes nothing.
-use borrow.Author.Rules.{rules}
 use Rattle.fit.proofs.Walks.{out_said, gates_within, stepped_out, stepped_other}
 use Rattle.fit.proofs.working.follow.Goals as goal
 

@@ -1,7 +1,6 @@
 -- `fit::working::put_interval` meets its contract: two numbers are put, the lowest first.
 -- Assumes nothing.
 use mathlib.Core.Path.{refl}
-use borrow.Author.Rules.{rules}
 use Rattle.fit.proofs.working.put_interval.Goals as goal
 
 pub returns : goal.returns

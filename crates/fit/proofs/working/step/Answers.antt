@@ -1,6 +1,5 @@
 -- `fit::working::step` meets its contract: without a change nothing is kept.
 -- Assumes nothing.
-use borrow.Author.Rules.{rules}
 use Rattle.fit.proofs.Walks.{stepped_nothing}
 use Rattle.fit.proofs.working.step.Goals as goal
 

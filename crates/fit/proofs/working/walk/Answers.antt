@@ -1,14 +1,12 @@
 -- `fit::working::walk` meets its contract: the gates before j stay, and their intervals and moves stand in the lists.
 -- Assumes nothing.
-use Prim.Native.Nat.{◌-◌}
-use mathlib.Core.Path.{◌≡◌, refl}
+use mathlib.Core.Path.{refl}
 use native.Mathlib.Omega.{arith}
-use borrow.Author.Rules.{rules}
 use Rattle.circuit.specs.Gate.{gates}
 use Rattle.circuit.specs.Kind.{is_in}
 use Rattle.circuit.proofs.Counts.{bit_le, count_le}
-use Rattle.fit.specs.Code.{change_of, found_of}
-use Rattle.fit.proofs.Walks.{Course, course_starts, course_gate, course_range, course_named, course_leaves, course_more, course_ends, course_lists}
+use Rattle.fit.specs.Code.{found_of}
+use Rattle.fit.proofs.Walks.{course_starts, course_gate, course_range, course_named, course_leaves, course_more, course_ends, course_lists}
 use mathlib.Core.Path.{ap, ◌∙◌}
 use mathlib.Core.Bool.{Bool, cond}
 use Rattle.fit.proofs.working.walk.Goals as goal

@@ -1,6 +1,5 @@
 -- `gates::asking::accept` meets its contract: where the pass says yes all gates are valid, and the questions are asked with that known.
 -- Assumes nothing.
-use borrow.Author.Rules.{rules}
 use Rattle.gates.proofs.asking.accept.Goals as goal
 
 pub ask_all-requires : goal.ask_all-requires

@@ -1,7 +1,6 @@
 -- `gates::asking::ask_gates` meets its contract: gates that are all valid are accepted, and otherwise the scan answers.
 -- Assumes nothing.
 use mathlib.Core.Path.{sym}
-use borrow.Author.Rules.{rules}
 use Rattle.circuit.specs.Code.{verdict_of}
 use Rattle.circuit.proofs.Verdicts.{each_all}
 use Rattle.circuit.proofs.Valid.{gate_accepted}

@@ -4,7 +4,6 @@ use mathlib.Core.Path.{refl}
 use native.Mathlib.Omega.{arith}
 use Rattle.circuit.specs.Gate.{gates}
 use Rattle.gates.specs.Code.{survey_of}
-use borrow.Author.Rules.{rules}
 use Rattle.gates.proofs.asking.counted.Goals as goal
 
 pub tally_between-here-requires : goal.tally_between-here-requires

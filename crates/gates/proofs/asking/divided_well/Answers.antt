@@ -1,7 +1,6 @@
 -- `gates::asking::divided_well` meets its contract: the constant is asked as a divisor, and the other two numbers by their roles.
 -- Assumes nothing.
 use mathlib.Core.Path.{◌∙◌}
-use borrow.Author.Rules.{rules}
 use Rattle.circuit.proofs.Tests.{false_no}
 use Rattle.circuit.specs.Code.{role_of}
 use Rattle.gates.proofs.Well.{divisor_fits}

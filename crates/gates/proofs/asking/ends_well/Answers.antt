@@ -1,7 +1,6 @@
 -- `gates::asking::ends_well` meets its contract: the first number is asked by its role, and the constant where its role is told.
 -- Assumes nothing.
 use native.Mathlib.Omega.{arith}
-use borrow.Author.Rules.{rules}
 use Rattle.circuit.proofs.Tests.{false_no}
 use Rattle.gates.proofs.asking.ends_well.Goals as goal
 

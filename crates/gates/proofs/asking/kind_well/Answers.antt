@@ -1,7 +1,6 @@
 -- `gates::asking::kind_well` meets its contract: an out gate is asked, and a number that does not count as out is a kind.
 -- Assumes nothing.
 use mathlib.Core.Path.{sym}
-use borrow.Author.Rules.{rules}
 use Rattle.gates.proofs.Well.{not_out}
 use Rattle.gates.proofs.asking.kind_well.Goals as goal
 

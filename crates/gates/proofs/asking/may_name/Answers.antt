@@ -3,7 +3,6 @@
 use mathlib.Core.Path.{◌∙◌}
 use native.Mathlib.Nat.{add-zero}
 use borrow.Author.Tests.{lt-ltb}
-use borrow.Author.Rules.{rules}
 use Rattle.circuit.specs.Gate.{gate, entry}
 use Rattle.circuit.specs.Accept.{may_name}
 use Rattle.circuit.proofs.Tests.{tests}

@@ -1,6 +1,5 @@
 -- `gates::asking::name_ok` meets its contract: what a number is for has its line in the definition.
 -- Assumes nothing.
-use borrow.Author.Rules.{rules}
 use Rattle.circuit.specs.Accept.{name_ok}
 use Rattle.gates.proofs.asking.name_ok.Goals as goal
 

@@ -1,7 +1,6 @@
 -- `gates::asking::number_well` meets its contract: what a number is for has its line in the definition.
 -- Assumes nothing.
 use mathlib.Core.Path.{sym, ◌∙◌}
-use borrow.Author.Rules.{rules}
 use borrow.Author.Tests.{eqb-true, ltb-true}
 use Rattle.circuit.proofs.Tests.{false_no}
 use Rattle.circuit.proofs.Valid.{ref}

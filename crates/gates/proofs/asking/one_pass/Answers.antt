@@ -2,7 +2,6 @@
 -- Assumes nothing.
 use mathlib.Core.Path.{sym, ◌∙◌}
 use native.Mathlib.Omega.{arith}
-use borrow.Author.Rules.{rules}
 use Rattle.circuit.specs.Gate.{gates}
 use Rattle.circuit.proofs.Tests.{false_no}
 use Rattle.gates.proofs.Weights.{weight_none}

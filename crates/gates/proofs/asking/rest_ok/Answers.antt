@@ -1,6 +1,5 @@
 -- `gates::asking::rest_ok` meets its contract: what a number is for has its line in the definition.
 -- Assumes nothing.
-use borrow.Author.Rules.{rules}
 use Rattle.circuit.proofs.Tests.{pos_ltb}
 use Rattle.circuit.specs.Accept.{rest_ok}
 use Rattle.gates.proofs.asking.rest_ok.Goals as goal

@@ -1,14 +1,11 @@
 -- `gates::asking::scan` meets its contract: at each gate before j no question is refused, of the numbers of gate j so far no name is, and then no
 -- rest; a refusal left from inside is the first of its gate and so of all gates.
 -- Assumes nothing.
-use Prim.Native.Nat.{◌≤◌, ◌-◌}
-use mathlib.Core.Path.{◌≡◌, sym}
+use mathlib.Core.Path.{sym}
 use borrow.Author.Rules.{rules}
-use Rattle.circuit.specs.Verdict.{Accepted, each}
-use Rattle.circuit.specs.Accept.{ask_name, ask_rest, ask_gate}
 use Rattle.circuit.specs.Code.{verdict_of}
 use Rattle.circuit.proofs.Verdicts.{each_below, each_none, each_more, each_refused, each_done}
-use Rattle.circuit.proofs.Asking.{Numbers, numbers_start, numbers_more, name_yes, name_no, rest_yes, rest_no, gate_kind, gate_name, gate_rest, gate_ok}
+use Rattle.circuit.proofs.Asking.{numbers_start, numbers_more, name_yes, name_no, rest_yes, rest_no, gate_kind, gate_name, gate_rest, gate_ok}
 use Rattle.circuit.proofs.Valid.{is_kind_lem}
 use Rattle.gates.proofs.asking.scan.Goals as goal
 

@@ -1,12 +1,8 @@
 use Prim.Native.Nat.{◌≤◌, ◌-◌}
-use mathlib.Core.Path.{◌≡◌, sym}
-use borrow.Author.Rules.{rules}
+use mathlib.Core.Path.{◌≡◌}
 use Rattle.circuit.specs.Verdict.{Accepted, each}
 use Rattle.circuit.specs.Accept.{ask_name, ask_rest, ask_gate}
-use Rattle.circuit.specs.Code.{verdict_of}
-use Rattle.circuit.proofs.Verdicts.{each_below, each_none, each_more, each_refused, each_done}
-use Rattle.circuit.proofs.Asking.{Numbers, numbers_start, numbers_more, name_yes, name_no, rest_yes, rest_no, gate_kind, gate_name, gate_rest, gate_ok}
-use Rattle.circuit.proofs.Valid.{is_kind_lem}
+use Rattle.circuit.proofs.Asking.{Numbers}
 use Rattle.gates.proofs.asking.scan.Given as goal
 
 abbrev pub invariant-loop-k : goal.invariant-loop-k

@@ -1,7 +1,6 @@
 -- `gates::asking::survey` meets its contract: the questions are asked as in `accept`, and of an accepted circuit the pass has counted or else the counts are made.
 -- Assumes nothing.
 use mathlib.Core.Path.{sym, ◌∙◌}
-use borrow.Author.Rules.{rules}
 use Rattle.circuit.specs.Code.{verdict_of}
 use Rattle.circuit.proofs.Valid.{valid}
 use Rattle.gates.specs.Code.{survey_of}

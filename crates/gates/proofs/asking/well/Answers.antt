@@ -1,13 +1,9 @@
 -- `gates::asking::well` meets its contract: the gates before j are valid, and the sum is their weight.
 -- Assumes nothing.
-use Prim.Native.Nat.{ℕ, ◌-◌, ◌<◌, ◌≤◌}
 use mathlib.Core.Path.{◌≡◌, refl}
 use native.Mathlib.Omega.{arith}
-use borrow.Author.Rules.{rules}
 use borrow.Author.Count.{below_more}
-use Rattle.circuit.specs.Valid.{ValidGate}
 use Rattle.circuit.proofs.Valid.{is_kind_lem, gate_accepted}
-use Rattle.gates.specs.Weight.{weight_before}
 use Rattle.gates.proofs.Weights.{weight_more, weight_room_lem}
 use Rattle.gates.proofs.asking.well.Goals as goal
 

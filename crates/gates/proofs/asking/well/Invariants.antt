@@ -1,12 +1,7 @@
 use Prim.Native.Nat.{ℕ, ◌-◌, ◌<◌, ◌≤◌}
-use mathlib.Core.Path.{◌≡◌, refl}
-use native.Mathlib.Omega.{arith}
-use borrow.Author.Rules.{rules}
-use borrow.Author.Count.{below_more}
+use mathlib.Core.Path.{◌≡◌}
 use Rattle.circuit.specs.Valid.{ValidGate}
-use Rattle.circuit.proofs.Valid.{is_kind_lem, gate_accepted}
 use Rattle.gates.specs.Weight.{weight_before}
-use Rattle.gates.proofs.Weights.{weight_more, weight_room_lem}
 use Rattle.gates.proofs.asking.well.Given as goal
 
 abbrev pub invariant-loop-j : goal.invariant-loop-j

@@ -1,10 +1,7 @@
 -- `gates::counting::tally_between` meets its contract: after each turn the count is that of the gates before j.
 -- Assumes nothing.
-use Prim.Native.Nat.{◌≤◌, ◌-◌}
 use mathlib.Core.Path.{◌≡◌}
 use native.Mathlib.Omega.{arith}
-use borrow.Author.Rules.{rules}
-use Rattle.circuit.specs.Code.{Tallied}
 use Rattle.gates.proofs.counting.tally_between.Goals as goal
 
 pub returns : goal.returns

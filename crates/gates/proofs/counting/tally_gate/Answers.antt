@@ -3,7 +3,6 @@
 use mathlib.Core.Path.{ap}
 use native.Mathlib.Omega.{arith}
 use lib.Dec.{eqb}
-use borrow.Author.Rules.{rules}
 use Rattle.circuit.specs.Code.{class_of}
 use Rattle.circuit.proofs.Tallies.{tally_low, tally_local, tally_owned, tally_opens, tally_output}
 use Rattle.circuit.proofs.Counts.{bit_le}

@@ -1,6 +1,5 @@
 -- `gates::counting::tally_of` meets its contract: the counts of which a weight is made are taken apart.
 -- Assumes nothing.
-use borrow.Author.Rules.{rules}
 use Rattle.gates.proofs.Weights.{weight_tallied}
 use Rattle.gates.proofs.counting.tally_of.Goals as goal
 

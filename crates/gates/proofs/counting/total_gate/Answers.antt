@@ -3,7 +3,6 @@
 -- Assumes nothing.
 use mathlib.Core.Path.{sym, ◌∙◌}
 use native.Mathlib.Omega.{arith}
-use borrow.Author.Rules.{rules}
 use Rattle.circuit.proofs.Tallies.{totals_low, totals_kept, totals_more}
 use Rattle.circuit.proofs.RoundLaws.{words_le, coefficients_class_le, checks_le}
 use Rattle.circuit.proofs.Counts.{bit_le, unchecked_few}

@@ -1,12 +1,10 @@
 -- `gates::counting::totals_before` meets its contract: after each turn the totals are those of the gates before j, and so is what waits for a check.
 -- Assumes nothing.
-use Prim.Native.Nat.{◌≤◌, ◌-◌}
 use mathlib.Core.Path.{◌≡◌, refl, sym, ◌∙◌}
 use native.Mathlib.Omega.{arith}
 use borrow.Author.Rules.{rules}
 use Rattle.circuit.specs.Round.{over_run}
 use Rattle.circuit.specs.Count.{total, count, prep_at, unchecked}
-use Rattle.circuit.specs.Code.{Totalled}
 use Rattle.circuit.proofs.Counts.{unchecked_few, unchecked_more}
 use Rattle.circuit.proofs.KindLaws.{shape_small}
 use Rattle.gates.proofs.counting.totals_before.Goals as goal

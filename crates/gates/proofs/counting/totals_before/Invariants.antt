@@ -1,12 +1,7 @@
 use Prim.Native.Nat.{◌≤◌, ◌-◌}
-use mathlib.Core.Path.{◌≡◌, refl, sym, ◌∙◌}
-use native.Mathlib.Omega.{arith}
-use borrow.Author.Rules.{rules}
-use Rattle.circuit.specs.Round.{over_run}
-use Rattle.circuit.specs.Count.{total, count, prep_at, unchecked}
+use mathlib.Core.Path.{◌≡◌}
+use Rattle.circuit.specs.Count.{unchecked}
 use Rattle.circuit.specs.Code.{Totalled}
-use Rattle.circuit.proofs.Counts.{unchecked_few, unchecked_more}
-use Rattle.circuit.proofs.KindLaws.{shape_small}
 use Rattle.gates.proofs.counting.totals_before.Given as goal
 
 abbrev pub invariant-loop-j : goal.invariant-loop-j

@@ -1,10 +1,7 @@
 -- `gates::counting::unchecked_before` meets its contract: the gates passed on the way back are no outputs, and what they open is counted; at an output or at the start nothing is unchecked.
 -- Assumes nothing.
-use Prim.Native.Nat.{◌+◌, ◌≤◌}
-use mathlib.Core.Path.{◌≡◌, sym, ap, ◌∙◌}
+use mathlib.Core.Path.{sym, ap, ◌∙◌}
 use native.Mathlib.Omega.{arith}
-use borrow.Author.Rules.{rules}
-use Rattle.circuit.specs.Count.{unchecked}
 use Rattle.circuit.specs.Kind.{Output, is_class}
 use Rattle.circuit.proofs.Counts.{unchecked_few}
 use Rattle.circuit.proofs.KindLaws.{shape_class, shape_openings, shape_small}

@@ -1,12 +1,6 @@
 use Prim.Native.Nat.{◌+◌, ◌≤◌}
-use mathlib.Core.Path.{◌≡◌, sym, ap, ◌∙◌}
-use native.Mathlib.Omega.{arith}
-use borrow.Author.Rules.{rules}
+use mathlib.Core.Path.{◌≡◌}
 use Rattle.circuit.specs.Count.{unchecked}
-use Rattle.circuit.specs.Kind.{Output, is_class}
-use Rattle.circuit.proofs.Counts.{unchecked_few}
-use Rattle.circuit.proofs.KindLaws.{shape_class, shape_openings, shape_small}
-use Rattle.gates.proofs.Weights.{unchecked_back, unchecked_back_out, unchecked_none}
 use Rattle.gates.proofs.counting.unchecked_before.Given as goal
 
 abbrev pub invariant-loop-i : goal.invariant-loop-i

@@ -2,7 +2,6 @@
 -- Assumes nothing.
 use mathlib.Core.Path.{sym, ap, ◌∙◌}
 use native.Mathlib.Omega.{arith}
-use borrow.Author.Rules.{rules}
 use Rattle.circuit.specs.Kind.{Owned, is_class}
 use Rattle.circuit.proofs.KindLaws.{shape_class, shape_prep, shape_openings, shape_small}
 use Rattle.gates.proofs.Weights.{weight_mine, weight_others, weight_other}

@@ -1,6 +1,5 @@
 -- `gates::reading::class_at` meets its contract: the shape tells the class.
 -- Assumes nothing.
-use borrow.Author.Rules.{rules}
 use Rattle.circuit.proofs.KindLaws.{shape_class}
 use Rattle.gates.proofs.reading.class_at.Goals as goal
 

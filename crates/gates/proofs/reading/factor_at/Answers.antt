@@ -2,7 +2,6 @@
 -- Assumes nothing.
 use borrow.Author.Tests.{eq-eqb, ne_eqb}
 use mathlib.Core.Path.{sym}
-use borrow.Author.Rules.{rules}
 use Rattle.circuit.specs.Kind.{factor}
 use Rattle.gates.proofs.reading.factor_at.Goals as goal
 

@@ -1,6 +1,5 @@
 -- `gates::reading::first_at` meets its contract: it is the second of a gate's four numbers.
 -- Assumes nothing.
-use borrow.Author.Rules.{rules}
 use Rattle.circuit.specs.Gate.{entry, gate}
 use Rattle.gates.proofs.reading.first_at.Goals as goal
 

@@ -2,7 +2,6 @@
 -- Assumes nothing.
 use mathlib.Core.Path.{◌∙◌}
 use native.Mathlib.Nat.{add-zero}
-use borrow.Author.Rules.{rules}
 use Rattle.circuit.specs.Gate.{gate, entry}
 use Rattle.gates.proofs.reading.has_value_at.Goals as goal
 

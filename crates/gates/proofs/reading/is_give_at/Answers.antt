@@ -1,6 +1,5 @@
 -- `gates::reading::is_give_at` meets its contract: the shape tells it.
 -- Assumes nothing.
-use borrow.Author.Rules.{rules}
 use Rattle.circuit.proofs.KindLaws.{shape_gives}
 use Rattle.gates.proofs.reading.is_give_at.Goals as goal
 

@@ -3,7 +3,6 @@
 use Prim.Native.Nat.{ℕ}
 use mathlib.Core.Path.{ap, ◌∙◌}
 use native.Mathlib.Nat.{add-zero}
-use borrow.Author.Rules.{rules}
 use Rattle.circuit.specs.Gate.{decode, entry, gate}
 use Rattle.circuit.specs.Kind.{Owned, kind_shape, is_class}
 use Rattle.gates.proofs.reading.is_input_at.Goals as goal

@@ -1,6 +1,5 @@
 -- `gates::reading::is_seen_by` meets its contract: of a give the receiver is asked, and an out is for all.
 -- Assumes nothing.
-use borrow.Author.Rules.{rules}
 use Rattle.circuit.specs.Kind.{seen_by}
 use Rattle.gates.proofs.reading.is_seen_by.Goals as goal
 

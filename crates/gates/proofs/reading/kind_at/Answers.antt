@@ -2,7 +2,6 @@
 -- Assumes nothing.
 use native.Mathlib.Nat.{add-zero}
 use mathlib.Core.Path.{ap, ◌∙◌}
-use borrow.Author.Rules.{rules}
 use Rattle.circuit.specs.Gate.{entry, gate}
 use Rattle.circuit.specs.Gate.{decode}
 use Rattle.gates.proofs.reading.kind_at.Goals as goal

@@ -1,7 +1,6 @@
 -- `gates::reading::receiver_at` meets its contract: a give names its receiver, and an out none.
 -- Assumes nothing.
 use mathlib.Core.Path.{◌∙◌}
-use borrow.Author.Rules.{rules}
 use Rattle.circuit.specs.Kind.{receiver}
 use Rattle.gates.proofs.reading.receiver_at.Goals as goal
 

@@ -1,6 +1,5 @@
 -- `gates::reading::shape_at` meets its contract: the kind tells the shape.
 -- Assumes nothing.
-use borrow.Author.Rules.{rules}
 use mathlib.Core.Path.{ap, ◌∙◌}
 use Rattle.circuit.specs.Kind.{kind_shape}
 use Rattle.gates.proofs.reading.shape_at.Goals as goal

@@ -2,7 +2,6 @@
 -- Assumes nothing.
 use mathlib.Core.Path.{◌∙◌}
 use native.Mathlib.Omega.{arith}
-use borrow.Author.Rules.{rules}
 use Rattle.circuit.specs.Code.{verdict_of}
 use Rattle.circuit.proofs.Loops.{call_then, refused_then}
 use Rattle.joint.proofs.Measures.{preps_few, sizes_few, ins_are, outs_are, words_are, words_few, coefficients_are, checks_are, checks_few}

@@ -1,7 +1,6 @@
 -- `joint::asking::ask_rooms` meets its contract. Each return follows from the answers so far.
 -- Assumes nothing.
 use mathlib.Core.Path.{sym}
-use borrow.Author.Rules.{rules}
 use borrow.Author.Tests.{eq-eqb, ne_eqb, le-leb, lt-leb}
 use Rattle.circuit.proofs.Verdicts.{ask_yes, ask_no}
 use Rattle.circuit.proofs.Tests.{both_true}

@@ -1,6 +1,5 @@
 -- `joint::framing::count_input` meets its contract.
 -- Assumes nothing.
-use borrow.Author.Rules.{rules}
 use mathlib.Core.Path.{sym, ap, ◌∙◌}
 use native.Mathlib.Omega.{arith}
 use Rattle.circuit.specs.Kind.{Owned, is_class}

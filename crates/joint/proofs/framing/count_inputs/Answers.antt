@@ -1,9 +1,7 @@
 -- `joint::framing::count_inputs` meets its contract. The loop's invariant: the inputs before gate j are counted. The measure is the number of gates left.
 -- Assumes nothing.
-use Prim.Native.Nat.{◌-◌, ◌≤◌}
 use mathlib.Core.Path.{sym}
 use native.Mathlib.Omega.{arith}
-use Rattle.joint.specs.Code.{Counted}
 use Rattle.joint.proofs.Arrays.{counted_none, counted_small, counted_on, counted_upto}
 use Rattle.joint.proofs.framing.count_inputs.Goals as goal
 

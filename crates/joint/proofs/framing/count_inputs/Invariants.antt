@@ -1,8 +1,5 @@
 use Prim.Native.Nat.{◌-◌, ◌≤◌}
-use mathlib.Core.Path.{sym}
-use native.Mathlib.Omega.{arith}
 use Rattle.joint.specs.Code.{Counted}
-use Rattle.joint.proofs.Arrays.{counted_none, counted_small, counted_on, counted_upto}
 use Rattle.joint.proofs.framing.count_inputs.Given as goal
 
 abbrev pub invariant-loop-j : goal.invariant-loop-j

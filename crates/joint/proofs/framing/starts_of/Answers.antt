@@ -1,9 +1,8 @@
 -- `joint::framing::starts_of` meets its contract. The loop's invariant: the starts of the parties before i are there. The measure is the number of parties left.
 -- Assumes nothing.
-use Prim.Native.Nat.{◌-◌}
 use mathlib.Core.Path.{refl}
 use native.Mathlib.Omega.{arith}
-use Rattle.joint.proofs.Arrays.{Starting, starting, starting_small, starting_again, starting_done}
+use Rattle.joint.proofs.Arrays.{starting, starting_small, starting_again, starting_done}
 use Rattle.joint.proofs.framing.starts_of.Goals as goal
 
 pub count_inputs-counts-requires : goal.count_inputs-counts-requires

@@ -1,7 +1,5 @@
 use Prim.Native.Nat.{◌-◌}
-use mathlib.Core.Path.{refl}
-use native.Mathlib.Omega.{arith}
-use Rattle.joint.proofs.Arrays.{Starting, starting, starting_small, starting_again, starting_done}
+use Rattle.joint.proofs.Arrays.{Starting}
 use Rattle.joint.proofs.framing.starts_of.Given as goal
 
 abbrev pub invariant-loop-i : goal.invariant-loop-i

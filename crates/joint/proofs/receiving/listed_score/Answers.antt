@@ -2,7 +2,6 @@
 -- Assumes nothing.
 use Prim.Native.Nat.{ℕ, ◌<◌}
 use mathlib.Core.Path.{◌≡◌, ◌∙◌}
-use borrow.Author.Rules.{rules}
 use native.Mathlib.Omega.{arith}
 use Rattle.joint.proofs.Cutting.{prep_end, cut_is, cut_low, mask_cut, band_fits, band_is, band_room}
 use Rattle.joint.proofs.receiving.listed_score.Goals as goal

@@ -1,8 +1,6 @@
 use Prim.Native.Nat.{◌-◌}
-use native.Mathlib.Omega.{arith}
-use Rattle.protocol.proofs.Filling.{Filled, filled_start, filled_length, filled_fits, filled_part, filled_again, filled_done}
-use Rattle.joint.proofs.Cutting.{prep_end, cut_is, cut_long, cut_low, key_there, key_is, band_room}
-use Rattle.joint.proofs.ReceiveTurns.{input_left, input_each}
+use Rattle.protocol.proofs.Filling.{Filled}
+use Rattle.joint.proofs.ReceiveTurns.{input_left}
 use Rattle.joint.proofs.receiving.receive_inputs.Given as goal
 
 abbrev pub invariant-loop-i : goal.invariant-loop-i

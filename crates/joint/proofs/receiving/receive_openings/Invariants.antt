@@ -1,8 +1,6 @@
 use Prim.Native.Nat.{◌-◌}
-use native.Mathlib.Omega.{arith}
-use Rattle.protocol.proofs.Filling.{Filled, filled_start, filled_length, filled_fits, filled_part, filled_again, filled_done}
-use Rattle.joint.proofs.Cutting.{prep_end, cut_is, key_there, key_is}
-use Rattle.joint.proofs.ReceiveTurns.{opening_left, opening_each}
+use Rattle.protocol.proofs.Filling.{Filled}
+use Rattle.joint.proofs.ReceiveTurns.{opening_left}
 use Rattle.joint.proofs.receiving.receive_openings.Given as goal
 
 abbrev pub invariant-loop-i : goal.invariant-loop-i

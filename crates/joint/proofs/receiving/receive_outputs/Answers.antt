@@ -1,10 +1,9 @@
 -- `joint::receiving::receive_outputs` meets its contract. The loop's invariant: the bands of the parties before i are done, and the others are as they were. The measure is the number of parties left.
 -- Assumes nothing.
-use Prim.Native.Nat.{◌-◌}
 use native.Mathlib.Omega.{arith}
-use Rattle.protocol.proofs.Filling.{Filled, filled_start, filled_length, filled_fits, filled_part, filled_again, filled_done}
+use Rattle.protocol.proofs.Filling.{filled_start, filled_length, filled_fits, filled_part, filled_again, filled_done}
 use Rattle.joint.proofs.Cutting.{prep_end, cut_is, cut_low, mask_cut, band_room}
-use Rattle.joint.proofs.ReceiveTurns.{output_left, output_each}
+use Rattle.joint.proofs.ReceiveTurns.{output_each}
 use Rattle.joint.proofs.receiving.receive_outputs.Goals as goal
 
 pub loop-i-init : goal.loop-i-init

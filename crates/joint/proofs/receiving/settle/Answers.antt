@@ -1,15 +1,13 @@
 -- `joint::receiving::settle` meets its contract. The loop's invariant: what is left to do of each party's band from gate j on is what was left from the first gate on. The measure is the number of gates left.
 -- Assumes nothing.
-use Prim.Native.Nat.{◌-◌}
 use mathlib.Core.Path.{sym, ap, ◌∙◌}
 use native.Mathlib.Omega.{arith}
-use borrow.Author.Rules.{rules}
 use borrow.Author.Tests.{not-true, not-false}
 use Rattle.circuit.specs.Gate.{Kind}
 use Rattle.circuit.specs.Kind.{Local, kind_shape, is_class}
 use Rattle.circuit.proofs.KindLaws.{shape_class, shape_constant}
 use Rattle.circuit.proofs.Gates.{gate_from}
-use Rattle.joint.proofs.ReceiveTurns.{SettlingAll, all_start, all_there, all_low, all_stop, all_reads, all_again, all_done, all_settled}
+use Rattle.joint.proofs.ReceiveTurns.{all_start, all_there, all_low, all_stop, all_reads, all_again, all_done, all_settled}
 use Rattle.joint.proofs.receiving.settle.Goals as goal
 
 pub loop-j-init : goal.loop-j-init

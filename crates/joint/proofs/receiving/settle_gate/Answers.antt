@@ -1,12 +1,11 @@
 -- `joint::receiving::settle_gate` meets its contract. The loop's invariant: the bands of the parties before i are done, and the others are as they were. The measure is the number of parties left.
 -- Assumes nothing.
-use Prim.Native.Nat.{◌-◌}
 use native.Mathlib.Omega.{arith}
-use Rattle.protocol.proofs.Filling.{Filled, filled_start, filled_length, filled_fits, filled_part, filled_again, filled_done}
+use Rattle.protocol.proofs.Filling.{filled_start, filled_length, filled_fits, filled_part, filled_again, filled_done}
 use Rattle.circuit.specs.Gate.{gate_of}
 use Rattle.circuit.specs.Code.{kind_of}
 use Rattle.joint.proofs.Cutting.{prep_end, key_there, key_is, band_room}
-use Rattle.joint.proofs.ReceiveTurns.{linear_left, linear_each}
+use Rattle.joint.proofs.ReceiveTurns.{linear_each}
 use Rattle.joint.proofs.receiving.settle_gate.Goals as goal
 
 pub loop-i-init : goal.loop-i-init

@@ -1,10 +1,8 @@
 use Prim.Native.Nat.{◌-◌}
-use native.Mathlib.Omega.{arith}
-use Rattle.protocol.proofs.Filling.{Filled, filled_start, filled_length, filled_fits, filled_part, filled_again, filled_done}
+use Rattle.protocol.proofs.Filling.{Filled}
 use Rattle.circuit.specs.Gate.{gate_of}
 use Rattle.circuit.specs.Code.{kind_of}
-use Rattle.joint.proofs.Cutting.{prep_end, key_there, key_is, band_room}
-use Rattle.joint.proofs.ReceiveTurns.{linear_left, linear_each}
+use Rattle.joint.proofs.ReceiveTurns.{linear_left}
 use Rattle.joint.proofs.receiving.settle_gate.Given as goal
 
 abbrev pub invariant-loop-i : goal.invariant-loop-i

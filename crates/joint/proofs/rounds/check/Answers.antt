@@ -1,9 +1,8 @@
 -- `joint::rounds::check` meets its contract: each party's nonce is noted, the marks are put and received, and then what is revealed is put and summed.
 -- Assumes nothing.
-use mathlib.Core.Path.{refl, sym}
-use borrow.Author.Rules.{rules}
+use mathlib.Core.Path.{refl}
 use native.Mathlib.Omega.{arith}
-use Rattle.joint.proofs.Checking.{held_room, begun_few, nonces_end, nonces_cut, words_end, noted_banded, held_count, held_enough, marked_long, heard_long, reveal_room, marked_banded, revealed_long, reveals_sum, checked, checked_scratch}
+use Rattle.joint.proofs.Checking.{held_room, begun_few, nonces_end, nonces_cut, words_end, noted_banded, held_enough, marked_long, heard_long, reveal_room, marked_banded, revealed_long, reveals_sum, checked}
 use Rattle.joint.proofs.Rounding.{part_long}
 use Rattle.joint.proofs.rounds.check.Goals as goal
 

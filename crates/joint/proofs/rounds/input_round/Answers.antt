@@ -1,6 +1,5 @@
 -- `joint::rounds::input_round` meets its contract: the words are put into the transcript, and the owner's is received by all.
 -- Assumes nothing.
-use borrow.Author.Rules.{rules}
 use mathlib.Core.Path.{refl}
 use native.Mathlib.Omega.{arith}
 use Rattle.joint.proofs.Rounding.{round_gate}
@@ -72,8 +71,7 @@ overflow_add-result-3 c =
     omega (arith, c.well_formed, next_small c.requires.0 c.args.g c.requires.1, c.requires.0.rounds_few, c.requires.0.going.lent.valid.few, (input_asked c.requires.0 c.requires.2 c.args.g c.requires.1 c.first_at-x.ensures c.requires.4 c.input_words.ensures c.heard_first-e.ensures).2)
 
 pub returns : goal.returns
-returns c =
-    (
+returns c = (
   input_moved c.requires.0 c.requires.2 c.args.g c.requires.1 c.first_at-x.ensures c.requires.4 c.input_words.ensures c.heard_first-e.ensures c.receive_inputs.ensures refl refl refl refl refl refl,
   record { used = refl; released = refl },
   record { gate = refl; waiting = input_waits c.requires.0 c.requires.2 c.args.g c.requires.1 c.first_at-x.ensures c.requires.4 c.requires.3 },

@@ -1,10 +1,9 @@
 -- `joint::rounds::opening_round` meets its contract: the words are put into the transcript and summed, and what they come to is received by all.
 -- Assumes nothing.
-use borrow.Author.Rules.{rules}
 use mathlib.Core.Path.{refl}
 use native.Mathlib.Omega.{arith}
 use Rattle.joint.proofs.Rounding.{round_gate}
-use Rattle.joint.proofs.Turns.{next_small, opening_few, opening_end, opening_gate, opening_waits, opening_sends, opening_long, opening_asked, opening_settled, opening_moved}
+use Rattle.joint.proofs.Turns.{next_small, opening_few, opening_end, opening_gate, opening_waits, opening_sends, opening_asked, opening_settled, opening_moved}
 use Rattle.joint.proofs.rounds.opening_round.Goals as goal
 
 pub overflow_mul-end : goal.overflow_mul-end
@@ -59,8 +58,7 @@ overflow_add-result-4 c =
 -- same-length-2 c = opening_long c.before.before.before.before.before.before.before.before.before.before.before.before.before.before.before.before.before.before.before.before.before.before.before.requires.0 c.before.before.before.before.before.before.before.before.before.before.before.before.before.before.before.before.before.before.before.before.before.before.before.args.g c.before.before.before.before.before.before.before.before.before.before.before.before.before.before.before.before.before.before.before.before.before.before.before.requires.1 c.before.before.before.before.before.before.before.before.before.before.before.before.before.before.before.before.before.before.before.before.before.before.before.requires.2 c.before.before.before.before.before.before.before.before.before.before.before.before.before.before.before.before.before.before.before.before.before.before.before.requires.3 c.before.before.before.before.before.before.before.before.before.before.before.before.before.before.first-at.ensures c.before.before.before.before.before.before.before.before.before.before.before.before.before.factor-at.ensures c.before.before.before.before.before.before.before.before.before.before.opening_words.ensures.0
 
 pub returns : goal.returns
-returns c =
-    (
+returns c = (
   opening_moved c.requires.0 c.args.g c.requires.1 c.requires.2 c.requires.3 c.first_at-x.ensures c.factor_at-z.ensures c.opening_words-sums.ensures.out c.opening_words-sums.ensures.sums.0 c.opening_words-sums.ensures.sums.1 c.receive_openings.ensures refl refl refl refl refl refl,
   record { used = refl; released = refl },
   record { gate = refl; waiting = opening_waits c.requires.0 c.args.g c.requires.1 c.requires.2 c.requires.3 },

@@ -1,21 +1,15 @@
 -- `joint::rounds::run` meets its contract. The loop's invariant: once the linear gates that come next are done, the run has come to a gate, and what is written so far and the run that remains make up the whole run. The measure is the number of rounds that may still be made.
 -- Assumes nothing.
-use Prim.Native.Nat.{◌-◌, ◌*◌}
 use mathlib.Core.Path.{refl, sym, ap, ◌∙◌}
 use native.Mathlib.Omega.{arith}
-use borrow.Author.Rules.{rules}
-use Rattle.field.specs.Words.{ops}
-use Rattle.circuit.specs.Gate.{gates}
 use Rattle.circuit.specs.Kind.{Owned, Opens, is_class}
 use Rattle.circuit.proofs.KindLaws.{is_class_lem, owned_no_out, opens_no_out, shape_class, shape_prep, shape_gives}
-use Rattle.protocol.specs.Run.{most_rounds}
 use Rattle.protocol.specs.Code.{blame_of}
 use Rattle.protocol.specs.JointEntry.{ended}
-use Rattle.joint.specs.Code.{joint_of, joint_answer_of}
-use Rattle.joint.proofs.Checking.{checked_scratch, checked_transcript}
+use Rattle.joint.specs.Code.{joint_answer_of}
 use Rattle.joint.proofs.Stops.{own_in, own_opens, must_output}
-use Rattle.joint.proofs.Passing.{Before, stood, places_stay, own_waits, own_moving, own_passed}
-use Rattle.joint.proofs.Ends.{gates_same, in_common, opens_common, first_few, first_asked, first_stopped, first_passed, show_moving, second_asked, second_room, second_score, second_record, preps_long, shown_long, shown_scratch, second_stopped, second_passed, standing_over, standing_start}
+use Rattle.joint.proofs.Passing.{stood, places_stay, own_waits, own_moving, own_passed}
+use Rattle.joint.proofs.Ends.{gates_same, in_common, opens_common, first_few, first_asked, first_stopped, first_passed, show_moving, second_asked, second_room, second_score, second_record, preps_long, second_stopped, second_passed, standing_over, standing_start}
 use Rattle.joint.proofs.rounds.run.Goals as goal
 
 pub loop-f-init : goal.loop-f-init

@@ -1,6 +1,5 @@
 -- `joint::rounds::show_round` meets its contract: what each party shows is put into the transcript, summed, and the sum is opened by all.
 -- Assumes nothing.
-use borrow.Author.Rules.{rules}
 use mathlib.Core.Path.{refl}
 use native.Mathlib.Omega.{arith}
 use Rattle.circuit.proofs.KindLaws.{shape_gives}

@@ -1,16 +1,15 @@
 -- `joint::sending::check_shares` meets its contract. The loop's invariant: the check shares of the parties before i are put, and the others are as they were. The measure is the number of parties left.
 -- Assumes nothing.
 use Prim.Native.Nat.{ℕ, ◌+◌, ◌-◌}
-use mathlib.Core.Path.{refl, sym, ap}
+use mathlib.Core.Path.{refl, ap}
 use mathlib.Core.List.{[], ◌∷◌}
 use native.Mathlib.Omega.{arith}
-use lib.Seq.{length-take-le}
-use Rattle.joint.specs.Code.{part, share_in}
+use Rattle.joint.specs.Code.{part}
 use Rattle.protocol.proofs.Said.{below_part}
 use Rattle.joint.proofs.Cutting.{prep_end, key_there, key_is, band_fits, band_is, band_room}
-use Rattle.joint.proofs.Common.{first_band, first_room, common_sum}
+use Rattle.joint.proofs.Common.{first_band, common_sum}
 use Rattle.joint.proofs.SendTurns.{part_enough}
-use Rattle.protocol.proofs.Filling.{Filled, filled_start}
+use Rattle.protocol.proofs.Filling.{filled_start}
 use Rattle.protocol.proofs.Gathering.{put_length, put_more, put_all}
 use Rattle.joint.proofs.sending.check_shares.Goals as goal
 

@@ -1,15 +1,11 @@
 -- `joint::sending::input_words` meets its contract. The loop's invariant: the words of the parties before i are put, and the others are as they were. The measure is the number of parties left.
 -- Assumes nothing.
-use Prim.Native.Nat.{ℕ, ◌-◌}
+use Prim.Native.Nat.{ℕ}
 use mathlib.Core.Path.{refl, ap}
 use mathlib.Core.List.{[], ◌∷◌}
 use native.Mathlib.Omega.{arith}
-use lib.ListN.{get_or}
-use Rattle.field.specs.Words.{ops}
-use Rattle.protocol.specs.Send.{input_word}
-use Rattle.joint.specs.Code.{prep_from}
 use Rattle.joint.proofs.Cutting.{prep_end, cut_is, cut_long, cut_low}
-use Rattle.protocol.proofs.Filling.{Filled, filled_start}
+use Rattle.protocol.proofs.Filling.{filled_start}
 use Rattle.protocol.proofs.Gathering.{put_length, put_more, put_all}
 use Rattle.joint.proofs.sending.input_words.Goals as goal
 

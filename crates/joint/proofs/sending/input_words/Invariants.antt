@@ -1,14 +1,10 @@
-use Prim.Native.Nat.{ℕ, ◌-◌}
-use mathlib.Core.Path.{refl, ap}
+use Prim.Native.Nat.{◌-◌}
 use mathlib.Core.List.{[], ◌∷◌}
-use native.Mathlib.Omega.{arith}
 use lib.ListN.{get_or}
 use Rattle.field.specs.Words.{ops}
 use Rattle.protocol.specs.Send.{input_word}
 use Rattle.joint.specs.Code.{prep_from}
-use Rattle.joint.proofs.Cutting.{prep_end, cut_is, cut_long, cut_low}
-use Rattle.protocol.proofs.Filling.{Filled, filled_start}
-use Rattle.protocol.proofs.Gathering.{put_length, put_more, put_all}
+use Rattle.protocol.proofs.Filling.{Filled}
 use Rattle.joint.proofs.sending.input_words.Given as goal
 
 abbrev pub invariant-loop-i : goal.invariant-loop-i

@@ -1,12 +1,11 @@
 -- `joint::sending::opening_words` meets its contract. The loop's invariant: the parties before i have their words in out, and the rest is as it was; their first and last words are added up. The measure is the number of parties left.
 -- Assumes nothing.
-use Prim.Native.Nat.{ℕ, ◌+◌, ◌-◌, ◌*◌, ◌<◌}
+use Prim.Native.Nat.{ℕ, ◌<◌}
 use native.Mathlib.Omega.{arith}
-use lib.ListN.{get_or}
-use Rattle.field.specs.Words.{ops, term_size}
+use Rattle.field.specs.Words.{ops}
 use Rattle.field.proofs.Laws.{laws}
-use Rattle.protocol.proofs.Summing.{Running, running_start, running_more}
-use Rattle.protocol.proofs.Filling.{Filled, filled_start, filled_length, filled_fits, filled_again}
+use Rattle.protocol.proofs.Summing.{running_start, running_more}
+use Rattle.protocol.proofs.Filling.{filled_start, filled_length, filled_fits, filled_again}
 use Rattle.protocol.proofs.Gathering.{put_room, part_room, part_put, put_done}
 use Rattle.joint.proofs.Cutting.{prep_end, cut_is, cut_long, cut_low, band_fits, band_is, band_room}
 use Rattle.joint.proofs.SendTurns.{opened_words, opened_words_lem, words_heard}
@@ -79,8 +78,7 @@ opening_words-ends-requires c =
     rw (band_is c.requires.3 c.loop-i.i c.loop-i-test.true, cut_is c.requires.2 c.loop-i.i c.loop-i-test.true) (band_room c.requires.3 c.loop-i.i c.loop-i-test.true, (c.requires.4 c.loop-i.i c.loop-i-test.true).0, (c.requires.4 c.loop-i.i c.loop-i-test.true).1, c.requires.0, c.requires.1, omega (arith, cut_long c.requires.2 c.loop-i.i c.loop-i-test.true), cut_low c.requires.2 c.loop-i.i c.loop-i-test.true, part_room _ _ _ (filled_fits _ _ _ _ (put_room c.args.f.parties c.args.k c.args.out.now c.requires.5) (λ m h. opened_words_lem ops _ _ _ _ _ _ c.requires.0 c.requires.1) c.loop-i.invariant.0 c.loop-i-test.true))
 
 pub hear-sums-requires : goal.hear-sums-requires
-hear-sums-requires c =
-    (
+hear-sums-requires c = (
   omega (arith, c.loop-i.invariant.1.below, c.loop-i-test.true, c.requires.6),
   omega (arith, c.loop-i.invariant.2.below, c.loop-i-test.true, c.requires.6),
   c.opening_words-ends.ensures.ends.first.below,
@@ -104,8 +102,7 @@ loop-i-preserved c =
     )
 
 pub heard_ends-requires : goal.heard_ends-requires
-heard_ends-requires c =
-    (
+heard_ends-requires c = (
   omega (arith, c.loop-i.invariant.1.below, c.loop-i.invariant.0.upto, c.requires.6),
   omega (arith, c.loop-i.invariant.2.below, c.loop-i.invariant.0.upto, c.requires.6),
 )
@@ -117,7 +114,10 @@ pub returns : goal.returns
 returns c =
     let each : (i : ℕ) → i < c.args.f.parties → _ = λ i h. opened_words_lem ops _ _ _ _ _ _ c.requires.0 c.requires.1 in
     let d = put_done _ _ _ c.requires.5 (λ m h. opened_words_lem ops _ _ _ _ _ _ c.requires.0 c.requires.1) c.loop-i.invariant.0 c.loop-i-test.false in
-    record { out = d; sums = (
+    record {
+      out = d;
+      sums = (
         words_heard _ _ _ _ each (omega (arith, c.requires.0)) d c.loop-i.invariant.0.upto c.loop-i-test.false c.loop-i.invariant.1 c.heard_ends.ensures.0,
         words_heard _ _ _ _ each (omega (arith, c.requires.0)) d c.loop-i.invariant.0.upto c.loop-i-test.false c.loop-i.invariant.2 c.heard_ends.ensures.1,
-      ) }
+      );
+    }

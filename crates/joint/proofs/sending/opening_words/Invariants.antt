@@ -1,14 +1,9 @@
-use Prim.Native.Nat.{ℕ, ◌+◌, ◌-◌, ◌*◌, ◌<◌}
-use native.Mathlib.Omega.{arith}
+use Prim.Native.Nat.{◌+◌, ◌-◌, ◌*◌}
 use lib.ListN.{get_or}
 use Rattle.field.specs.Words.{ops, term_size}
-use Rattle.field.proofs.Laws.{laws}
-use Rattle.protocol.proofs.Summing.{Running, running_start, running_more}
-use Rattle.protocol.proofs.Filling.{Filled, filled_start, filled_length, filled_fits, filled_again}
-use Rattle.protocol.proofs.Gathering.{put_room, part_room, part_put, put_done}
-use Rattle.joint.proofs.Cutting.{prep_end, cut_is, cut_long, cut_low, band_fits, band_is, band_room}
-use Rattle.joint.proofs.SendTurns.{opened_words, opened_words_lem, words_heard}
-use Rattle.steps.specs.Code.{AreEnds}
+use Rattle.protocol.proofs.Summing.{Running}
+use Rattle.protocol.proofs.Filling.{Filled}
+use Rattle.joint.proofs.SendTurns.{opened_words}
 use Rattle.joint.proofs.sending.opening_words.Given as goal
 
 abbrev pub invariant-loop-i : goal.invariant-loop-i

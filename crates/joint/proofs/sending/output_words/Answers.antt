@@ -1,17 +1,12 @@
 -- `joint::sending::output_words` meets its contract. The loop's invariant: the words of the parties before i are put, and the others are as they were. The measure is the number of parties left.
 -- Assumes nothing.
-use Prim.Native.Nat.{ℕ, ◌-◌}
+use Prim.Native.Nat.{ℕ}
 use mathlib.Core.Path.{refl, ap}
 use mathlib.Core.List.{[], ◌∷◌}
 use native.Mathlib.Omega.{arith}
-use Rattle.field.specs.Words.{ops}
-use Rattle.protocol.specs.Scratch.{band}
-use Rattle.protocol.specs.Send.{shown}
-use Rattle.protocol.specs.Code.{layout_of}
-use Rattle.protocol.proofs.Filling.{Filled, filled_start}
+use Rattle.protocol.proofs.Filling.{filled_start}
 use Rattle.protocol.proofs.Gathering.{put_length, put_more, put_all}
 use Rattle.steps.proofs.Numbers.{share_of}
-use Rattle.joint.specs.Code.{prep_from}
 use Rattle.joint.proofs.Cutting.{prep_end, cut_is, cut_low, mask_cut, band_fits, band_is, band_room}
 use Rattle.joint.proofs.sending.output_words.Goals as goal
 

@@ -1,11 +1,11 @@
 -- `joint::sending::put_nonces` meets its contract. The loop's invariant: the bands of the parties before i are done, and the others are as they were. The measure is the number of parties left.
 -- Assumes nothing.
-use Prim.Native.Nat.{◌-◌, ◌*◌}
+use Prim.Native.Nat.{◌*◌}
 use native.Mathlib.Omega.{arith}
-use Rattle.protocol.proofs.Filling.{Filled, filled_start, filled_length, filled_fits, filled_part, filled_again, filled_done}
+use Rattle.protocol.proofs.Filling.{filled_start, filled_length, filled_fits, filled_part, filled_again, filled_done}
 use Rattle.circuit.specs.Round.{nonce_size}
 use Rattle.joint.proofs.Cutting.{nonce_part, band_tail}
-use Rattle.joint.proofs.ReceiveTurns.{nonce_left, nonce_each}
+use Rattle.joint.proofs.ReceiveTurns.{nonce_each}
 use Rattle.joint.proofs.Rounding.{part_long}
 use Rattle.joint.proofs.sending.put_nonces.Goals as goal
 

@@ -1,11 +1,9 @@
 -- `joint::sending::reveal_words` meets its contract. The loop's invariant: the parties before i have their words in out, and the rest is as it was. The measure is the number of parties left.
 -- Assumes nothing.
-use Prim.Native.Nat.{◌-◌}
 use native.Mathlib.Omega.{arith}
 use Rattle.circuit.specs.Round.{reveal_words}
-use Rattle.protocol.proofs.Filling.{Filled, filled_start, filled_length, filled_fits, filled_again}
+use Rattle.protocol.proofs.Filling.{filled_start, filled_length, filled_fits, filled_again}
 use Rattle.protocol.proofs.Gathering.{put_room, part_room, part_put, put_done}
-use Rattle.joint.specs.Code.{revealed_by}
 use Rattle.joint.proofs.Cutting.{band_fits, band_is, band_tail}
 use Rattle.joint.proofs.SendTurns.{reveal_long}
 use Rattle.joint.proofs.sending.reveal_words.Goals as goal

@@ -1,11 +1,7 @@
 use Prim.Native.Nat.{◌-◌}
-use native.Mathlib.Omega.{arith}
 use Rattle.circuit.specs.Round.{reveal_words}
-use Rattle.protocol.proofs.Filling.{Filled, filled_start, filled_length, filled_fits, filled_again}
-use Rattle.protocol.proofs.Gathering.{put_room, part_room, part_put, put_done}
+use Rattle.protocol.proofs.Filling.{Filled}
 use Rattle.joint.specs.Code.{revealed_by}
-use Rattle.joint.proofs.Cutting.{band_fits, band_is, band_tail}
-use Rattle.joint.proofs.SendTurns.{reveal_long}
 use Rattle.joint.proofs.sending.reveal_words.Given as goal
 
 abbrev pub invariant-loop-i : goal.invariant-loop-i

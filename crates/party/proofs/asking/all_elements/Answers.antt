@@ -1,12 +1,7 @@
 -- `party::asking::all_elements` meets its contract: the loop asks every number and remembers whether each so far is an element.
 -- Assumes nothing.
-use Prim.Native.Nat.{◌-◌}
-use mathlib.Core.Logic.{⊎_elim}
-use borrow.Author.Rules.{rules}
 use native.Mathlib.Omega.{arith}
-use lib.ListN.{length}
-use Rattle.field.specs.Words.{size}
-use Rattle.circuit.proofs.Loops.{Sifted, sifted_starts, sifted_yes, sifted_no, sifted_ends}
+use Rattle.circuit.proofs.Loops.{sifted_starts, sifted_yes, sifted_no, sifted_ends}
 use Rattle.party.proofs.asking.all_elements.Goals as goal
 use Rattle.party.proofs.asking.all_elements.Goals.{else-xs-k-ge-SIZE, then-xs-k-ge-SIZE}
 

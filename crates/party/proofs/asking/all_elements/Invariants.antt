@@ -1,10 +1,7 @@
 use Prim.Native.Nat.{◌-◌}
-use mathlib.Core.Logic.{⊎_elim}
-use borrow.Author.Rules.{rules}
-use native.Mathlib.Omega.{arith}
 use lib.ListN.{length}
 use Rattle.field.specs.Words.{size}
-use Rattle.circuit.proofs.Loops.{Sifted, sifted_starts, sifted_yes, sifted_no, sifted_ends}
+use Rattle.circuit.proofs.Loops.{Sifted}
 use Rattle.party.proofs.asking.all_elements.Given as goal
 
 abbrev pub invariant-loop-k : goal.invariant-loop-k

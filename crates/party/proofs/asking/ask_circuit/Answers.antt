@@ -1,7 +1,6 @@
 -- `party::asking::ask_circuit` meets its contract: it asks of a field of the size that stands below.
 -- Assumes nothing.
 use mathlib.Core.Path.{◌∙◌}
-use borrow.Author.Rules.{rules}
 use Rattle.party.proofs.asking.ask_circuit.Goals as goal
 
 pub returns : goal.returns

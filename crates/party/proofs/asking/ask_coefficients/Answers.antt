@@ -1,7 +1,6 @@
 -- `party::asking::ask_coefficients` meets its contract: 16 is asked, and then 17.
 -- Assumes nothing.
 use mathlib.Core.Path.{sym, ◌∙◌}
-use borrow.Author.Rules.{rules}
 use borrow.Author.Tests.{eq-eqb, ne_eqb}
 use Rattle.circuit.specs.Code.{verdict_of}
 use Rattle.circuit.proofs.Loops.{yes_then, no_then}

@@ -1,18 +1,13 @@
 -- `party::asking::ask_elements` meets its contract: where all numbers are elements no question is refused, and else the loop asks one number after
 -- the other and is left at the first that is no element.
 -- Assumes nothing.
-use Prim.Native.Nat.{◌-◌}
 use mathlib.Core.Path.{sym}
-use borrow.Author.Rules.{rules}
 use borrow.Author.Tests.{lt-ltb, le-ltb}
 use native.Mathlib.Omega.{arith}
-use lib.ListN.{length, get_or}
-use lib.Dec.{ltb}
-use Rattle.field.specs.Words.{size}
-use Rattle.circuit.specs.Verdict.{ask, elements}
+use Rattle.circuit.specs.Verdict.{elements}
 use Rattle.circuit.specs.Code.{verdict_of}
 use Rattle.circuit.proofs.Verdicts.{ask_yes, ask_no, each_all}
-use Rattle.circuit.proofs.Loops.{Asking, asking_starts, asking_goes_on, asking_refuses, asking_ends}
+use Rattle.circuit.proofs.Loops.{asking_starts, asking_goes_on, asking_refuses, asking_ends}
 use Rattle.party.proofs.asking.ask_elements.Goals as goal
 
 pub returns-then-all_elements : goal.returns-then-all_elements

@@ -1,7 +1,6 @@
 -- `party::asking::ask_heard` meets its contract: each round has its own question of the words received.
 -- Assumes nothing.
 use mathlib.Core.Path.{refl}
-use borrow.Author.Rules.{rules}
 use Rattle.circuit.specs.Code.{verdict_of}
 use Rattle.party.proofs.asking.ask_heard.Goals as goal
 

@@ -1,7 +1,6 @@
 -- `party::asking::ask_lengths` meets its contract: 25 is asked, and then 18.
 -- Assumes nothing.
 use mathlib.Core.Path.{sym, ◌∙◌}
-use borrow.Author.Rules.{rules}
 use borrow.Author.Tests.{eq-eqb, ne_eqb, le-leb, lt-leb}
 use Rattle.circuit.specs.Code.{verdict_of}
 use Rattle.circuit.proofs.Verdicts.{ask_yes, ask_no}

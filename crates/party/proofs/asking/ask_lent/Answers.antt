@@ -3,7 +3,6 @@
 use lib.ListN.{length}
 use mathlib.Core.Path.{refl, sym, ap, ◌∙◌}
 use native.Mathlib.Omega.{arith}
-use borrow.Author.Rules.{rules}
 use Rattle.circuit.specs.Code.{verdict_of}
 use Rattle.circuit.proofs.Loops.{call_then, refused_then}
 use Rattle.party.specs.Code.{lent_of}
@@ -32,11 +31,14 @@ returns-in-Refused-ask_lists c =
     let counted = survey_counted c.survey.ensures.accepted c.in-Accepted-survey.is in
     let passed = survey_passed c.args.parties c.index.result c.args.c.now c.survey.ensures.asked c.index.ensures c.in-Accepted-survey.is in
     let layout = layout_is _ _ _ counted.all (gates_are c.args.c.now) refl in
-    record { asked = call_then _ _ c.ask_party.ensures c.in-Accepted.is
+    record {
+      asked = call_then _ _ c.ask_party.ensures c.in-Accepted.is
           (passed_first _ passed
           (sym (ap verdict_of c.in-Refused-ask_lists.is) ∙ c.ask_lists.ensures
           ∙ lists_counted _ _ _ counted.all c.args.prep.now c.args.inputs.now (length c.args.l.now) c.args.parties _ layout c.size_of-size.ensures))
-          ∙ sym (lent_split _ _); accepted = tt }
+          ∙ sym (lent_split _ _);
+      accepted = tt;
+    }
 
 pub returns-in-Refused-survey : goal.returns-in-Refused-survey
 unfolding lent_of verdict_of
@@ -49,8 +51,11 @@ returns-in-Accepted-ask_lists c =
     let counted = survey_counted c.survey.ensures.accepted c.in-Accepted-survey.is in
     let passed = survey_passed c.args.parties c.index.result c.args.c.now c.survey.ensures.asked c.index.ensures c.in-Accepted-survey.is in
     let layout = layout_is _ _ _ counted.all (gates_are c.args.c.now) refl in
-    record { asked = call_then _ _ c.ask_party.ensures c.in-Accepted.is
+    record {
+      asked = call_then _ _ c.ask_party.ensures c.in-Accepted.is
           (passed_first _ passed
           (sym (ap verdict_of c.in-Accepted-ask_lists.is) ∙ c.ask_lists.ensures
           ∙ lists_counted _ _ _ counted.all c.args.prep.now c.args.inputs.now (length c.args.l.now) c.args.parties _ layout c.size_of-size.ensures))
-          ∙ sym (lent_split _ _); accepted = (layout, refl, λ h. site_is _ _ _ (counted.here (omega (arith, h))) h refl refl refl refl) }
+          ∙ sym (lent_split _ _);
+      accepted = (layout, refl, λ h. site_is _ _ _ (counted.here (omega (arith, h))) h refl refl refl refl);
+    }

@@ -1,7 +1,6 @@
 -- `party::asking::ask_lists` meets its contract: it asks 8 to 12 in turn.
 -- Assumes nothing.
 use mathlib.Core.Path.{sym}
-use borrow.Author.Rules.{rules}
 use borrow.Author.Tests.{eq-eqb, ne_eqb, le-leb, lt-leb}
 use Rattle.circuit.specs.Code.{verdict_of}
 use Rattle.circuit.proofs.Verdicts.{ask_yes, ask_no}

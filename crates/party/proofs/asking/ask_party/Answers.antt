@@ -5,7 +5,6 @@ use Rattle.circuit.specs.Code.{verdict_of}
 use Rattle.circuit.proofs.Loops.{call_then, refused_then}
 use Rattle.circuit.proofs.Verdicts.{ask_yes, ask_no}
 use mathlib.Core.Path.{sym}
-use borrow.Author.Rules.{rules}
 use Rattle.party.proofs.asking.ask_party.Goals as goal
 
 pub returns-in-Refused : goal.returns-in-Refused

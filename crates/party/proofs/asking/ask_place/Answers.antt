@@ -4,7 +4,6 @@ use mathlib.Core.Path.{sym, ap, ◌∙◌}
 use borrow.Author.Tests.{not-true, not-false}
 use Rattle.party.specs.Code.{lent_of}
 use Rattle.party.proofs.Halves.{lent_refuses, place_refuses, place_accepts, lent_to, can_asks}
-use borrow.Author.Rules.{rules}
 use Rattle.party.proofs.asking.ask_place.Goals as goal
 
 pub can_occur-requires : goal.can_occur-requires

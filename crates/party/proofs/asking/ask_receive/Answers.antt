@@ -8,7 +8,6 @@ use Rattle.protocol.specs.Ask.{ask_receive}
 use Rattle.party.specs.Code.{lent_of, asked_of, position_of}
 use Rattle.protocol.proofs.Entries.{half_decides}
 use Rattle.party.proofs.Halves.{placed_refuses, round_at_lem, round_asks, few_parties, receive_asked, receivable}
-use borrow.Author.Rules.{rules}
 use Rattle.party.proofs.asking.ask_receive.Goals as goal
 
 pub ask_receive_round-requires : goal.ask_receive_round-requires

@@ -1,7 +1,6 @@
 -- `party::asking::ask_send_round` meets its contract: it asks 15, then 16 and 17, then 25 and 18.
 -- Assumes nothing.
 use mathlib.Core.Path.{◌∙◌}
-use borrow.Author.Rules.{rules}
 use Rattle.circuit.specs.Code.{verdict_of}
 use Rattle.circuit.proofs.Loops.{then_assoc, call_then, refused_then}
 use Rattle.protocol.specs.Ask.{ask_send_round}

@@ -1,6 +1,5 @@
 -- `party::asking::ask_setting` meets its contract: the parties are asked before the circuit.
 -- Assumes nothing.
-use borrow.Author.Rules.{rules}
 use Rattle.circuit.specs.Code.{verdict_of}
 use Rattle.circuit.proofs.Loops.{call_then, refused_then}
 use Rattle.party.proofs.asking.ask_setting.Goals as goal

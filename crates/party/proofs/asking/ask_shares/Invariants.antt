@@ -1,15 +1,10 @@
 use Prim.Native.Nat.{◌*◌, ◌-◌}
-use native.Mathlib.Omega.{arith}
-use borrow.Author.Rules.{rules}
-use borrow.Author.Tests.{lt-ltb, le-ltb}
 use lib.ListN.{get_or}
 use lib.Dec.{ltb}
 use Rattle.field.specs.Words.{size}
 use Rattle.circuit.specs.Verdict.{ask}
 use Rattle.circuit.specs.Round.{reveal_words}
-use Rattle.circuit.specs.Code.{verdict_of}
-use Rattle.circuit.proofs.Verdicts.{ask_yes, ask_no}
-use Rattle.circuit.proofs.Loops.{Asking, asking_starts, asking_goes_on, asking_refuses, asking_ends}
+use Rattle.circuit.proofs.Loops.{Asking}
 use Rattle.party.proofs.asking.ask_shares.Given as goal
 
 abbrev pub invariant-loop-i : goal.invariant-loop-i

@@ -7,7 +7,6 @@ use Rattle.protocol.specs.Scratch.{offset, read}
 use Rattle.party.specs.Code.{sort_of}
 use Rattle.protocol.proofs.Slots.{slot_fits}
 use Rattle.protocol.proofs.SlotQuestions.{unwanted, fine, too_large}
-use borrow.Author.Rules.{rules}
 use Rattle.party.proofs.asking.ask_slot.Goals as goal
 
 pub offset_of-at-requires : goal.offset_of-at-requires

@@ -1,13 +1,11 @@
 -- `party::asking::ask_slots` meets its contract: where all numbers of the part are elements no question is refused, and else the loop asks one slot
 -- after the other and is left at the first that refuses.
 -- Assumes nothing.
-use Prim.Native.Nat.{ℕ, ◌+◌, ◌-◌, ◌<◌, ◌≤◌}
+use Prim.Native.Nat.{ℕ, ◌+◌, ◌<◌, ◌≤◌}
 use mathlib.Core.Path.{◌≡◌, sym, ap, ap₂, ◌∙◌}
 use mathlib.Core.List.{List}
 use lib.ListN.{length}
 use native.Mathlib.Omega.{arith}
-use borrow.Author.Rules.{rules}
-use Rattle.field.specs.Words.{size}
 use Rattle.circuit.specs.Code.{verdict_of}
 use Rattle.circuit.proofs.Verdicts.{each_none}
 use Rattle.protocol.specs.declared.Layout.{Layout}
@@ -15,10 +13,10 @@ use Rattle.protocol.specs.declared.Slot.{Slot}
 use Rattle.protocol.specs.Scratch.{layout, offset}
 use Rattle.protocol.specs.Holding.{Within}
 use Rattle.protocol.specs.Code.{layout_of, slot_of}
-use Rattle.protocol.specs.Ask.{slot_question, ask_slots}
+use Rattle.protocol.specs.Ask.{ask_slots}
 use Rattle.party.specs.declared.Sort.{Sort}
-use Rattle.party.specs.Code.{sort_of, wanted_of, Laid}
-use Rattle.circuit.proofs.Loops.{Asking, asking_starts, asking_goes_on, asking_refuses, asking_ends}
+use Rattle.party.specs.Code.{sort_of, Laid}
+use Rattle.circuit.proofs.Loops.{asking_starts, asking_goes_on, asking_refuses, asking_ends}
 use Rattle.party.proofs.Slots.{slots_fit, slots_fine}
 use Rattle.party.proofs.asking.ask_slots.Goals as goal
 

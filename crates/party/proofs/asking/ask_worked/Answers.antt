@@ -9,7 +9,6 @@ use Rattle.protocol.specs.Scratch.{layout}
 use Rattle.protocol.specs.Ask.{ask_worked}
 use Rattle.party.specs.Code.{sort_of, wanted_of}
 use Rattle.circuit.proofs.Loops.{call_then, refused_then}
-use borrow.Author.Rules.{rules}
 use Rattle.party.proofs.asking.ask_worked.Goals as goal
 
 pub ask_slots-requires : goal.ask_slots-requires

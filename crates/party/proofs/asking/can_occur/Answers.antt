@@ -5,7 +5,6 @@ use borrow.Author.Tests.{not-true, not-false}
 use native.Mathlib.Omega.{arith}
 use Rattle.party.specs.Code.{position_of}
 use Rattle.protocol.proofs.Occurring.{past, no_stage, held_some, held_none}
-use borrow.Author.Rules.{rules}
 use Rattle.party.proofs.asking.can_occur.Goals as goal
 
 pub returns-then-count-j : goal.returns-then-count-j

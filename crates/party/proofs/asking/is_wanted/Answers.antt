@@ -6,7 +6,6 @@ use native.Mathlib.Omega.{arith}
 use Rattle.circuit.specs.Kind.{Output, is_class}
 use Rattle.protocol.specs.Scratch.{layout}
 use Rattle.party.specs.Code.{wanted_of, sort_of}
-use borrow.Author.Rules.{rules}
 use Rattle.party.proofs.asking.is_wanted.Goals as goal
 
 pub class_at-requires : goal.class_at-requires

@@ -2,7 +2,6 @@
 -- Assumes nothing.
 use mathlib.Core.Path.{◌∙◌}
 use Rattle.protocol.specs.Position.{may_hold}
-use borrow.Author.Rules.{rules}
 use Rattle.party.proofs.asking.may_hold.Goals as goal
 
 pub returns-in-Send : goal.returns-in-Send

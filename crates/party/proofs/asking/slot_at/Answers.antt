@@ -1,7 +1,6 @@
 -- `party::asking::slot_at` meets its contract, sort by sort.
 -- Assumes nothing.
 use Rattle.party.specs.Code.{sort_of}
-use borrow.Author.Rules.{rules}
 use Rattle.party.proofs.asking.slot_at.Goals as goal
 
 pub returns-in-Shares : goal.returns-in-Shares

@@ -3,7 +3,6 @@
 use Rattle.protocol.proofs.Occurring.{round_occurs, last_occurs}
 use mathlib.Core.Path.{refl}
 use Rattle.protocol.specs.Position.{stage_occurs}
-use borrow.Author.Rules.{rules}
 use Rattle.party.proofs.asking.stage_occurs.Goals as goal
 
 pub returns-in-Send : goal.returns-in-Send

@@ -1,6 +1,6 @@
 -- `sha256::block::compress` meets its contract, by those of the functions that it calls.
 -- Assumes nothing.
-use Rattle.std.proofs.Common.{refl, ◌∙◌, ap₂, rules}
+use Rattle.std.proofs.Common.{refl, ◌∙◌, ap₂}
 use Rattle.sha256.specs.Sha256.{sums, compress}
 use Rattle.sha256.proofs.block.compress.Goals as goal
 

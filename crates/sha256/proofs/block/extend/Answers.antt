@@ -1,7 +1,7 @@
 -- `sha256::block::extend` meets its contract: the loop keeps that the words so far extend to what is asked for.
 -- Assumes nothing.
-use Rattle.std.proofs.Common.{◌-◌, rules}
-use Rattle.sha256.proofs.Filling.{Filled, filled_start, filled_again, filled_done}
+use Rattle.std.proofs.Common.{rules}
+use Rattle.sha256.proofs.Filling.{filled_start, filled_again, filled_done}
 use Rattle.sha256.proofs.block.extend.Goals as goal
 
 pub loop-i-init : goal.loop-i-init

@@ -1,5 +1,5 @@
-use Rattle.std.proofs.Common.{◌-◌, rules}
-use Rattle.sha256.proofs.Filling.{Filled, filled_start, filled_again, filled_done}
+use Rattle.std.proofs.Common.{◌-◌}
+use Rattle.sha256.proofs.Filling.{Filled}
 use Rattle.sha256.proofs.block.extend.Given as goal
 
 abbrev pub invariant-loop-i : goal.invariant-loop-i

@@ -1,8 +1,8 @@
 -- `sha256::block::rounds` meets its contract: the loop keeps that the rounds that are left give what all of them give from the start, and that the
 -- schedule is sixteen words ahead of them.
 -- Assumes nothing.
-use Rattle.std.proofs.Common.{◌+◌, ◌∙◌, arith, rules}
-use Rattle.sha256.proofs.Ahead.{Ahead, Turning, turning_start, ahead_extended, ahead_still, turning_again, turning_done}
+use Rattle.std.proofs.Common.{◌+◌, ◌∙◌, rules}
+use Rattle.sha256.proofs.Ahead.{Ahead, turning_start, ahead_extended, ahead_still, turning_again, turning_done}
 use Rattle.sha256.proofs.block.rounds.Goals as goal
 use Rattle.sha256.proofs.block.rounds.Goals.{then-t, else-t}
 
@@ -14,20 +14,20 @@ pub turn-next-requires : goal.turn-next-requires
 turn-next-requires c =
     let inv = c.loop-t.invariant in
     let ahead : Ahead c.args.w.now c.if-t.w (c.loop-t.t + 24) =
-      elim c.if-t.branch [
-        then-t l ↦ ahead_extended inv l.if-t.true (l.w-is ∙ l.extend.ensures)
+    elim c.if-t.branch [
+      | then-t l ↦ ahead_extended inv l.if-t.true (l.w-is ∙ l.extend.ensures)
       | else-t r ↦ ahead_still inv r.if-t.false r.w-is
-      ] in
+    ] in
     search rules
 
 pub loop-t-preserved : goal.loop-t-preserved
 loop-t-preserved c =
     let inv = c.loop-t.invariant in
     let ahead : Ahead c.args.w.now c.if-t.w (c.loop-t.t + 24) =
-      elim c.if-t.branch [
-        then-t l ↦ ahead_extended inv l.if-t.true (l.w-is ∙ l.extend.ensures)
+    elim c.if-t.branch [
+      | then-t l ↦ ahead_extended inv l.if-t.true (l.w-is ∙ l.extend.ensures)
       | else-t r ↦ ahead_still inv r.if-t.false r.w-is
-      ] in
+    ] in
     turning_again inv (search rules) c.constants-k.ensures ahead c.turn-next.ensures
 
 pub returns : goal.returns

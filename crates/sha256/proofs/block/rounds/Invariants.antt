@@ -1,5 +1,5 @@
-use Rattle.std.proofs.Common.{◌-◌, ◌∙◌, ⊎_elim, arith, rules}
-use Rattle.sha256.proofs.Ahead.{Turning, turning_start, ahead_extended, ahead_still, turning_again, turning_done}
+use Rattle.std.proofs.Common.{◌-◌}
+use Rattle.sha256.proofs.Ahead.{Turning}
 use Rattle.sha256.proofs.block.rounds.Given as goal
 
 abbrev pub invariant-loop-t : goal.invariant-loop-t

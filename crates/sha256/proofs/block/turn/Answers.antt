@@ -1,6 +1,5 @@
 -- `sha256::block::turn` meets its contract: eight rounds one after the other are the rounds of eight constants and words.
 -- Assumes nothing.
-use Rattle.std.proofs.Common.{rules}
 use Rattle.sha256.proofs.Turns.{turn_is}
 use Rattle.sha256.proofs.block.turn.Goals as goal
 

@@ -1,6 +1,5 @@
 -- `sha256::functions::plus` meets its contract: the library's sum is the definition's.
 -- Assumes nothing.
-use Rattle.std.proofs.Common.{rules}
 use Rattle.sha256.specs.Sha256.{◌⊞◌}
 use Rattle.sha256.proofs.functions.plus.Goals as goal
 

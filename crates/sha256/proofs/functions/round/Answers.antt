@@ -1,6 +1,5 @@
 -- `sha256::functions::round` meets its contract, by those of the functions that it calls.
 -- Assumes nothing.
-use Rattle.std.proofs.Common.{rules}
 use Rattle.sha256.proofs.Turns.{round_is}
 use Rattle.sha256.proofs.functions.round.Goals as goal
 

@@ -1,6 +1,5 @@
 -- `sha256::functions::sums` meets its contract, by those of the functions that it calls.
 -- Assumes nothing.
-use Rattle.std.proofs.Common.{rules}
 use Rattle.sha256.proofs.Turns.{sums_are}
 use Rattle.sha256.proofs.functions.sums.Goals as goal
 

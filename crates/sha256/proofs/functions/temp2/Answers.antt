@@ -1,6 +1,5 @@
 -- `sha256::functions::temp2` meets its contract, by those of the functions that it calls.
 -- Assumes nothing.
-use Rattle.std.proofs.Common.{rules}
 use Rattle.sha256.specs.Sha256.{T₂}
 use Rattle.sha256.proofs.functions.temp2.Goals as goal
 

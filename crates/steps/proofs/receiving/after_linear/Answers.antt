@@ -1,6 +1,5 @@
 -- `steps::receiving::after_linear` meets its contract: each local kind has its line in the definition, and no other is asked.
 -- Assumes nothing.
-use borrow.Author.Rules.{rules}
 use Rattle.circuit.proofs.Tests.{false_no}
 use Rattle.circuit.specs.Kind.{kind_shape, is_class}
 use Rattle.protocol.specs.Receive.{linear, put_linear}

@@ -1,7 +1,6 @@
 -- `steps::receiving::after_open_output` meets its contract: the entry is written with the MAC share of what is shown.
 -- Assumes nothing.
 use mathlib.Core.Path.{◌∙◌}
-use borrow.Author.Rules.{rules}
 use Rattle.protocol.specs.Receive.{after_open_output}
 use Rattle.steps.proofs.Numbers.{mac_is}
 use Rattle.steps.proofs.receiving.after_open_output.Goals as goal

@@ -1,6 +1,5 @@
 -- `steps::receiving::after_opening` meets its contract: what the calls made is put together by one law.
 -- Assumes nothing.
-use borrow.Author.Rules.{rules}
 use native.Mathlib.Omega.{arith}
 use Rattle.field.specs.Words.{ops}
 use Rattle.protocol.specs.Code.{layout_of}

@@ -1,7 +1,6 @@
 -- `steps::receiving::enter` meets its contract: the class tells the first round, and of an output what waits for a check.
 -- Assumes nothing.
 use mathlib.Core.Path.{◌∙◌}
-use borrow.Author.Rules.{rules}
 use native.Mathlib.Omega.{arith}
 use borrow.Author.Tests.{eq-eqb, ne_eqb}
 use Rattle.circuit.specs.Round.{class_rounds, check_rounds}

@@ -1,7 +1,6 @@
 -- `steps::receiving::first_word` meets its contract: every word heard is an element.
 -- Assumes nothing.
 use mathlib.Core.Path.{refl}
-use borrow.Author.Rules.{rules}
 use Rattle.steps.proofs.receiving.first_word.Goals as goal
 
 pub returns : goal.returns

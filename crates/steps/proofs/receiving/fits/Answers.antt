@@ -1,6 +1,5 @@
 -- `steps::receiving::fits` meets its contract: the two parts are party i's.
 -- Assumes nothing.
-use borrow.Author.Rules.{rules}
 use mathlib.Core.Path.{◌∙◌}
 use Rattle.steps.proofs.Marking.{fits_parts}
 use Rattle.steps.proofs.receiving.fits.Goals as goal

@@ -1,6 +1,5 @@
 -- `steps::receiving::hear` meets its contract: each running sum takes its own word.
 -- Assumes nothing.
-use borrow.Author.Rules.{rules}
 use Rattle.steps.proofs.receiving.hear.Goals as goal
 
 pub returns : goal.returns

@@ -1,7 +1,6 @@
 -- `steps::receiving::heard_first` meets its contract: the class tells whether the owner's word or the sum is wanted.
 -- Assumes nothing.
 use mathlib.Core.Path.{refl, sym, ◌∙◌}
-use borrow.Author.Rules.{rules}
 use Rattle.field.specs.Words.{ops}
 use Rattle.circuit.specs.Code.{class_of}
 use Rattle.protocol.proofs.HeardWords.{owner_word_lem, word_is_lem, sum_is}

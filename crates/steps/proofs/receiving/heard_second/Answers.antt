@@ -1,7 +1,6 @@
 -- `steps::receiving::heard_second` meets its contract: the class tells whether there are such words.
 -- Assumes nothing.
 use mathlib.Core.Path.{sym, ◌∙◌}
-use borrow.Author.Rules.{rules}
 use Prim.Native.Nat.{◌-◌}
 use native.Mathlib.Omega.{arith}
 use Rattle.field.specs.Words.{ops}

@@ -1,10 +1,8 @@
 -- `steps::receiving::heard_sum_lem` meets its contract: after i turns the sum is that of the first i parties' words.
 -- Assumes nothing.
-use Prim.Native.Nat.{◌-◌}
 use native.Mathlib.Omega.{arith}
-use Rattle.field.specs.Words.{ops}
 use Rattle.field.proofs.Laws.{laws}
-use Rattle.protocol.proofs.Summing.{Hearing, hearing_start, hearing_in, hearing_again, hearing_done}
+use Rattle.protocol.proofs.Summing.{hearing_start, hearing_in, hearing_again, hearing_done}
 use Rattle.steps.proofs.receiving.heard_sum.Goals as goal
 
 pub loop-i-init : goal.loop-i-init

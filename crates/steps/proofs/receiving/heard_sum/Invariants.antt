@@ -1,8 +1,6 @@
 use Prim.Native.Nat.{◌-◌}
-use native.Mathlib.Omega.{arith}
 use Rattle.field.specs.Words.{ops}
-use Rattle.field.proofs.Laws.{laws}
-use Rattle.protocol.proofs.Summing.{Hearing, hearing_start, hearing_in, hearing_again, hearing_done}
+use Rattle.protocol.proofs.Summing.{Hearing}
 use Rattle.steps.proofs.receiving.heard_sum.Given as goal
 
 abbrev pub invariant-loop-i : goal.invariant-loop-i

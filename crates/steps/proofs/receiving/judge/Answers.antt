@@ -1,6 +1,5 @@
 -- `steps::receiving::judge` meets its contract: where nobody is named, the sum decides.
 -- Assumes nothing.
-use borrow.Author.Rules.{rules}
 use native.Mathlib.Omega.{arith}
 use Rattle.protocol.specs.Code.{blame_of, ruling_of}
 use Rattle.steps.proofs.Marking.{shares_low, weighs_named, weighs_nonzero, weighs_zero}

@@ -1,12 +1,10 @@
 -- `steps::receiving::misfit` meets its contract: the parties before i fit, so the first that does not is the lowest.
 -- Assumes nothing.
-use Prim.Native.Nat.{◌-◌}
 use mathlib.Core.Path.{sym, ◌∙◌}
-use native.Mathlib.Omega.{arith}
 use borrow.Author.Tests.{not-true, not-false}
 use Rattle.protocol.specs.Code.{blame_of}
 use Rattle.protocol.proofs.Summing.{words_fit}
-use Rattle.steps.proofs.Marking.{Fitting, fitting_start, fitting_again, fitting_stops, fitting_done}
+use Rattle.steps.proofs.Marking.{fitting_start, fitting_again, fitting_stops, fitting_done}
 use Rattle.steps.proofs.receiving.misfit.Goals as goal
 
 pub loop-party-init : goal.loop-party-init

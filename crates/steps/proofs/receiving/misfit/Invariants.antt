@@ -1,10 +1,5 @@
 use Prim.Native.Nat.{◌-◌}
-use mathlib.Core.Path.{sym, ◌∙◌}
-use native.Mathlib.Omega.{arith}
-use borrow.Author.Tests.{not-true, not-false}
-use Rattle.protocol.specs.Code.{blame_of}
-use Rattle.protocol.proofs.Summing.{words_fit}
-use Rattle.steps.proofs.Marking.{Fitting, fitting_start, fitting_again, fitting_stops, fitting_done}
+use Rattle.steps.proofs.Marking.{Fitting}
 use Rattle.steps.proofs.receiving.misfit.Given as goal
 
 abbrev pub invariant-loop-party : goal.invariant-loop-party

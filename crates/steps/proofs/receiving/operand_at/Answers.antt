@@ -1,7 +1,6 @@
 -- `steps::receiving::operand_at` meets its contract: the test of the role is the definition's.
 -- Assumes nothing.
 use mathlib.Core.Path.{ap, sym, ◌∙◌}
-use borrow.Author.Rules.{rules}
 use Rattle.circuit.specs.Kind.{is_divisor}
 use Rattle.protocol.specs.Receive.{operand}
 use Rattle.steps.proofs.receiving.operand_at.Goals as goal

@@ -1,6 +1,5 @@
 -- `steps::receiving::put_differences` meets its contract: one difference or two are put, as the definition has it.
 -- Assumes nothing.
-use borrow.Author.Rules.{rules}
 use Rattle.field.specs.Words.{ops}
 use Rattle.steps.specs.Code.{part_of}
 use Rattle.protocol.specs.Code.{layout_of}

@@ -1,12 +1,10 @@
 -- `steps::receiving::reach` meets its contract: the next stop from gate j on is that from the first gate on.
 -- Assumes nothing.
-use Prim.Native.Nat.{◌-◌}
 use mathlib.Core.Path.{sym, ap, ◌∙◌}
 use native.Mathlib.Omega.{arith}
-use borrow.Author.Rules.{rules}
 use borrow.Author.Tests.{not-true, not-false}
 use Rattle.circuit.specs.Kind.{Local, is_class}
-use Rattle.protocol.proofs.Settling.{Reaching, reaching_start, reaching_again, reaching_stop, reaching_done}
+use Rattle.protocol.proofs.Settling.{reaching_start, reaching_again, reaching_stop, reaching_done}
 use Rattle.steps.proofs.receiving.reach.Goals as goal
 
 pub loop-j-init : goal.loop-j-init

@@ -1,6 +1,5 @@
 -- `steps::receiving::receive_gate` meets its contract: the words are summed, and what follows is made of the sums.
 -- Assumes nothing.
-use borrow.Author.Rules.{rules}
 use Rattle.field.specs.Words.{ops}
 use Rattle.circuit.specs.Round.{shape_words}
 use Rattle.protocol.proofs.Readiness.{gate_there}

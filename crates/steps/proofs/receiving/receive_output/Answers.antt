@@ -1,6 +1,5 @@
 -- `steps::receiving::receive_output` meets its contract: the sum of the shown words is the opened entry.
 -- Assumes nothing.
-use borrow.Author.Rules.{rules}
 use native.Mathlib.Omega.{arith}
 use Rattle.circuit.specs.Round.{Open}
 use Rattle.protocol.proofs.Readiness.{tail_part, mask_there}

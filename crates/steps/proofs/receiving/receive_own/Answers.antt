@@ -1,7 +1,6 @@
 -- `steps::receiving::receive_own` meets its contract: the record and the words are the gate's, the class tells an input from an opening, and the linear gates after it are done.
 -- Assumes nothing.
 use mathlib.Core.Path.{sym, ◌∙◌}
-use borrow.Author.Rules.{rules}
 use native.Mathlib.Omega.{arith}
 use Rattle.field.specs.Words.{ops}
 use Rattle.field.proofs.Laws.{laws}

@@ -1,6 +1,5 @@
 -- `steps::receiving::receive_reveal` meets its contract: the marks' part of the scratch is what the definition reads, and each arm is the definition's.
 -- Assumes nothing.
-use borrow.Author.Rules.{rules}
 use native.Mathlib.Omega.{arith}
 use Rattle.field.specs.Words.{ops}
 use Rattle.protocol.specs.Scratch.{nonce_at, marks_at}

@@ -1,7 +1,6 @@
 -- `steps::receiving::receive_step` meets its contract: each arm is the definition's at its round, and only a reveal stops a run.
 -- Assumes nothing.
 use mathlib.Core.Path.{refl}
-use borrow.Author.Rules.{rules}
 use Rattle.field.specs.Words.{ops}
 use Rattle.circuit.specs.Round.{Own, Open, Commit}
 use Rattle.protocol.proofs.Received.{commit_received}

@@ -1,6 +1,5 @@
 -- `steps::receiving::record_product` meets its contract: the parts are those that the record has for so many openings.
 -- Assumes nothing.
-use borrow.Author.Rules.{rules}
 use Rattle.steps.proofs.receiving.record_product.Goals as goal
 
 pub returns : goal.returns

@@ -1,6 +1,5 @@
 -- `steps::receiving::release` meets its contract: an output has no value, so that the linear gates after it go on from the scratch as it is.
 -- Assumes nothing.
-use borrow.Author.Rules.{rules}
 use mathlib.Core.List.{[]}
 use Rattle.field.specs.Words.{ops}
 use Rattle.protocol.specs.Receive.{received, check_passed}

@@ -1,7 +1,6 @@
 -- `steps::receiving::score_at` meets its contract: the record is the gate's.
 -- Assumes nothing.
 use mathlib.Core.Path.{sym, ◌∙◌}
-use borrow.Author.Rules.{rules}
 use native.Mathlib.Omega.{arith}
 use Rattle.protocol.proofs.Readiness.{tail_part, part_below, part_longer}
 use Rattle.steps.proofs.receiving.score_at.Goals as goal

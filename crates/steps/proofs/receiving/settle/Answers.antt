@@ -1,14 +1,12 @@
 -- `steps::receiving::settle` meets its contract: what is left to do from gate j on is what was left from the first gate on, and the gates before the stop are linear.
 -- Assumes nothing.
-use Prim.Native.Nat.{◌-◌}
 use mathlib.Core.Path.{ap, ◌∙◌}
 use native.Mathlib.Omega.{arith}
-use borrow.Author.Rules.{rules}
 use Rattle.field.specs.Words.{ops}
 use Rattle.field.proofs.Laws.{laws}
 use Rattle.circuit.specs.Kind.{Local, kind_shape, is_class}
 use Rattle.protocol.specs.Code.{layout_of}
-use Rattle.protocol.proofs.Settling.{Settling, Reaching, put_operated, divisor_low, settling_start, settling_asks, settling_again, settling_end, reaching_start, reaching_again, reaching_linear}
+use Rattle.protocol.proofs.Settling.{put_operated, divisor_low, settling_start, settling_asks, settling_again, settling_end, reaching_start, reaching_again, reaching_linear}
 use Rattle.circuit.proofs.KindLaws.{shape_constant}
 use Rattle.circuit.proofs.Gates.{gate_from}
 use Rattle.steps.proofs.receiving.settle.Goals as goal

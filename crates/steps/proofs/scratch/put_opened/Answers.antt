@@ -3,7 +3,6 @@
 use native.Mathlib.Omega.{arith}
 use Rattle.protocol.specs.Scratch.{put_opened}
 use Rattle.protocol.specs.Code.{layout_of}
-use borrow.Author.Rules.{rules}
 use Rattle.steps.proofs.scratch.put_opened.Goals as goal
 
 pub write_slot-requires : goal.write_slot-requires

@@ -4,7 +4,6 @@ use native.Mathlib.Omega.{arith}
 use Rattle.protocol.specs.Scratch.{put_wire}
 use Rattle.protocol.specs.Code.{layout_of}
 use Rattle.steps.specs.Code.{part_of}
-use borrow.Author.Rules.{rules}
 use Rattle.steps.proofs.scratch.put_wire.Goals as goal
 
 pub write_slot-requires : goal.write_slot-requires

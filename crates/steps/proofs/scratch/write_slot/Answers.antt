@@ -4,7 +4,6 @@ use native.Mathlib.Omega.{arith}
 use Rattle.protocol.specs.Scratch.{write}
 use Rattle.protocol.specs.Code.{slot_of}
 use Rattle.protocol.proofs.Slots.{slot_fits}
-use borrow.Author.Rules.{rules}
 use Rattle.steps.proofs.scratch.write_slot.Goals as goal
 
 pub offset_bounds-l-at : goal.offset_bounds-l-at

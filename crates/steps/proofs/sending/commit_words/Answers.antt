@@ -1,7 +1,6 @@
 -- `steps::sending::commit_words` meets its contract: the message is what a reveal sends, and no more.
 -- Assumes nothing.
 use mathlib.Core.Path.{refl}
-use borrow.Author.Rules.{rules}
 use Rattle.steps.proofs.Marking.{mark_written}
 use Rattle.steps.proofs.sending.commit_words.Goals as goal
 

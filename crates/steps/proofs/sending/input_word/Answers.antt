@@ -3,7 +3,6 @@
 use native.Mathlib.Omega.{arith}
 use borrow.Author.Tests.{eq-eqb, ne_eqb}
 use Rattle.protocol.specs.Send.{input_word}
-use borrow.Author.Rules.{rules}
 use Rattle.steps.proofs.sending.input_word.Goals as goal
 
 pub sub-requires : goal.sub-requires

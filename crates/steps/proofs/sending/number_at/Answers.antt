@@ -3,7 +3,6 @@
 use mathlib.Core.Path.{refl, sym}
 use native.Mathlib.Omega.{arith}
 use lib.ListN.{get_or-eq_default}
-use borrow.Author.Rules.{rules}
 use Rattle.steps.proofs.sending.number_at.Goals as goal
 
 pub returns-then-k-xs : goal.returns-then-k-xs

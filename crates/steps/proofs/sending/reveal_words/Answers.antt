@@ -1,9 +1,8 @@
 -- `steps::sending::reveal_words` meets its contract: the nonce is copied behind the check share.
 -- Assumes nothing.
 use borrow.Author.Rules.{rules}
-use Rattle.circuit.specs.Round.{nonce_words}
 use Rattle.protocol.specs.Scratch.{nonce_at, marks_at}
-use Rattle.steps.proofs.Marking.{length_behind, revealed_written}
+use Rattle.steps.proofs.Marking.{revealed_written}
 use Rattle.steps.proofs.sending.reveal_words.Goals as goal
 
 pub nonce_at-start-requires : goal.nonce_at-start-requires

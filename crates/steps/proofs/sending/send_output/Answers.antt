@@ -1,7 +1,6 @@
 -- `steps::sending::send_output` meets its contract: what the gate shows is told by its kind and its record, and its share is written first.
 -- Assumes nothing.
 use mathlib.Core.Path.{sym, ◌∙◌}
-use borrow.Author.Rules.{rules}
 use native.Mathlib.Omega.{arith}
 use Rattle.protocol.proofs.Readiness.{tail_part, part_below, part_longer}
 use Rattle.protocol.proofs.Sent.{overwrite_one}

@@ -1,7 +1,6 @@
 -- `steps::sending::send_own` meets its contract: the class tells an input's word from the words of an opening, and the record is the gate's.
 -- Assumes nothing.
 use mathlib.Core.Path.{sym, ◌∙◌}
-use borrow.Author.Rules.{rules}
 use native.Mathlib.Omega.{arith}
 use mathlib.Core.List.{[]}
 use Rattle.field.specs.Words.{ops}

@@ -1,6 +1,5 @@
 -- `steps::sending::shown_part` meets its contract: a give shows the difference, an out the wire.
 -- Assumes nothing.
-use borrow.Author.Rules.{rules}
 use native.Mathlib.Omega.{arith}
 use Rattle.protocol.specs.Send.{shown}
 use Rattle.steps.proofs.sending.shown_part.Goals as goal

@@ -1,14 +1,13 @@
 -- `steps::sending::weigh` meets its contract: after each pass the running sum stands for the products up to its end; one product is its own sum.
 -- Assumes nothing.
-use Prim.Native.Nat.{ℕ, ◌+◌, ◌-◌, ◌≤◌}
+use Prim.Native.Nat.{ℕ, ◌+◌}
 use mathlib.Core.Path.{◌≡◌, sym, ap, ◌∙◌}
 use native.Mathlib.Omega.{arith}
-use borrow.Author.Rules.{rules}
 use lib.ListN.{get_or}
 use Rattle.field.specs.Words.{ops}
 use Rattle.field.proofs.Laws.{laws}
 use Rattle.algebra.proofs.Sums.{sum_zero, sum_one}
-use Rattle.steps.specs.Code.{weighed, Weighed}
+use Rattle.steps.specs.Code.{weighed}
 use Rattle.steps.proofs.sending.weigh.Goals as goal
 
 pub bounds-coefficients-0 : goal.bounds-coefficients-0

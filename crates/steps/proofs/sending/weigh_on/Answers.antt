@@ -1,13 +1,10 @@
 -- `steps::sending::weigh_on` meets its contract: each turn adds a term, and so few terms do not fill the room of the running sum.
 -- Assumes nothing.
-use Prim.Native.Nat.{ℕ, ◌+◌, ◌-◌, ◌*◌, ◌≤◌}
+use Prim.Native.Nat.{ℕ}
 use mathlib.Core.Path.{refl, ap, ◌∙◌}
 use native.Mathlib.Omega.{arith}
-use borrow.Author.Rules.{rules}
-use lib.ListN.{get_or}
-use Rattle.field.specs.Words.{ops, sum_size, term_size}
 use Rattle.field.proofs.Laws.{laws}
-use Rattle.protocol.proofs.Summing.{Running, running_from, running_more}
+use Rattle.protocol.proofs.Summing.{running_from, running_more}
 use Rattle.steps.specs.Code.{weighed}
 use Rattle.steps.proofs.sending.weigh_on.Goals as goal
 

@@ -1,12 +1,7 @@
-use Prim.Native.Nat.{ℕ, ◌+◌, ◌-◌, ◌*◌, ◌≤◌}
-use mathlib.Core.Path.{refl, ap, ◌∙◌}
-use native.Mathlib.Omega.{arith}
-use borrow.Author.Rules.{rules}
+use Prim.Native.Nat.{◌+◌, ◌-◌, ◌*◌, ◌≤◌}
 use lib.ListN.{get_or}
 use Rattle.field.specs.Words.{ops, sum_size, term_size}
-use Rattle.field.proofs.Laws.{laws}
-use Rattle.protocol.proofs.Summing.{Running, running_from, running_more}
-use Rattle.steps.specs.Code.{weighed}
+use Rattle.protocol.proofs.Summing.{Running}
 use Rattle.steps.proofs.sending.weigh_on.Given as goal
 
 abbrev pub invariant-loop-t : goal.invariant-loop-t
