@@ -113,7 +113,7 @@ fn read_leaf(
 }
 
 // (w F)
-#[cycle(read_form_read_one_read_operand_read_scaled_read_two)]
+#[cycle(nesting)]
 fn read_one(
     text: &&[u8],
     table: &&[Word],
@@ -147,7 +147,7 @@ fn read_one(
 }
 
 // (w F N)
-#[cycle(read_form_read_one_read_operand_read_scaled_read_two)]
+#[cycle(nesting)]
 fn read_scaled(
     text: &&[u8],
     table: &&[Word],
@@ -187,7 +187,7 @@ fn read_scaled(
 }
 
 // (w F F)
-#[cycle(read_form_read_one_read_operand_read_scaled_read_two)]
+#[cycle(nesting)]
 fn read_two(
     text: &&[u8],
     table: &&[Word],
@@ -237,7 +237,7 @@ fn read_two(
 }
 
 // A form, from its bracket on, which stands there. So many forms may be open, this one with them.
-#[cycle(read_form_read_one_read_operand_read_scaled_read_two)]
+#[cycle(nesting)]
 fn read_form(
     text: &&[u8],
     table: &&[Word],
@@ -278,7 +278,7 @@ fn read_form(
 
 // A form inside another, or a row. Where no more forms may be open, its bracket is refused. A name or an input, which most operands are, is
 // read at once.
-#[cycle(read_form_read_one_read_operand_read_scaled_read_two)]
+#[cycle(nesting)]
 pub fn read_operand(
     text: &&[u8],
     table: &&[Word],

@@ -1,7 +1,7 @@
 // Requests about sheets: reading, writing, and a score whose circuit is on a sheet. A text stands in a request as a list of numbers.
 ghost use Rattle.std.specs.Prelude.{◌≤◌, ◌≡◌, length};
 ghost use Rattle.field.specs.Words.{size, largest};
-ghost use Rattle.forms.specs.Entry.{readAnswer, readCircuit, writeAnswer, writeText};
+ghost use Rattle.forms.specs.Entry.{read_answer, read_circuit, write_answer, write_text};
 ghost use Rattle.forms.specs.Code.{answer_of};
 ghost use Rattle.requests.specs.Texts.{lows};
 
@@ -37,8 +37,8 @@ fn circuit_room() -> [Word; 1024]
 // The reader on numbers, whose bytes are put into a room.
 fn read_in(parties: usize, text: &[Word], room: &mut [u8], circuit: &mut [Word]) -> Answer
     requires { length text.now ≡ length room.old }
-    ensures { (answer_of result ≡ readAnswer parties size largest (lows text.now) (length circuit.old))
-        × (circuit.new ≡ readCircuit parties size largest (lows text.now) circuit.old) }
+    ensures { (answer_of result ≡ read_answer parties size largest (lows text.now) (length circuit.old))
+        × (circuit.new ≡ read_circuit parties size largest (lows text.now) circuit.old) }
 {
     to_bytes(text, room);
     reader::read_sheet(parties, room, circuit)
@@ -47,8 +47,8 @@ fn read_in(parties: usize, text: &[Word], room: &mut [u8], circuit: &mut [Word])
 // The writer on numbers, whose bytes are put into a room and back.
 fn write_in(parties: usize, c: &[Word], room: &mut [u8], text: &mut [Word]) -> Answer
     requires { length text.old ≡ length room.old }
-    ensures { (answer_of result ≡ writeAnswer parties size c.now (length text.old))
-        × (text.new ≡ writeText parties size c.now (lows text.old)) }
+    ensures { (answer_of result ≡ write_answer parties size c.now (length text.old))
+        × (text.new ≡ write_text parties size c.now (lows text.old)) }
 {
     to_bytes(text, room);
     let answer = writer::write_sheet(parties, c, room);

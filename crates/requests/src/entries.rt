@@ -1,7 +1,7 @@
 // The entries that one party calls, and their answers.
 ghost use Rattle.std.specs.Prelude.{◌≡◌, length};
 ghost use Rattle.field.specs.Words.{ops};
-ghost use Rattle.protocol.specs.Entry.{sendOut, sendScratch, receiveScratch};
+ghost use Rattle.protocol.specs.Entry.{send_out, send_scratch, receive_scratch};
 ghost use Rattle.party.specs.Code.{position_of};
 ghost use Rattle.requests.specs.Calls.{party_in};
 
@@ -99,8 +99,8 @@ pub fn answer_send<W: Write>(
     nonce: &[u8],
     out: &mut [Word],
 ) -> io::Result<()>
-    ensures out { out.new ≡ sendOut ops (party_in request c.now prep.now inputs.now) scratch.old (position_of request.at) coefficients.now nonce.now out.old }
-    ensures scratch { scratch.new ≡ sendScratch ops (party_in request c.now prep.now inputs.now) scratch.old (position_of request.at) coefficients.now nonce.now (length out.old) }
+    ensures out { out.new ≡ send_out ops (party_in request c.now prep.now inputs.now) scratch.old (position_of request.at) coefficients.now nonce.now out.old }
+    ensures scratch { scratch.new ≡ send_scratch ops (party_in request c.now prep.now inputs.now) scratch.old (position_of request.at) coefficients.now nonce.now (length out.old) }
 {
     let read = request.read;
     let at = request.at;
@@ -130,7 +130,7 @@ pub fn answer_receive<W: Write>(
     scratch: &mut [Word],
     heard: &[Word],
 ) -> io::Result<()>
-    ensures scratch { scratch.new ≡ receiveScratch ops (party_in request c.now prep.now inputs.now) scratch.old (position_of request.at) heard.now }
+    ensures scratch { scratch.new ≡ receive_scratch ops (party_in request c.now prep.now inputs.now) scratch.old (position_of request.at) heard.now }
 {
     let read = request.read;
     let at = request.at;

@@ -1,0 +1,34 @@
+-- `writer::writing::put_leaf` meets its contract: its three pieces stand one after another.
+-- Assumes nothing.
+use mathlib.Core.List.{[], ◌∷◌}
+use native.Mathlib.Omega.{arith}
+use Rattle.forms.specs.Form.{closing, begin, decimal, print}
+use Rattle.writer.proofs.Putting.{fits_first, fits_second, fits_third, put_three}
+use Rattle.writer.proofs.writing.put_leaf.Goals as goal
+
+pub put_begin-number-requires : goal.put_begin-number-requires
+unfolding print
+put_begin-number-requires c =
+    fits_first c.args.text.now _ (begin _) (decimal _) (closing ∷ []) c.requires
+
+pub put_number-end-requires : goal.put_number-end-requires
+unfolding print
+put_number-end-requires c =
+    fits_second _ _ (begin _) (decimal _) (closing ∷ []) c.requires
+    c.put_begin-number.ensures
+
+pub put_byte-requires : goal.put_byte-requires
+unfolding print
+put_byte-requires c =
+    omega (
+      arith,
+      fits_third _ _ (begin _) (decimal _) (closing ∷ []) c.requires
+          c.put_begin-number.ensures c.put_number-end.ensures,
+    )
+
+pub returns : goal.returns
+unfolding print
+returns c =
+    put_three _ _ (begin _) (decimal _) (closing ∷ []) c.requires
+    c.put_begin-number.ensures
+    c.put_number-end.ensures c.put_byte.ensures
