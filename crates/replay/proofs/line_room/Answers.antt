@@ -3,11 +3,7 @@
 use Prim.Native.Nat.{ℕ}
 use mathlib.Core.Path.{sym}
 use lib.ListN.{length-replicate}
-use Rattle.replay.proofs.line_room.Statement.{statement}
-use Rattle.replay.proofs.line_room.Tie as tie
+use Rattle.replay.proofs.line_room.Goals as goal
 
-returns : tie.Need-returns
+pub returns : goal.returns
 returns c = sym (length-replicate {0} {A = ℕ} 1048576 0)
-
-pub line-room-spec : {M : Type 1} → statement M
-line-room-spec = tie.close (tie.spec returns)
