@@ -221,10 +221,13 @@ mod tests {
     use crate::requests::Lent;
 
     const REPLAY: &str = include_str!("../../docs/REPLAY.md");
+    const VECTORS: &str = include_str!("../../vectors/README.md");
 
-    /// An example in docs/REPLAY.md: the indented lines of its section, before and after "is answered by".
+    /// An example in docs/REPLAY.md or vectors/README.md: the indented lines of its section, before and after "is answered by".
     fn example(title: &str) -> (String, String) {
-        let (_, example) = REPLAY.split_once(&format!("## {title}\n")).unwrap();
+        let title = format!("## {title}\n");
+        let found = [REPLAY, VECTORS].map(|page| page.split_once(&title));
+        let (_, example) = found.into_iter().flatten().next().unwrap();
         let example = example.split("\n## ").next().unwrap();
         let (request, answer) = example.split_once("is answered by\n").unwrap();
         let indented = |text: &str| {
