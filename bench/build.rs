@@ -1,4 +1,4 @@
-//! Links the proved entries and the scaling of a list: `rt staticlib` writes an archive of each.
+//! Links the proved entries and the scaling of a list: `c/archive` writes an archive of each.
 
 use std::path::Path;
 

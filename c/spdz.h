@@ -1,4 +1,4 @@
-/* The proved online phase for callers in C. Build the archive with `rt staticlib capi`; link target/staticlib/libcapi.a.
+/* The proved online phase for callers in C. Build the archive with `c/archive`; link target/staticlib/libcapi.a.
  *
  * Every list is a pointer and a length in numbers, a text one in bytes. Lists of one call must not overlap, except that two lists that are only
  * read may. Nothing is kept between calls, and nothing is allocated. What each entry does is proved (crates/capi/src)

@@ -10,24 +10,22 @@ use crate::requests::{Answer, Answered, FitRequest, Lent, Request};
 
 const HEAD: &str = "\
 -- Requests of the other implementation, answered by the definitions. Made by a program, not kept.
-use Prim.Native.Nat.{ℕ}
-use mathlib.Core.Path.{_≡_, refl}
-use mathlib.Core.List.{List, [], _∷_}
-use Rattle·field.specs.Prime.{euclid, modular}
-use Rattle·circuit.specs.Round.{First, Second, Own, Open, Commit, Reveal}
-use Rattle·protocol.specs.Position.{Send, Receive, Finished, Aborted}
-use Rattle·protocol.specs.Party.{Party}
-use Rattle·protocol.specs.Entry.{Refusal, Next, Output, Abort, openAnswer, sendAnswer, sendScratch, sendOut, receiveAnswer, receiveScratch}
-use Rattle·protocol.specs.Receive.{Nobody, Blames}
-use Rattle·protocol.specs.Joint.{Joint}
-use Rattle·protocol.specs.JointEntry.{Done, jointAnswer, jointScratch, jointTranscript, jointOutputs}
-use Rattle·protocol.specs.JointEntry.{Refusal as JointRefusal, Aborted as JointAborted}
-use Rattle·theorems.proofs.Hashed.{hashing}
-use Rattle·field.specs.Words.{size}
-use Rattle·ranges.specs.Move.{Nothing, Of}
-use Rattle·ranges.specs.Entry.{queryOf, Leaves, Fits, fitAnswer, fitIntervals, fitMoves}
-use Rattle·ranges.specs.Entry.{Refusal as FitRefusal}
-use Rattle·ranges.proofs.Computing.{computing}
+use Rattle.std.specs.Prelude.{ℕ, ◌≡◌, refl, List, [], ◌∷◌}
+use Rattle.field.specs.Prime.{euclid, modular}
+use Rattle.circuit.specs.Round.{First, Second, Own, Open, Commit, Reveal}
+use Rattle.protocol.specs.Position.{Send, Receive, Finished, Aborted}
+use Rattle.protocol.specs.Party.{Party}
+use Rattle.protocol.specs.Entry.{Refusal, Next, Output, Abort, openAnswer, sendAnswer, sendScratch, sendOut, receiveAnswer, receiveScratch}
+use Rattle.protocol.specs.Receive.{Nobody, Blames}
+use Rattle.protocol.specs.Joint.{Joint}
+use Rattle.protocol.specs.JointEntry.{Done, jointAnswer, jointScratch, jointTranscript, jointOutputs}
+use Rattle.protocol.specs.JointEntry.{Refusal as JointRefusal, Aborted as JointAborted}
+use Rattle.theorems.proofs.Hashed.{hashing}
+use Rattle.field.specs.Words.{size}
+use Rattle.ranges.specs.Move.{Nothing, Of}
+use Rattle.ranges.specs.Entry.{query_of, Leaves, Fits, fitAnswer, fitIntervals, fitMoves}
+use Rattle.ranges.specs.Entry.{Refusal as FitRefusal}
+use Rattle.ranges.proofs.Computing.{computing}
 ";
 
 /// Whether the prover can compute the answer: not where it has a hash, which is shut to a computation.
@@ -58,7 +56,7 @@ pub fn theorems(answered: &[Answered], ranges: &[FitRequest]) -> String {
         };
         let _ = write!(
             text,
-            "\n-- {}\ncase-{number} :\n    {}\nunfolding hashing euclid modular\ncase-{number} = {proofs}\n",
+            "\n-- {}\ncase_{number} :\n    {}\nunfolding hashing euclid modular\ncase_{number} = {proofs}\n",
             one.label(),
             equations.join("\n    × "),
         );
@@ -87,7 +85,7 @@ fn fit_theorem(number: usize, request: &FitRequest) -> Option<String> {
         Some(of) => format!("(Of {} {})", of.gate, of.amount),
     };
     let query = format!(
-        "(queryOf {parties} {} {} {change})",
+        "(query_of {parties} {} {} {change})",
         list(circuit),
         list(ranges)
     );
@@ -97,7 +95,7 @@ fn fit_theorem(number: usize, request: &FitRequest) -> Option<String> {
         Err(refusal) => refused("FitRefusal", refusal),
     };
     Some(format!(
-        "\nfit-{number} :\n    (fitAnswer size {query} {} {} ≡ {result})\n    × (fitIntervals size {query} {} {} ≡ {})\n    × (fitMoves size {query} {} {} ≡ {})\nunfolding computing\nfit-{number} = (refl, refl, refl)\n",
+        "\nfit_{number} :\n    (fitAnswer size {query} {} {} ≡ {result})\n    × (fitIntervals size {query} {} {} ≡ {})\n    × (fitMoves size {query} {} {} ≡ {})\nunfolding computing\nfit_{number} = (refl, refl, refl)\n",
         intervals.len(),
         moves.len(),
         list(intervals),
