@@ -159,9 +159,9 @@ module _ {O : Ops} (F : Field O) (ρ : List ℕ) where
   }
 
   -- The product of a monomial's variables.
-  abbrev monoValue : List ℕ → ℕ
-  monoValue [] = 1
-  monoValue (v ∷ m) = mul (get_or ρ v 0) (monoValue m)
+  abbrev mono_value : List ℕ → ℕ
+  mono_value [] = 1
+  mono_value (v ∷ m) = mul (get_or ρ v 0) (mono_value m)
 
   -- A number with a sign.
   abbrev with_sign : Bool → ℕ → ℕ
@@ -169,72 +169,72 @@ module _ {O : Ops} (F : Field O) (ρ : List ℕ) where
   with_sign false x = neg x
 
   -- What a term says.
-  abbrev termValue : Term → ℕ
-  termValue (signed s m) = with_sign s (monoValue m)
+  abbrev term_value : Term → ℕ
+  term_value (signed s m) = with_sign s (mono_value m)
 
   -- The sum of a polynomial's terms.
-  abbrev polyValue : List Term → ℕ
-  polyValue [] = 0
-  polyValue (t ∷ p) = add (termValue t) (polyValue p)
+  abbrev poly_value : List Term → ℕ
+  poly_value [] = 0
+  poly_value (t ∷ p) = add (term_value t) (poly_value p)
 
   -- A monomial says an element.
-  norm_mono_value : (m : List ℕ) → norm (monoValue m) ≡ monoValue m
+  norm_mono_value : (m : List ℕ) → norm (mono_value m) ≡ mono_value m
   norm_mono_value [] = ring-laws.norm_one F
   norm_mono_value (v ∷ m) = norm_mul _ _
 
   -- A polynomial says an element.
-  norm_poly_value : (p : List Term) → norm (polyValue p) ≡ polyValue p
+  norm_poly_value : (p : List Term) → norm (poly_value p) ≡ poly_value p
   norm_poly_value [] = ring-laws.norm_zero F
   norm_poly_value (t ∷ p) = norm_add _ _
 
   -- A monomial times a variable says the product with its value.
-  mul_var_value : (v : ℕ) (m : List ℕ) → monoValue (mul_var v m) ≡ mul (get_or ρ v 0) (monoValue m)
+  mul_var_value : (v : ℕ) (m : List ℕ) → mono_value (mul_var v m) ≡ mul (get_or ρ v 0) (mono_value m)
   mul_var_value v [] = refl
   mul_var_value v (w ∷ m) = go (leb v w) (mul_var_value v m)
     where
-      go : (first : Bool) → monoValue (mul_var v m) ≡ mul (get_or ρ v 0) (monoValue m)
-          → monoValue (cond first (v ∷ w ∷ m) (w ∷ mul_var v m)) ≡ mul (get_or ρ v 0) (mul (get_or ρ w 0) (monoValue m))
+      go : (first : Bool) → mono_value (mul_var v m) ≡ mul (get_or ρ v 0) (mono_value m)
+          → mono_value (cond first (v ∷ w ∷ m) (w ∷ mul_var v m)) ≡ mul (get_or ρ v 0) (mul (get_or ρ w 0) (mono_value m))
       go true h = refl
       go false h = ap (mul (get_or ρ w 0)) h ∙ ring-laws.mul_left_comm F _ _ _
 
   -- The product of two monomials says the product of what they say.
-  mul_mono_value : (l m : List ℕ) → monoValue (mul_mono l m) ≡ mul (monoValue l) (monoValue m)
+  mul_mono_value : (l m : List ℕ) → mono_value (mul_mono l m) ≡ mul (mono_value l) (mono_value m)
   mul_mono_value [] m = sym (ring-laws.one_mul F _ ∙ norm_mono_value m)
   mul_mono_value (v ∷ l) m =
       mul_var_value v (mul_mono l m) ∙ ap (mul (get_or ρ v 0)) (mul_mono_value l m) ∙ sym (mul_assoc _ _ _)
 
   -- A monomial under the other sign says the opposite.
-  opposite_signs : (s t : Bool) (m : List ℕ) → T (not (mul_sign s t)) → with_sign t (monoValue m) ≡ neg (with_sign s (monoValue m))
+  opposite_signs : (s t : Bool) (m : List ℕ) → T (not (mul_sign s t)) → with_sign t (mono_value m) ≡ neg (with_sign s (mono_value m))
   opposite_signs true true m h = absurd h
   opposite_signs true false m h = refl
-  opposite_signs false true m h = sym (ring-laws.neg_neg F (monoValue m) ∙ norm_mono_value m)
+  opposite_signs false true m h = sym (ring-laws.neg_neg F (mono_value m) ∙ norm_mono_value m)
   opposite_signs false false m h = absurd h
 
   -- Terms that cancel say opposites.
-  opposite_value : (t u : Term) → T (opposite t u) → termValue u ≡ neg (termValue t)
+  opposite_value : (t u : Term) → T (opposite t u) → term_value u ≡ neg (term_value t)
   opposite_value (signed s l) (signed t m) h =
       let hs = both (not (mul_sign s t)) (same_mono l m) h in
-      ap (λ (k : List ℕ). with_sign t (monoValue k)) (sym (same_mono_eq l m hs.1)) ∙ opposite_signs s t l hs.0
+      ap (λ (k : List ℕ). with_sign t (mono_value k)) (sym (same_mono_eq l m hs.1)) ∙ opposite_signs s t l hs.0
 
   -- A polynomial with one more term says the sum with it.
-  add_term_value : (t : Term) (p : List Term) → polyValue (add_term t p) ≡ add (termValue t) (polyValue p)
+  add_term_value : (t : Term) (p : List Term) → poly_value (add_term t p) ≡ add (term_value t) (poly_value p)
   add_term_value t [] = refl
   add_term_value t (u ∷ p) = go (opposite t u) (opposite_value t u) (add_term_value t p)
     where
-      go : (gone : Bool) → (T gone → termValue u ≡ neg (termValue t)) → polyValue (add_term t p) ≡ add (termValue t) (polyValue p)
-          → polyValue (cond gone p (u ∷ add_term t p)) ≡ add (termValue t) (add (termValue u) (polyValue p))
+      go : (gone : Bool) → (T gone → term_value u ≡ neg (term_value t)) → poly_value (add_term t p) ≡ add (term_value t) (poly_value p)
+          → poly_value (cond gone p (u ∷ add_term t p)) ≡ add (term_value t) (add (term_value u) (poly_value p))
       go true e h =
           sym
-          (ap (λ (x : ℕ). add (termValue t) (add x (polyValue p))) (e tt)
-          ∙ ring-laws.cancel F (termValue t) (polyValue p)
+          (ap (λ (x : ℕ). add (term_value t) (add x (poly_value p))) (e tt)
+          ∙ ring-laws.cancel F (term_value t) (poly_value p)
           ∙ norm_poly_value p)
-      go false e h = ap (add (termValue u)) h ∙ ring-laws.add_left_comm F _ _ _
+      go false e h = ap (add (term_value u)) h ∙ ring-laws.add_left_comm F _ _ _
 
   -- The sum of two polynomials says the sum of what they say.
-  add_poly_value : (p q : List Term) → polyValue (add_poly p q) ≡ add (polyValue p) (polyValue q)
+  add_poly_value : (p q : List Term) → poly_value (add_poly p q) ≡ add (poly_value p) (poly_value q)
   add_poly_value [] q = sym (ring-laws.zero-add F _ ∙ norm_poly_value q)
   add_poly_value (t ∷ p) q =
-      add_term_value t (add_poly p q) ∙ ap (add (termValue t)) (add_poly_value p q) ∙ sym (add_assoc _ _ _)
+      add_term_value t (add_poly p q) ∙ ap (add (term_value t)) (add_poly_value p q) ∙ sym (add_assoc _ _ _)
 
   -- The sign of a product is the product of the signs.
   mul_sign_value : (s t : Bool) (x y : ℕ) → with_sign (mul_sign s t) (mul x y) ≡ mul (with_sign s x) (with_sign t y)
@@ -249,61 +249,61 @@ module _ {O : Ops} (F : Field O) (ρ : List ℕ) where
       ∙ norm_mul x y)
 
   -- The product of two terms says the product of what they say.
-  mul_term_value : (t u : Term) → termValue (mul_term t u) ≡ mul (termValue t) (termValue u)
+  mul_term_value : (t u : Term) → term_value (mul_term t u) ≡ mul (term_value t) (term_value u)
   mul_term_value (signed s l) (signed t m) =
-      ap (with_sign (mul_sign s t)) (mul_mono_value l m) ∙ mul_sign_value s t (monoValue l) (monoValue m)
+      ap (with_sign (mul_sign s t)) (mul_mono_value l m) ∙ mul_sign_value s t (mono_value l) (mono_value m)
 
   -- A polynomial times a term says the product with it.
-  scale_value : (t : Term) (p : List Term) → polyValue (scale t p) ≡ mul (termValue t) (polyValue p)
+  scale_value : (t : Term) (p : List Term) → poly_value (scale t p) ≡ mul (term_value t) (poly_value p)
   scale_value t [] = sym (ring-laws.mul_zero F _)
   scale_value t (u ∷ p) =
       add_term_value (mul_term t u) (scale t p)
       ∙ cc (mul_term_value t u, scale_value t p)
-      ∙ sym (mul-add (termValue t) (termValue u) (polyValue p))
+      ∙ sym (mul-add (term_value t) (term_value u) (poly_value p))
 
   -- The product of two polynomials says the product of what they say.
-  mul_poly_value : (p q : List Term) → polyValue (mul_poly p q) ≡ mul (polyValue p) (polyValue q)
+  mul_poly_value : (p q : List Term) → poly_value (mul_poly p q) ≡ mul (poly_value p) (poly_value q)
   mul_poly_value [] q = sym (ring-laws.zero_mul F _)
   mul_poly_value (t ∷ p) q =
       add_poly_value (scale t q) (mul_poly p q)
       ∙ cc (scale_value t q, mul_poly_value p q)
-      ∙ sym (ring-laws.add_mul F (termValue t) (polyValue p) (polyValue q))
+      ∙ sym (ring-laws.add_mul F (term_value t) (poly_value p) (poly_value q))
 
   -- The opposite of a term says the opposite.
-  neg_term_value : (t : Term) → termValue (neg_term t) ≡ neg (termValue t)
+  neg_term_value : (t : Term) → term_value (neg_term t) ≡ neg (term_value t)
   neg_term_value (signed true m) = refl
-  neg_term_value (signed false m) = sym (ring-laws.neg_neg F (monoValue m) ∙ norm_mono_value m)
+  neg_term_value (signed false m) = sym (ring-laws.neg_neg F (mono_value m) ∙ norm_mono_value m)
 
   -- The opposite of a polynomial says the opposite.
-  neg_poly_value : (p : List Term) → polyValue (neg_poly p) ≡ neg (polyValue p)
+  neg_poly_value : (p : List Term) → poly_value (neg_poly p) ≡ neg (poly_value p)
   neg_poly_value [] = sym (ring-laws.neg_zero F)
-  neg_poly_value (t ∷ p) = cc (neg_term_value t, neg_poly_value p, ring-laws.neg_sum F (termValue t) (polyValue p))
+  neg_poly_value (t ∷ p) = cc (neg_term_value t, neg_poly_value p, ring-laws.neg_sum F (term_value t) (poly_value p))
 
   -- An expression multiplied out says the element of what it says.
-  poly_value : (e : Expr) → polyValue (poly e) ≡ norm (value O ρ e)
-  poly_value (var v) = add-zero _ ∙ norm_mul _ _ ∙ mul_one _
-  poly_value zer = sym (ring-laws.norm_zero F)
-  poly_value one = add-zero 1
-  poly_value (a ⊕ b) =
+  poly_value_lem : (e : Expr) → poly_value (poly e) ≡ norm (value O ρ e)
+  poly_value_lem (var v) = add-zero _ ∙ norm_mul _ _ ∙ mul_one _
+  poly_value_lem zer = sym (ring-laws.norm_zero F)
+  poly_value_lem one = add-zero 1
+  poly_value_lem (a ⊕ b) =
       add_poly_value (poly a) (poly b)
-      ∙ cc (poly_value a, poly_value b)
+      ∙ cc (poly_value_lem a, poly_value_lem b)
       ∙ add_norm _ _
       ∙ ring-laws.add_norm_r F _ _
       ∙ sym (norm_add _ _)
-  poly_value (a ⊝ b) =
+  poly_value_lem (a ⊝ b) =
       add_poly_value (poly a) (neg_poly (poly b))
-      ∙ cc (poly_value a, neg_poly_value (poly b), poly_value b)
+      ∙ cc (poly_value_lem a, neg_poly_value (poly b), poly_value_lem b)
       ∙ add_norm _ _
       ∙ ap (add (value O ρ a)) (neg_norm (value O ρ b))
       ∙ sym (sub_neg _ _)
       ∙ sym (ring-laws.norm_sub F _ _)
-  poly_value (a ⊗ b) =
+  poly_value_lem (a ⊗ b) =
       mul_poly_value (poly a) (poly b)
-      ∙ cc (poly_value a, poly_value b)
+      ∙ cc (poly_value_lem a, poly_value_lem b)
       ∙ mul_norm _ _
       ∙ ring-laws.mul_norm_r F _ _
       ∙ sym (norm_mul _ _)
-  poly_value (⊖ a) = neg_poly_value (poly a) ∙ ap neg (poly_value a) ∙ neg_norm _ ∙ sym (norm_neg _)
+  poly_value_lem (⊖ a) = neg_poly_value (poly a) ∙ ap neg (poly_value_lem a) ∙ neg_norm _ ∙ sym (norm_neg _)
 
   -- The element of what an expression says is the element that it says.
   norm_value : (e : Expr) → norm (value O ρ e) ≡ element O ρ e
@@ -316,7 +316,7 @@ module _ {O : Ops} (F : Field O) (ρ : List ℕ) where
   norm_value (⊖ a) = norm_neg _
 
   -- A polynomial with no term left says zero.
-  is_nil_value : (p : List Term) → T (is_nil p) → polyValue p ≡ 0
+  is_nil_value : (p : List Term) → T (is_nil p) → poly_value p ≡ 0
   is_nil_value [] h = refl
   is_nil_value (t ∷ p) h = absurd h
 
@@ -325,7 +325,7 @@ module _ {O : Ops} (F : Field O) (ρ : List ℕ) where
   ring a b h =
       sym (norm_value a)
       ∙ ring-laws.sub_zero_eq F (value O ρ a) (value O ρ b)
-      (sym (ring-laws.norm_sub F _ _) ∙ sym (poly_value (a ⊝ b)) ∙ is_nil_value (poly (a ⊝ b)) h)
+      (sym (ring-laws.norm_sub F _ _) ∙ sym (poly_value_lem (a ⊝ b)) ∙ is_nil_value (poly (a ⊝ b)) h)
       ∙ norm_value b
 
 -- An expression in n variables, as a function of them.

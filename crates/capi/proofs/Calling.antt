@@ -15,7 +15,7 @@ use Rattle.circuit.specs.Gate.{gate, gates}
 use Rattle.circuit.specs.Kind.{is_out, seen_by, alone}
 use Rattle.circuit.specs.Count.{total, count, out_count, prep_size, in_count}
 use Rattle.circuit.specs.Round.{Round, nonce_size, word_count, coefficient_count, check_count}
-use Rattle.circuit.specs.Accept.{askCircuit}
+use Rattle.circuit.specs.Accept.{ask_circuit}
 use Rattle.circuit.proofs.Valid.{valid}
 use Rattle.circuit.proofs.Verdicts.{ask_yes, ask_no, then_left, then_right}
 use Rattle.circuit.proofs.Loops.{then_assoc}
@@ -24,13 +24,13 @@ use Rattle.protocol.specs.Position.{Position, Stage, Send, Receive, Finished, Ab
 use Rattle.protocol.specs.Send.{overwrite}
 use Rattle.protocol.specs.Receive.{Blame, Ruling, Passed, Stopped, scored, finds}
 use Rattle.protocol.specs.Party.{Party}
-use Rattle.protocol.specs.Ask.{ask_parties, askLent, askSend, askReceive}
+use Rattle.protocol.specs.Ask.{ask_parties, ask_lent, ask_send, ask_receive}
 use Rattle.protocol.specs.Entry as E
-use Rattle.protocol.specs.Entry.{leave, openAnswer, sendAnswer, sendOut, sendScratch, receiveAnswer, receiveScratch}
+use Rattle.protocol.specs.Entry.{leave, open_answer, send_answer, send_out, send_scratch, receive_answer, receive_scratch}
 use Rattle.protocol.specs.Joint.{Joint}
 use Rattle.protocol.specs.JointAsk.{ask_joint}
 use Rattle.protocol.specs.JointEntry as Whole
-use Rattle.protocol.specs.JointEntry.{jointAnswer, jointScratch, jointTranscript, jointOutputs}
+use Rattle.protocol.specs.JointEntry.{joint_answer, joint_scratch, joint_transcript, joint_outputs}
 use Rattle.capi.specs.Numbers.{places, answer_numbers, joint_numbers}
 use Rattle.capi.specs.Calls.{room_question, called, returned, answer_verdict, joint_verdict}
 use Rattle.capi.specs.declared.Refusal.{Refusal}
@@ -101,30 +101,30 @@ answered Accepted a e = e
 answered (Refused number index) a e = refl
 
 module _ (O : Ops) (P : Party) (l : List ℕ) where
-  pub open_verdict : answer_verdict (openAnswer O P l) ≡ askLent O.size P l
-  unfolding openAnswer answer_verdict
-  open_verdict = answered (askLent O.size P l) _ refl
+  pub open_verdict : answer_verdict (open_answer O P l) ≡ ask_lent O.size P l
+  unfolding open_answer answer_verdict
+  open_verdict = answered (ask_lent O.size P l) _ refl
 
-  pub open_left : (xs : List ℕ) → leave (askLent O.size P l) (overwrite (answer_numbers (openAnswer O P l)) xs) xs ≡ overwrite (answer_numbers (openAnswer O P l)) xs
-  open_left xs = rw (← open_verdict) (answer_left (openAnswer O P l) xs)
+  pub open_left : (xs : List ℕ) → leave (ask_lent O.size P l) (overwrite (answer_numbers (open_answer O P l)) xs) xs ≡ overwrite (answer_numbers (open_answer O P l)) xs
+  open_left xs = rw (← open_verdict) (answer_left (open_answer O P l) xs)
 
   module _ (at : Position) (coefficients nonce : List ℕ) where
-    pub send_verdict : (k : ℕ) → answer_verdict (sendAnswer O P l at coefficients nonce k) ≡ askSend O.size P l at coefficients nonce k
-    unfolding sendAnswer answer_verdict
-    send_verdict k = answered (askSend O.size P l at coefficients nonce k) _ refl
+    pub send_verdict : (k : ℕ) → answer_verdict (send_answer O P l at coefficients nonce k) ≡ ask_send O.size P l at coefficients nonce k
+    unfolding send_answer answer_verdict
+    send_verdict k = answered (ask_send O.size P l at coefficients nonce k) _ refl
 
     pub send_left : (k : ℕ) (xs : List ℕ)
-        → leave (askSend O.size P l at coefficients nonce k) (overwrite (answer_numbers (sendAnswer O P l at coefficients nonce k)) xs) xs
-        ≡ overwrite (answer_numbers (sendAnswer O P l at coefficients nonce k)) xs
-    send_left k xs = rw (← send_verdict k) (answer_left (sendAnswer O P l at coefficients nonce k) xs)
+        → leave (ask_send O.size P l at coefficients nonce k) (overwrite (answer_numbers (send_answer O P l at coefficients nonce k)) xs) xs
+        ≡ overwrite (answer_numbers (send_answer O P l at coefficients nonce k)) xs
+    send_left k xs = rw (← send_verdict k) (answer_left (send_answer O P l at coefficients nonce k) xs)
 
-    pub out_left : (out : List ℕ) → leave (askSend O.size P l at coefficients nonce (length out)) (sendOut O P l at coefficients nonce out) out ≡ sendOut O P l at coefficients nonce out
-    unfolding sendOut
-    out_left out = leave_again (askSend O.size P l at coefficients nonce (length out)) _ out
+    pub out_left : (out : List ℕ) → leave (ask_send O.size P l at coefficients nonce (length out)) (send_out O P l at coefficients nonce out) out ≡ send_out O P l at coefficients nonce out
+    unfolding send_out
+    out_left out = leave_again (ask_send O.size P l at coefficients nonce (length out)) _ out
 
-    pub noted_left : (k : ℕ) → leave (askSend O.size P l at coefficients nonce k) (sendScratch O P l at coefficients nonce k) l ≡ sendScratch O P l at coefficients nonce k
-    unfolding sendScratch
-    noted_left k = leave_again (askSend O.size P l at coefficients nonce k) _ l
+    pub noted_left : (k : ℕ) → leave (ask_send O.size P l at coefficients nonce k) (send_scratch O P l at coefficients nonce k) l ≡ send_scratch O P l at coefficients nonce k
+    unfolding send_scratch
+    noted_left k = leave_again (ask_send O.size P l at coefficients nonce k) _ l
 
   module _ (at : Position) (heard : List ℕ) where
     outcome_accepted : (r : Round) → answer_verdict (E.outcome O P l at.gate at.held heard r) ≡ Accepted
@@ -146,18 +146,18 @@ module _ (O : Ops) (P : Party) (l : List ℕ) where
     accepted_at Finished = refl
     accepted_at Aborted = refl
 
-    pub receive_verdict : answer_verdict (receiveAnswer O P l at heard) ≡ askReceive O.size P l at heard
-    unfolding receiveAnswer
-    receive_verdict = answered (askReceive O.size P l at heard) _ (accepted_at at.stage)
+    pub receive_verdict : answer_verdict (receive_answer O P l at heard) ≡ ask_receive O.size P l at heard
+    unfolding receive_answer
+    receive_verdict = answered (ask_receive O.size P l at heard) _ (accepted_at at.stage)
 
     pub receive_left : (xs : List ℕ)
-        → leave (askReceive O.size P l at heard) (overwrite (answer_numbers (receiveAnswer O P l at heard)) xs) xs
-        ≡ overwrite (answer_numbers (receiveAnswer O P l at heard)) xs
-    receive_left xs = rw (← receive_verdict) (answer_left (receiveAnswer O P l at heard) xs)
+        → leave (ask_receive O.size P l at heard) (overwrite (answer_numbers (receive_answer O P l at heard)) xs) xs
+        ≡ overwrite (answer_numbers (receive_answer O P l at heard)) xs
+    receive_left xs = rw (← receive_verdict) (answer_left (receive_answer O P l at heard) xs)
 
-    pub scratch_left : leave (askReceive O.size P l at heard) (receiveScratch O P l at heard) l ≡ receiveScratch O P l at heard
-    unfolding receiveScratch
-    scratch_left = leave_again (askReceive O.size P l at heard) _ l
+    pub scratch_left : leave (ask_receive O.size P l at heard) (receive_scratch O P l at heard) l ≡ receive_scratch O P l at heard
+    unfolding receive_scratch
+    scratch_left = leave_again (ask_receive O.size P l at heard) _ l
 
 joined : (v : Verdict) (a : Whole.JointAnswer) → joint_verdict a ≡ Accepted → joint_verdict (Whole.jointly v a) ≡ v
 unfolding Whole.jointly joint_verdict
@@ -172,25 +172,25 @@ ended_accepted Finished gate b rounds = refl
 ended_accepted Aborted gate b rounds = refl
 
 module _ (O : Ops) (J : Joint) (l transcript outputs : List ℕ) where
-  pub joint_verdict_is : joint_verdict (jointAnswer O J l transcript outputs) ≡ ask_joint O.size J l (length transcript) (length outputs)
-  unfolding jointAnswer Whole.verdict
+  pub joint_verdict_is : joint_verdict (joint_answer O J l transcript outputs) ≡ ask_joint O.size J l (length transcript) (length outputs)
+  unfolding joint_answer Whole.verdict
   joint_verdict_is = joined (ask_joint O.size J l (length transcript) (length outputs)) _ (ended_accepted _ _ _ _)
 
   pub joint_answer_left : (xs : List ℕ)
-      → leave (ask_joint O.size J l (length transcript) (length outputs)) (overwrite (joint_numbers (jointAnswer O J l transcript outputs)) xs) xs
-      ≡ overwrite (joint_numbers (jointAnswer O J l transcript outputs)) xs
-  joint_answer_left xs = rw (← joint_verdict_is) (joint_left (jointAnswer O J l transcript outputs) xs)
+      → leave (ask_joint O.size J l (length transcript) (length outputs)) (overwrite (joint_numbers (joint_answer O J l transcript outputs)) xs) xs
+      ≡ overwrite (joint_numbers (joint_answer O J l transcript outputs)) xs
+  joint_answer_left xs = rw (← joint_verdict_is) (joint_left (joint_answer O J l transcript outputs) xs)
 
-  pub joint_scratch_left : leave (ask_joint O.size J l (length transcript) (length outputs)) (jointScratch O J l transcript outputs) l ≡ jointScratch O J l transcript outputs
-  unfolding jointScratch Whole.verdict
+  pub joint_scratch_left : leave (ask_joint O.size J l (length transcript) (length outputs)) (joint_scratch O J l transcript outputs) l ≡ joint_scratch O J l transcript outputs
+  unfolding joint_scratch Whole.verdict
   joint_scratch_left = leave_again (ask_joint O.size J l (length transcript) (length outputs)) _ l
 
-  pub joint_transcript_left : leave (ask_joint O.size J l (length transcript) (length outputs)) (jointTranscript O J l transcript outputs) transcript ≡ jointTranscript O J l transcript outputs
-  unfolding jointTranscript Whole.verdict
+  pub joint_transcript_left : leave (ask_joint O.size J l (length transcript) (length outputs)) (joint_transcript O J l transcript outputs) transcript ≡ joint_transcript O J l transcript outputs
+  unfolding joint_transcript Whole.verdict
   joint_transcript_left = leave_again (ask_joint O.size J l (length transcript) (length outputs)) _ transcript
 
-  pub joint_outputs_left : leave (ask_joint O.size J l (length transcript) (length outputs)) (jointOutputs O J l transcript outputs) outputs ≡ jointOutputs O J l transcript outputs
-  unfolding jointOutputs Whole.verdict
+  pub joint_outputs_left : leave (ask_joint O.size J l (length transcript) (length outputs)) (joint_outputs O J l transcript outputs) outputs ≡ joint_outputs O J l transcript outputs
+  unfolding joint_outputs Whole.verdict
   joint_outputs_left = leave_again (ask_joint O.size J l (length transcript) (length outputs)) _ outputs
 
 -- the last gate of an accepted circuit is an out, so that there is an output
@@ -198,7 +198,7 @@ some_output : (c : List ℕ) (j : ℕ) → is_out (gate c j) ≡ true → 0 < co
 unfolding count total
 some_output c j e = rw e (omega arith)
 
-an_output : (n : ℕ) (c : List ℕ) → askCircuit n size c ≡ Accepted → 0 < out_count c
+an_output : (n : ℕ) (c : List ℕ) → ask_circuit n size c ≡ Accepted → 0 < out_count c
 unfolding out_count
 an_output n c e =
     let ok = valid n size c e in
@@ -230,7 +230,7 @@ both_no false b e = refl
 abbrev before_room : Joint → List ℕ → Verdict
 before_room W l =
     ask_parties W.parties
-    then askCircuit W.parties size W.circuit
+    then ask_circuit W.parties size W.circuit
     then ask 8 0 (eqb (length W.preps) (W.parties * prep_size W.circuit))
     then elements 9 size W.preps
     then ask 10 0 (eqb (length W.inputs) (in_count W.circuit))
@@ -255,14 +255,14 @@ module _ (W : Joint) (l : List ℕ) (transcript : ℕ) where
   nothing_left x before = rw (no_outputs 0) (kept (ask_joint size W l transcript 0) room_question 0 x before)
 
 module _ (W : Joint) (l transcript : List ℕ) where
-  pub scratch_kept : jointScratch ops W l transcript [] ≡ l
-  unfolding jointScratch Whole.verdict
+  pub scratch_kept : joint_scratch ops W l transcript [] ≡ l
+  unfolding joint_scratch Whole.verdict
   scratch_kept = nothing_left W l (length transcript) _ l
 
-  pub transcript_kept : jointTranscript ops W l transcript [] ≡ transcript
-  unfolding jointTranscript Whole.verdict
+  pub transcript_kept : joint_transcript ops W l transcript [] ≡ transcript
+  unfolding joint_transcript Whole.verdict
   transcript_kept = nothing_left W l (length transcript) _ transcript
 
-  pub outputs_kept : jointOutputs ops W l transcript [] ≡ []
-  unfolding jointOutputs Whole.verdict
+  pub outputs_kept : joint_outputs ops W l transcript [] ≡ []
+  unfolding joint_outputs Whole.verdict
   outputs_kept = nothing_left W l (length transcript) _ []

@@ -13,14 +13,14 @@ use Rattle.field.specs.Words.{size}
 use Rattle.circuit.specs.Verdict.{Verdict, Accepted, Refused, ◌then◌}
 use Rattle.circuit.specs.Gate.{gates}
 use Rattle.circuit.specs.Count.{out_count}
-use Rattle.circuit.specs.Accept.{askCircuit}
+use Rattle.circuit.specs.Accept.{ask_circuit}
 use Rattle.circuit.proofs.Valid.{valid}
 use Rattle.circuit.proofs.Verdicts.{then_left, then_right}
 use Rattle.circuit.proofs.Loops.{then_assoc}
 use Rattle.protocol.specs.Ask.{ask_parties}
 use Rattle.protocol.specs.Send.{overwrite}
 use Rattle.protocol.specs.Entry.{leave}
-use Rattle.ranges.specs.Interval.{interval_size, gateStays}
+use Rattle.ranges.specs.Interval.{interval_size, gate_stays}
 use Rattle.ranges.specs.Entry.{
   Query,
   Answer,
@@ -35,10 +35,10 @@ use Rattle.ranges.specs.Entry.{
   ask_rooms,
   finding,
   ask_ranges,
-  askFit,
-  fitAnswer,
-  fitIntervals,
-  fitMoves,
+  ask_fit,
+  fit_answer,
+  fit_intervals,
+  fit_moves,
 }
 use Rattle.capi.specs.Calls.{room_question}
 use Rattle.capi.specs.Fits.{fit_numbers, fit_verdict}
@@ -68,7 +68,7 @@ onward_accepted Fits false j e = refl
 found : (c ranges : List ℕ) (j : ℕ) → fit_verdict (finding size c ranges j) ≡ Accepted
 unfolding finding fit_verdict
 found c ranges zero = refl
-found c ranges (suc j) = onward_accepted (finding size c ranges j) (gateStays size c ranges j) j (found c ranges j)
+found c ranges (suc j) = onward_accepted (finding size c ranges j) (gate_stays size c ranges j) j (found c ranges j)
 
 -- a refusal writes into no list, also where a room that is missing refuses
 list_left : (v : Verdict) (a : Answer) (x before : List ℕ) → leave v (where_fits (answer v a) x before) before ≡ where_fits (answer v a) x before
@@ -82,44 +82,44 @@ list_kept Accepted number index a x before = refl
 list_kept (Refused m i) number index a x before = refl
 
 -- a circuit that is accepted has intervals
-some_intervals : (n : ℕ) (c : List ℕ) → askCircuit n size c ≡ Accepted → 0 < interval_size * gates c
+some_intervals : (n : ℕ) (c : List ℕ) → ask_circuit n size c ≡ Accepted → 0 < interval_size * gates c
 some_intervals n c e = omega (arith, (valid n size c e).two)
 
 module _ (Q : Query) where
-  pub fit_verdict_lem : (room move_room : ℕ) → fit_verdict (fitAnswer size Q room move_room) ≡ askFit size Q room move_room
-  unfolding fitAnswer
-  fit_verdict_lem room move_room = told (askFit size Q room move_room) _ (found Q.circuit Q.ranges (gates Q.circuit))
+  pub fit_verdict_lem : (room move_room : ℕ) → fit_verdict (fit_answer size Q room move_room) ≡ ask_fit size Q room move_room
+  unfolding fit_answer
+  fit_verdict_lem room move_room = told (ask_fit size Q room move_room) _ (found Q.circuit Q.ranges (gates Q.circuit))
 
   pub fit_left : (room move_room : ℕ) (xs : List ℕ)
-      → leave (askFit size Q room move_room) (overwrite (fit_numbers (fitAnswer size Q room move_room)) xs) xs
-      ≡ overwrite (fit_numbers (fitAnswer size Q room move_room)) xs
-  fit_left room move_room xs = rw (← fit_verdict_lem room move_room) (answer_left (fitAnswer size Q room move_room) xs)
+      → leave (ask_fit size Q room move_room) (overwrite (fit_numbers (fit_answer size Q room move_room)) xs) xs
+      ≡ overwrite (fit_numbers (fit_answer size Q room move_room)) xs
+  fit_left room move_room xs = rw (← fit_verdict_lem room move_room) (answer_left (fit_answer size Q room move_room) xs)
 
   pub intervals_left : (list : List ℕ) (move_room : ℕ)
-      → leave (askFit size Q (length list) move_room) (fitIntervals size Q list move_room) list ≡ fitIntervals size Q list move_room
-  unfolding fitIntervals fitAnswer
-  intervals_left list move_room = list_left (askFit size Q (length list) move_room) _ _ list
+      → leave (ask_fit size Q (length list) move_room) (fit_intervals size Q list move_room) list ≡ fit_intervals size Q list move_room
+  unfolding fit_intervals fit_answer
+  intervals_left list move_room = list_left (ask_fit size Q (length list) move_room) _ _ list
 
   pub moves_left : (room : ℕ) (list : List ℕ)
-      → leave (askFit size Q room (length list)) (fitMoves size Q room list) list ≡ fitMoves size Q room list
-  unfolding fitMoves fitAnswer
-  moves_left room list = list_left (askFit size Q room (length list)) _ _ list
+      → leave (ask_fit size Q room (length list)) (fit_moves size Q room list) list ≡ fit_moves size Q room list
+  unfolding fit_moves fit_answer
+  moves_left room list = list_left (ask_fit size Q room (length list)) _ _ list
 
-  pub no_intervals : (room move_room : ℕ) → askFit size Q 0 move_room ≡ (askFit size Q room move_room then Refused room_question 0)
-  unfolding askFit ask_rooms
+  pub no_intervals : (room move_room : ℕ) → ask_fit size Q 0 move_room ≡ (ask_fit size Q room move_room then Refused room_question 0)
+  unfolding ask_fit ask_rooms
   no_intervals room move_room =
       let n = Q.parties in
       let c = Q.circuit in
       let numbers = interval_size * gates c in
       let others = move_room_ok Q.change (out_count c) move_room in
-      last_refused (ask_parties n then askCircuit n size c then ask_ranges size c Q.ranges then ask_change c Q.change)
+      last_refused (ask_parties n then ask_circuit n size c then ask_ranges size c Q.ranges then ask_change c Q.change)
       (leb numbers 0 && others) (leb numbers room && others)
       (λ e. rw (lt-leb numbers 0 (some_intervals n c (then_left _ _ (then_right (ask_parties n) _ e))))) (simp then_assoc) (simp then_assoc)
 
-  pub intervals_kept : (move_room : ℕ) → fitIntervals size Q [] move_room ≡ []
-  unfolding fitIntervals fitAnswer
-  intervals_kept move_room = rw (no_intervals 0 move_room) (list_kept (askFit size Q 0 move_room) room_question 0 _ _ [])
+  pub intervals_kept : (move_room : ℕ) → fit_intervals size Q [] move_room ≡ []
+  unfolding fit_intervals fit_answer
+  intervals_kept move_room = rw (no_intervals 0 move_room) (list_kept (ask_fit size Q 0 move_room) room_question 0 _ _ [])
 
-  pub moves_kept : (list : List ℕ) → fitMoves size Q 0 list ≡ list
-  unfolding fitMoves fitAnswer
-  moves_kept list = rw (no_intervals 0 (length list)) (list_kept (askFit size Q 0 (length list)) room_question 0 _ _ list)
+  pub moves_kept : (list : List ℕ) → fit_moves size Q 0 list ≡ list
+  unfolding fit_moves fit_answer
+  moves_kept list = rw (no_intervals 0 (length list)) (list_kept (ask_fit size Q 0 (length list)) room_question 0 _ _ list)

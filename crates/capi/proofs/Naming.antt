@@ -13,9 +13,9 @@ use Rattle.circuit.specs.Kind.{seen_by, alone}
 use Rattle.protocol.specs.Scratch.{layout, marks_of}
 use Rattle.protocol.specs.Position.{Position, Stage, Send, Receive, Finished, Aborted, when_sending, when_receiving}
 use Rattle.protocol.specs.Party.{Party}
-use Rattle.protocol.specs.Receive.{Blame, Nobody, Blames, Ruling, Passed, Stopped, first_blame, fits, misfit, weighs, heardSum, ruling, scored, finds}
+use Rattle.protocol.specs.Receive.{Blame, Nobody, Blames, Ruling, Passed, Stopped, first_blame, fits, misfit, weighs, heard_sum, ruling, scored, finds}
 use Rattle.protocol.specs.Entry as E
-use Rattle.protocol.specs.Entry.{openAnswer, sendAnswer, receiveAnswer}
+use Rattle.protocol.specs.Entry.{open_answer, send_answer, receive_answer}
 use Rattle.protocol.specs.Joint.{Joint, party}
 use Rattle.protocol.specs.Run.{State, first_ruling, lowest, blamed, begun, said, notes, ends, step, still, ahead, run, whole}
 use Rattle.protocol.specs.JointEntry as J
@@ -59,9 +59,9 @@ module _ (O : Ops) where
       marks : List ℕ
       marks = marks_of P.parties (layout P.circuit) l
 
-      go : (t : Bool) → AmongOf P.parties (cond t (weighs (misfit P.parties marks heard) (eqb (heardSum O P.parties reveal_words 0 heard) 0)) Passed)
+      go : (t : Bool) → AmongOf P.parties (cond t (weighs (misfit P.parties marks heard) (eqb (heard_sum O P.parties reveal_words 0 heard) 0)) Passed)
       go true =
-          weighs_among P.parties (misfit P.parties marks heard) (eqb (heardSum O P.parties reveal_words 0 heard) 0) (misfit_among marks heard P.parties)
+          weighs_among P.parties (misfit P.parties marks heard) (eqb (heard_sum O P.parties reveal_words 0 heard) 0) (misfit_among marks heard P.parties)
       go false = tt
 
   -- what the entries answer
@@ -71,16 +71,16 @@ module _ (O : Ops) where
     answered_tells Accepted a h = h
     answered_tells (Refused number index) a h = tt
 
-    pub open_tells : Tellable (openAnswer O P l)
-    unfolding openAnswer
+    pub open_tells : Tellable (open_answer O P l)
+    unfolding open_answer
     open_tells = answered_tells _ _ tt
 
-    pub send_tells : (at : Position) (coefficients nonce : List ℕ) (room : ℕ) → Tellable (sendAnswer O P l at coefficients nonce room)
-    unfolding sendAnswer
+    pub send_tells : (at : Position) (coefficients nonce : List ℕ) (room : ℕ) → Tellable (send_answer O P l at coefficients nonce room)
+    unfolding send_answer
     send_tells at coefficients nonce room = answered_tells _ _ tt
 
-    pub receive_tells : (at : Position) (heard : List ℕ) → Tellable (receiveAnswer O P l at heard)
-    unfolding receiveAnswer E.outcome E.concludes when_receiving
+    pub receive_tells : (at : Position) (heard : List ℕ) → Tellable (receive_answer O P l at heard)
+    unfolding receive_answer E.outcome E.concludes when_receiving
     receive_tells at heard = answered_tells _ _ (stage at.stage)
       where
         released : (output : ℕ) (next : Position) (t : Bool) → Tellable (cond t (E.Output output next) (E.Next next))
@@ -88,7 +88,7 @@ module _ (O : Ops) where
         released output next false = tt
 
         concluded : (output : ℕ) (r : Round) (v : Ruling) → AmongOf P.parties v → Tellable (E.concludes O P output at.gate at.held r v)
-        concluded output r Passed h = released output (E.nextPosition O P at.gate at.held r Passed) (E.releases r && seen_by (alone P.me) (gate P.circuit at.gate))
+        concluded output r Passed h = released output (E.next_position O P at.gate at.held r Passed) (E.releases r && seen_by (alone P.me) (gate P.circuit at.gate))
         concluded output r (Stopped b) h = among_number P.parties b small h
 
         stage : (s : Stage) → Tellable (when_receiving s (E.Next at) (E.outcome O P l at.gate at.held heard))
@@ -134,8 +134,8 @@ module _ (O : Ops) where
     unfolding whole begun
     whole_among l = run_among _ (begun O W l) tt
 
-    pub joint_tells : (l transcript outputs : List ℕ) → JointTellable (J.jointAnswer O W l transcript outputs)
-    unfolding J.jointAnswer J.jointly J.ended
+    pub joint_tells : (l transcript outputs : List ℕ) → JointTellable (J.joint_answer O W l transcript outputs)
+    unfolding J.joint_answer J.jointly J.ended
     joint_tells l transcript outputs = given (J.verdict O W l transcript outputs)
       where
         ended : (t : Stage) (gate rounds : ℕ) (b : Blame) → Among W.parties b → JointTellable (J.ended t gate b rounds)

@@ -11,7 +11,7 @@ use borrow.Author.Tests.{lt-leb}
 use Rattle.field.specs.Words.{size, largest}
 use Rattle.circuit.specs.Verdict.{Verdict, Accepted, Refused, ◌then◌}
 use Rattle.circuit.specs.Gate.{gates}
-use Rattle.circuit.specs.Accept.{askCircuit}
+use Rattle.circuit.specs.Accept.{ask_circuit}
 use Rattle.circuit.proofs.Valid.{valid}
 use Rattle.circuit.proofs.Verdicts.{then_right}
 use Rattle.circuit.proofs.Loops.{then_assoc}
@@ -27,16 +27,16 @@ use Rattle.forms.specs.Entry.{
   answer,
   ask_shape,
   circuit_in,
-  askRead,
-  readAnswer,
-  readCircuit,
+  ask_read,
+  read_answer,
+  read_circuit,
   rows_up_to,
   row_of,
   rows_of,
   sheet_of,
-  askWrite,
-  writeAnswer,
-  writeText,
+  ask_write,
+  write_answer,
+  write_text,
 }
 use Rattle.forms.proofs.Lengths.{print_more}
 use Rattle.capi.specs.Calls.{room_question}
@@ -57,10 +57,10 @@ told Accepted count = refl
 told (Refused number index) count = refl
 
 -- a circuit that is accepted has gates, and so has its sheet bytes
-some_gates : (n : ℕ) (c : List ℕ) → askCircuit n size c ≡ Accepted → 0 < length c
+some_gates : (n : ℕ) (c : List ℕ) → ask_circuit n size c ≡ Accepted → 0 < length c
 some_gates n c e = let v = valid n size c e in omega (arith, v.whole, v.two)
 
-some_bytes : (n : ℕ) (c : List ℕ) → askCircuit n size c ≡ Accepted → 0 < length (sheet_of c)
+some_bytes : (n : ℕ) (c : List ℕ) → ask_circuit n size c ≡ Accepted → 0 < length (sheet_of c)
 unfolding sheet_of rows_of
 some_bytes n c e =
     let v = valid n size c e in
@@ -68,52 +68,52 @@ some_bytes n c e =
     rw (← last, print_more c (gates c - 1), length-append (print_rows (rows_up_to c (gates c - 1))), length-append (print (row_of c (gates c - 1)))) (omega arith)
 
 module _ (n : ℕ) (text : List ℕ) where
-  pub read_verdict : (room : ℕ) → sheet_verdict (readAnswer n size largest text room) ≡ askRead n size largest text room
-  unfolding readAnswer
-  read_verdict room = told (askRead n size largest text room) _
+  pub read_verdict : (room : ℕ) → sheet_verdict (read_answer n size largest text room) ≡ ask_read n size largest text room
+  unfolding read_answer
+  read_verdict room = told (ask_read n size largest text room) _
 
   pub read_left : (room : ℕ) (xs : List ℕ)
-      → leave (askRead n size largest text room) (overwrite (sheet_numbers sheet_read (readAnswer n size largest text room)) xs) xs
-      ≡ overwrite (sheet_numbers sheet_read (readAnswer n size largest text room)) xs
-  read_left room xs = rw (← read_verdict room) (sheet_left sheet_read (readAnswer n size largest text room) xs)
+      → leave (ask_read n size largest text room) (overwrite (sheet_numbers sheet_read (read_answer n size largest text room)) xs) xs
+      ≡ overwrite (sheet_numbers sheet_read (read_answer n size largest text room)) xs
+  read_left room xs = rw (← read_verdict room) (sheet_left sheet_read (read_answer n size largest text room) xs)
 
   pub circuit_left : (circuit : List ℕ)
-      → leave (askRead n size largest text (length circuit)) (readCircuit n size largest text circuit) circuit ≡ readCircuit n size largest text circuit
-  unfolding readCircuit
-  circuit_left circuit = leave_again (askRead n size largest text (length circuit)) _ circuit
+      → leave (ask_read n size largest text (length circuit)) (read_circuit n size largest text circuit) circuit ≡ read_circuit n size largest text circuit
+  unfolding read_circuit
+  circuit_left circuit = leave_again (ask_read n size largest text (length circuit)) _ circuit
 
-  pub no_circuit : (room : ℕ) → askRead n size largest text 0 ≡ (askRead n size largest text room then Refused room_question 0)
-  unfolding askRead
+  pub no_circuit : (room : ℕ) → ask_read n size largest text 0 ≡ (ask_read n size largest text room then Refused room_question 0)
+  unfolding ask_read
   no_circuit room =
       let c = circuit_in largest text in
-      last_refused (ask_parties n then ask_shape (reading largest text) then askCircuit n size c) (leb (length c) 0) (leb (length c) room)
+      last_refused (ask_parties n then ask_shape (reading largest text) then ask_circuit n size c) (leb (length c) 0) (leb (length c) room)
       (λ e. lt-leb (length c) 0 (some_gates n c (then_right _ _ (then_right _ _ e)))) (simp then_assoc) (simp then_assoc)
 
-  pub circuit_kept : readCircuit n size largest text [] ≡ []
-  unfolding readCircuit
-  circuit_kept = rw (no_circuit 0) (kept (askRead n size largest text 0) room_question 0 _ [])
+  pub circuit_kept : read_circuit n size largest text [] ≡ []
+  unfolding read_circuit
+  circuit_kept = rw (no_circuit 0) (kept (ask_read n size largest text 0) room_question 0 _ [])
 
 module _ (n : ℕ) (c : List ℕ) where
-  pub write_verdict : (room : ℕ) → sheet_verdict (writeAnswer n size c room) ≡ askWrite n size c room
-  unfolding writeAnswer
-  write_verdict room = told (askWrite n size c room) _
+  pub write_verdict : (room : ℕ) → sheet_verdict (write_answer n size c room) ≡ ask_write n size c room
+  unfolding write_answer
+  write_verdict room = told (ask_write n size c room) _
 
   pub write_left : (room : ℕ) (xs : List ℕ)
-      → leave (askWrite n size c room) (overwrite (sheet_numbers sheet_written (writeAnswer n size c room)) xs) xs
-      ≡ overwrite (sheet_numbers sheet_written (writeAnswer n size c room)) xs
-  write_left room xs = rw (← write_verdict room) (sheet_left sheet_written (writeAnswer n size c room) xs)
+      → leave (ask_write n size c room) (overwrite (sheet_numbers sheet_written (write_answer n size c room)) xs) xs
+      ≡ overwrite (sheet_numbers sheet_written (write_answer n size c room)) xs
+  write_left room xs = rw (← write_verdict room) (sheet_left sheet_written (write_answer n size c room) xs)
 
-  pub text_left : (text : List ℕ) → leave (askWrite n size c (length text)) (writeText n size c text) text ≡ writeText n size c text
-  unfolding writeText
-  text_left text = leave_again (askWrite n size c (length text)) _ text
+  pub text_left : (text : List ℕ) → leave (ask_write n size c (length text)) (write_text n size c text) text ≡ write_text n size c text
+  unfolding write_text
+  text_left text = leave_again (ask_write n size c (length text)) _ text
 
-  pub no_text : (room : ℕ) → askWrite n size c 0 ≡ (askWrite n size c room then Refused room_question 0)
-  unfolding askWrite
+  pub no_text : (room : ℕ) → ask_write n size c 0 ≡ (ask_write n size c room then Refused room_question 0)
+  unfolding ask_write
   no_text room =
       let bytes = length (sheet_of c) in
-      last_refused (ask_parties n then askCircuit n size c) (leb bytes 0) (leb bytes room)
+      last_refused (ask_parties n then ask_circuit n size c) (leb bytes 0) (leb bytes room)
       (λ e. lt-leb bytes 0 (some_bytes n c (then_right _ _ e))) (simp then_assoc) (simp then_assoc)
 
-  pub text_kept : writeText n size c [] ≡ []
-  unfolding writeText
-  text_kept = rw (no_text 0) (kept (askWrite n size c 0) room_question 0 _ [])
+  pub text_kept : write_text n size c [] ≡ []
+  unfolding write_text
+  text_kept = rw (no_text 0) (kept (ask_write n size c 0) room_question 0 _ [])

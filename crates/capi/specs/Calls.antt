@@ -5,7 +5,7 @@ use Rattle.field.specs.Words.{size}
 use Rattle.circuit.specs.Verdict.{Verdict, Accepted, Refused, ask, ◌then◌}
 use Rattle.protocol.specs.Position.{Position}
 use Rattle.protocol.specs.Party.{Party}
-use Rattle.protocol.specs.Ask.{askLent, askSend, askReceive}
+use Rattle.protocol.specs.Ask.{ask_lent, ask_send, ask_receive}
 use Rattle.protocol.specs.Entry as E
 use Rattle.protocol.specs.Joint.{Joint}
 use Rattle.protocol.specs.JointAsk.{ask_joint}
@@ -21,13 +21,13 @@ unfoldable pub called : Verdict → List ℕ → Verdict
 called v answer = v then ask room_question 0 (leb places (length answer))
 
 abbrev pub open_call : Party → List ℕ → List ℕ → Verdict
-open_call P l answer = called (askLent size P l) answer
+open_call P l answer = called (ask_lent size P l) answer
 
 abbrev pub send_call : Party → List ℕ → Position → List ℕ → List ℕ → List ℕ → List ℕ → Verdict
-send_call P l at coefficients nonce out answer = called (askSend size P l at coefficients nonce (length out)) answer
+send_call P l at coefficients nonce out answer = called (ask_send size P l at coefficients nonce (length out)) answer
 
 abbrev pub receive_call : Party → List ℕ → Position → List ℕ → List ℕ → Verdict
-receive_call P l at heard answer = called (askReceive size P l at heard) answer
+receive_call P l at heard answer = called (ask_receive size P l at heard) answer
 
 abbrev pub joint_call : Joint → List ℕ → List ℕ → List ℕ → List ℕ → Verdict
 joint_call J l transcript outputs answer = called (ask_joint size J l (length transcript) (length outputs)) answer

@@ -4,7 +4,7 @@ use Rattle.std.specs.Prelude.{ℕ, cond, List, [], ◌∷◌, length, eqb}
 use Rattle.field.specs.Words.{size}
 use Rattle.circuit.specs.Verdict.{Verdict, Accepted, Refused}
 use Rattle.ranges.specs.Move.{Change, Nothing, Of}
-use Rattle.ranges.specs.Entry.{Query, Answer, Refusal, Leaves, Fits, askFit}
+use Rattle.ranges.specs.Entry.{Query, Answer, Refusal, Leaves, Fits, ask_fit}
 use Rattle.capi.specs.Calls.{called}
 
 -- the number that says that no change is given, whatever gate and amount stand beside it; every other says that one is
@@ -34,4 +34,4 @@ fit_verdict (Leaves gate) = Accepted
 fit_verdict Fits = Accepted
 
 abbrev pub fit_call : Query → List ℕ → List ℕ → List ℕ → Verdict
-fit_call Q intervals moves answer = called (askFit size Q (length intervals) (length moves)) answer
+fit_call Q intervals moves answer = called (ask_fit size Q (length intervals) (length moves)) answer

@@ -3,7 +3,7 @@
 use Rattle.std.specs.Prelude.{ℕ, List, [], ◌∷◌, length}
 use Rattle.field.specs.Words.{size, largest}
 use Rattle.circuit.specs.Verdict.{Verdict, Accepted, Refused}
-use Rattle.forms.specs.Entry.{Answer, Refusal, Done, askRead, askWrite}
+use Rattle.forms.specs.Entry.{Answer, Refusal, Done, ask_read, ask_write}
 use Rattle.capi.specs.Calls.{called}
 
 -- what an answer begins with: of a sheet that was read, and of one that was written
@@ -24,7 +24,7 @@ sheet_verdict (Refusal number index) = Refused number index
 sheet_verdict (Done count) = Accepted
 
 abbrev pub read_call : ℕ → List ℕ → List ℕ → List ℕ → Verdict
-read_call parties text circuit answer = called (askRead parties size largest text (length circuit)) answer
+read_call parties text circuit answer = called (ask_read parties size largest text (length circuit)) answer
 
 abbrev pub write_call : ℕ → List ℕ → List ℕ → List ℕ → Verdict
-write_call parties c text answer = called (askWrite parties size c (length text)) answer
+write_call parties c text answer = called (ask_write parties size c (length text)) answer

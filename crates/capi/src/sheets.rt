@@ -4,7 +4,7 @@ ghost use Rattle.field.specs.Words.{size, largest};
 ghost use Rattle.circuit.specs.Code.{verdict_of};
 ghost use Rattle.protocol.specs.Send.{overwrite};
 ghost use Rattle.protocol.specs.Entry.{leave};
-ghost use Rattle.forms.specs.Entry.{readAnswer, readCircuit, writeAnswer, writeText};
+ghost use Rattle.forms.specs.Entry.{read_answer, read_circuit, write_answer, write_text};
 ghost use Rattle.forms.specs.Code.{answer_of};
 ghost use Rattle.capi.specs.Numbers.{places};
 ghost use Rattle.capi.specs.Calls.{returned};
@@ -55,11 +55,11 @@ pub fn spdz_read_sheet(
     ensures returned { result ≡ returned (read_call parties text.now circuit.old answer.old) }
     ensures answer { answer.new
         ≡ leave (read_call parties text.now circuit.old answer.old)
-        (overwrite (sheet_numbers sheet_read (readAnswer parties size largest text.now (length circuit.old))) answer.old)
+        (overwrite (sheet_numbers sheet_read (read_answer parties size largest text.now (length circuit.old))) answer.old)
         answer.old }
     ensures circuit { circuit.new
         ≡ leave (read_call parties text.now circuit.old answer.old)
-        (readCircuit parties size largest text.now circuit.old)
+        (read_circuit parties size largest text.now circuit.old)
         circuit.old }
 {
     if answer.len() < crate::PLACES {
@@ -79,11 +79,11 @@ pub fn spdz_write_sheet(parties: usize, c: &[Word], text: &mut [u8], answer: &mu
     ensures returned { result ≡ returned (write_call parties c.now text.old answer.old) }
     ensures answer { answer.new
         ≡ leave (write_call parties c.now text.old answer.old)
-        (overwrite (sheet_numbers sheet_written (writeAnswer parties size c.now (length text.old))) answer.old)
+        (overwrite (sheet_numbers sheet_written (write_answer parties size c.now (length text.old))) answer.old)
         answer.old }
     ensures text { text.new
         ≡ leave (write_call parties c.now text.old answer.old)
-        (writeText parties size c.now text.old)
+        (write_text parties size c.now text.old)
         text.old }
 {
     if answer.len() < crate::PLACES {

@@ -3,7 +3,7 @@ ghost use Rattle.std.specs.Prelude.{◌≡◌, length};
 ghost use Rattle.field.specs.Words.{size};
 ghost use Rattle.protocol.specs.Send.{overwrite};
 ghost use Rattle.protocol.specs.Entry.{leave};
-ghost use Rattle.ranges.specs.Entry.{query_of, fitAnswer, fitIntervals, fitMoves};
+ghost use Rattle.ranges.specs.Entry.{query_of, fit_answer, fit_intervals, fit_moves};
 ghost use Rattle.capi.specs.Calls.{returned};
 ghost use Rattle.capi.specs.Fits.{change_at, fit_numbers, fit_call};
 
@@ -29,19 +29,19 @@ pub extern "C" fn spdz_will_fit(
     ensures answer { answer.new
         ≡ leave (fit_call (query_of parties c.now ranges.now (change_at changes gate amount))
         intervals.old moves.old answer.old)
-        (overwrite (fit_numbers (fitAnswer size (query_of parties c.now ranges.now (change_at changes gate amount))
+        (overwrite (fit_numbers (fit_answer size (query_of parties c.now ranges.now (change_at changes gate amount))
         (length intervals.old) (length moves.old))) answer.old)
         answer.old }
     ensures intervals { intervals.new
         ≡ leave (fit_call (query_of parties c.now ranges.now (change_at changes gate amount))
         intervals.old moves.old answer.old)
-        (fitIntervals size (query_of parties c.now ranges.now (change_at changes gate amount))
+        (fit_intervals size (query_of parties c.now ranges.now (change_at changes gate amount))
         intervals.old (length moves.old))
         intervals.old }
     ensures moves { moves.new
         ≡ leave (fit_call (query_of parties c.now ranges.now (change_at changes gate amount))
         intervals.old moves.old answer.old)
-        (fitMoves size (query_of parties c.now ranges.now (change_at changes gate amount))
+        (fit_moves size (query_of parties c.now ranges.now (change_at changes gate amount))
         (length intervals.old) moves.old)
         moves.old }
 {

@@ -8,8 +8,8 @@ ghost use Rattle.std.specs.Prelude.{◌≡◌, length};
 ghost use Rattle.field.specs.Words.{ops};
 ghost use Rattle.protocol.specs.Party.{party_of};
 ghost use Rattle.protocol.specs.Send.{overwrite};
-ghost use Rattle.protocol.specs.Entry.{leave, openAnswer, sendAnswer, sendOut, sendScratch, receiveAnswer, receiveScratch};
-ghost use Rattle.protocol.specs.JointEntry.{jointAnswer, jointScratch, jointTranscript, jointOutputs};
+ghost use Rattle.protocol.specs.Entry.{leave, open_answer, send_answer, send_out, send_scratch, receive_answer, receive_scratch};
+ghost use Rattle.protocol.specs.JointEntry.{joint_answer, joint_scratch, joint_transcript, joint_outputs};
 ghost use Rattle.joint.specs.Code.{joint_of};
 ghost use Rattle.capi.specs.Stages.{position_at};
 ghost use Rattle.capi.specs.Numbers.{answer_numbers, joint_numbers};
@@ -34,7 +34,7 @@ pub extern "C" fn spdz_open_run(
         l.now answer.old) }
     ensures answer { answer.new
         ≡ leave (open_call (party_of parties me c.now prep.now inputs.now) l.now answer.old)
-        (overwrite (answer_numbers (openAnswer ops (party_of parties me c.now prep.now inputs.now)
+        (overwrite (answer_numbers (open_answer ops (party_of parties me c.now prep.now inputs.now)
         l.now)) answer.old)
         answer.old }
 {
@@ -65,19 +65,19 @@ pub extern "C" fn spdz_send(
     ensures answer { answer.new
         ≡ leave (send_call (party_of parties me c.now prep.now inputs.now)
         l.old (position_at gate half round held) coefficients.now nonce.now out.old answer.old)
-        (overwrite (answer_numbers (sendAnswer ops (party_of parties me c.now prep.now inputs.now)
+        (overwrite (answer_numbers (send_answer ops (party_of parties me c.now prep.now inputs.now)
         l.old (position_at gate half round held) coefficients.now nonce.now (length out.old))) answer.old)
         answer.old }
     ensures out { out.new
         ≡ leave (send_call (party_of parties me c.now prep.now inputs.now)
         l.old (position_at gate half round held) coefficients.now nonce.now out.old answer.old)
-        (sendOut ops (party_of parties me c.now prep.now inputs.now)
+        (send_out ops (party_of parties me c.now prep.now inputs.now)
         l.old (position_at gate half round held) coefficients.now nonce.now out.old)
         out.old }
     ensures scratch { l.new
         ≡ leave (send_call (party_of parties me c.now prep.now inputs.now)
         l.old (position_at gate half round held) coefficients.now nonce.now out.old answer.old)
-        (sendScratch ops (party_of parties me c.now prep.now inputs.now)
+        (send_scratch ops (party_of parties me c.now prep.now inputs.now)
         l.old (position_at gate half round held) coefficients.now nonce.now (length out.old))
         l.old }
 {
@@ -121,13 +121,13 @@ pub extern "C" fn spdz_receive(
     ensures answer { answer.new
         ≡ leave (receive_call (party_of parties me c.now prep.now inputs.now)
         l.old (position_at gate half round held) heard.now answer.old)
-        (overwrite (answer_numbers (receiveAnswer ops (party_of parties me c.now prep.now inputs.now)
+        (overwrite (answer_numbers (receive_answer ops (party_of parties me c.now prep.now inputs.now)
         l.old (position_at gate half round held) heard.now)) answer.old)
         answer.old }
     ensures scratch { l.new
         ≡ leave (receive_call (party_of parties me c.now prep.now inputs.now)
         l.old (position_at gate half round held) heard.now answer.old)
-        (receiveScratch ops (party_of parties me c.now prep.now inputs.now)
+        (receive_scratch ops (party_of parties me c.now prep.now inputs.now)
         l.old (position_at gate half round held) heard.now)
         l.old }
 {
@@ -156,25 +156,25 @@ pub extern "C" fn spdz_joint_run(
     ensures answer { answer.new
         ≡ leave (joint_call (joint_of parties c.now preps.now inputs.now coefficients.now nonces.now)
         l.old transcript.old outputs.old answer.old)
-        (overwrite (joint_numbers (jointAnswer ops (joint_of parties c.now preps.now inputs.now coefficients.now nonces.now)
+        (overwrite (joint_numbers (joint_answer ops (joint_of parties c.now preps.now inputs.now coefficients.now nonces.now)
         l.old transcript.old outputs.old)) answer.old)
         answer.old }
     ensures scratch { l.new
         ≡ leave (joint_call (joint_of parties c.now preps.now inputs.now coefficients.now nonces.now)
         l.old transcript.old outputs.old answer.old)
-        (jointScratch ops (joint_of parties c.now preps.now inputs.now coefficients.now nonces.now)
+        (joint_scratch ops (joint_of parties c.now preps.now inputs.now coefficients.now nonces.now)
         l.old transcript.old outputs.old)
         l.old }
     ensures transcript { transcript.new
         ≡ leave (joint_call (joint_of parties c.now preps.now inputs.now coefficients.now nonces.now)
         l.old transcript.old outputs.old answer.old)
-        (jointTranscript ops (joint_of parties c.now preps.now inputs.now coefficients.now nonces.now)
+        (joint_transcript ops (joint_of parties c.now preps.now inputs.now coefficients.now nonces.now)
         l.old transcript.old outputs.old)
         transcript.old }
     ensures outputs { outputs.new
         ≡ leave (joint_call (joint_of parties c.now preps.now inputs.now coefficients.now nonces.now)
         l.old transcript.old outputs.old answer.old)
-        (jointOutputs ops (joint_of parties c.now preps.now inputs.now coefficients.now nonces.now)
+        (joint_outputs ops (joint_of parties c.now preps.now inputs.now coefficients.now nonces.now)
         l.old transcript.old outputs.old)
         outputs.old }
 {

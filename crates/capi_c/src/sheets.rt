@@ -3,7 +3,7 @@ ghost use Rattle.std.specs.Prelude.{◌≡◌, length};
 ghost use Rattle.field.specs.Words.{size, largest};
 ghost use Rattle.protocol.specs.Send.{overwrite};
 ghost use Rattle.protocol.specs.Entry.{leave};
-ghost use Rattle.forms.specs.Entry.{readAnswer, readCircuit, writeAnswer, writeText};
+ghost use Rattle.forms.specs.Entry.{read_answer, read_circuit, write_answer, write_text};
 ghost use Rattle.capi.specs.Calls.{returned};
 ghost use Rattle.capi.specs.Sheets.{sheet_read, sheet_written, sheet_numbers, read_call, write_call};
 
@@ -21,11 +21,11 @@ pub extern "C" fn spdz_read_sheet(
     ensures returned { result ≡ returned (read_call parties text.now circuit.old answer.old) }
     ensures answer { answer.new
         ≡ leave (read_call parties text.now circuit.old answer.old)
-        (overwrite (sheet_numbers sheet_read (readAnswer parties size largest text.now (length circuit.old))) answer.old)
+        (overwrite (sheet_numbers sheet_read (read_answer parties size largest text.now (length circuit.old))) answer.old)
         answer.old }
     ensures circuit { circuit.new
         ≡ leave (read_call parties text.now circuit.old answer.old)
-        (readCircuit parties size largest text.now circuit.old)
+        (read_circuit parties size largest text.now circuit.old)
         circuit.old }
 {
     capi::sheets::spdz_read_sheet(parties, text, circuit, answer)
@@ -42,11 +42,11 @@ pub extern "C" fn spdz_write_sheet(
     ensures returned { result ≡ returned (write_call parties c.now text.old answer.old) }
     ensures answer { answer.new
         ≡ leave (write_call parties c.now text.old answer.old)
-        (overwrite (sheet_numbers sheet_written (writeAnswer parties size c.now (length text.old))) answer.old)
+        (overwrite (sheet_numbers sheet_written (write_answer parties size c.now (length text.old))) answer.old)
         answer.old }
     ensures text { text.new
         ≡ leave (write_call parties c.now text.old answer.old)
-        (writeText parties size c.now text.old)
+        (write_text parties size c.now text.old)
         text.old }
 {
     capi::sheets::spdz_write_sheet(parties, c, text, answer)

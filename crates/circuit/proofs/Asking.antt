@@ -12,7 +12,7 @@ use borrow.Author.Tests.{eq-eqb, le-leb}
 use Rattle.circuit.specs.Verdict.{Verdict, Accepted, Refused, ask, ◌then◌, each}
 use Rattle.circuit.specs.Gate.{gate_size, entry, gate, gates}
 use Rattle.circuit.specs.Kind.{Role, Shape, shape, role, is_out}
-use Rattle.circuit.specs.Accept.{fewest_gates, most_gates, is_kind, name_ok, rest_ok, askName, askRest, askGate, askSize, askLast, askCircuit}
+use Rattle.circuit.specs.Accept.{fewest_gates, most_gates, is_kind, name_ok, rest_ok, ask_name, ask_rest, ask_gate, ask_size, ask_last, ask_circuit}
 use Rattle.circuit.proofs.Tests.{both_true}
 use Rattle.circuit.proofs.Verdicts.{said_yes, said_no, ask_yes, ask_no, then_both, then_refused, then_passed, each_none, each_more, each_refused, each_done}
 
@@ -55,20 +55,20 @@ module _ (n q : ℕ) (c : List ℕ) (j : ℕ) where
     rest_said : {r : Bool} → r ≡ rest_ok q x w → r ≡ rest_ok q (entry c j (suc k)) (role (shape (gate c j)) (suc k))
     rest_said e = rw (← number_at c j k, ← here, ← found) e
 
-    pub name_yes : {r : Bool} → r ≡ name_ok n c j x w → not r ≡ false → askName n q c j k ≡ Accepted
-    unfolding askName
+    pub name_yes : {r : Bool} → r ≡ name_ok n c j x w → not r ≡ false → ask_name n q c j k ≡ Accepted
+    unfolding ask_name
     name_yes e h = ask_yes 5 j (said_yes (name_said e) h)
 
-    pub name_no : {r : Bool} → r ≡ name_ok n c j x w → not r ≡ true → askName n q c j k ≡ Refused 5 j
-    unfolding askName
+    pub name_no : {r : Bool} → r ≡ name_ok n c j x w → not r ≡ true → ask_name n q c j k ≡ Refused 5 j
+    unfolding ask_name
     name_no e h = ask_no 5 j (said_no (name_said e) h)
 
-    pub rest_yes : {r : Bool} → r ≡ rest_ok q x w → not r ≡ false → askRest n q c j k ≡ Accepted
-    unfolding askRest
+    pub rest_yes : {r : Bool} → r ≡ rest_ok q x w → not r ≡ false → ask_rest n q c j k ≡ Accepted
+    unfolding ask_rest
     rest_yes e h = ask_yes 6 j (said_yes (rest_said e) h)
 
-    pub rest_no : {r : Bool} → r ≡ rest_ok q x w → not r ≡ true → askRest n q c j k ≡ Refused 6 j
-    unfolding askRest
+    pub rest_no : {r : Bool} → r ≡ rest_ok q x w → not r ≡ true → ask_rest n q c j k ≡ Refused 6 j
+    unfolding ask_rest
     rest_no e h = ask_no 6 j (said_no (rest_said e) h)
 
   -- the gate is refused at its kind, at a name or at the rest, or passes
@@ -76,41 +76,41 @@ module _ (n q : ℕ) (c : List ℕ) (j : ℕ) where
     is_kind_lem : not r ≡ false → ask 4 j (is_kind (entry c j 0)) ≡ Accepted
     is_kind_lem h = ask_yes 4 j (rw (← kind_at c j, ← here) (said_yes said h))
 
-    pub gate_kind : not r ≡ true → askGate n q c j ≡ Refused 4 j
-    unfolding askGate
+    pub gate_kind : not r ≡ true → ask_gate n q c j ≡ Refused 4 j
+    unfolding ask_gate
     gate_kind h = then_refused _ (ask_no 4 j (rw (← kind_at c j, ← here) (said_no said h)))
 
-    module _ (h : not r ≡ false) {k : ℕ} (names : Numbers (askName n q c j) k) where
-      pub gate_name : k < 3 → askName n q c j k ≡ Refused 5 j → askGate n q c j ≡ Refused 5 j
-      unfolding askGate
+    module _ (h : not r ≡ false) {k : ℕ} (names : Numbers (ask_name n q c j) k) where
+      pub gate_name : k < 3 → ask_name n q c j k ≡ Refused 5 j → ask_gate n q c j ≡ Refused 5 j
+      unfolding ask_gate
       gate_name l here = then_passed _ (is_kind_lem h) ∙ then_refused _ (numbers_refused _ names l here)
 
-      module _ (d : 3 ≤ k) {t : ℕ} (rests : Numbers (askRest n q c j) t) where
-        named : askGate n q c j ≡ each 3 (askRest n q c j)
-        unfolding askGate
+      module _ (d : 3 ≤ k) {t : ℕ} (rests : Numbers (ask_rest n q c j) t) where
+        named : ask_gate n q c j ≡ each 3 (ask_rest n q c j)
+        unfolding ask_gate
         named = then_passed _ (is_kind_lem h) ∙ then_passed _ (numbers_done _ names d)
 
-        pub gate_rest : t < 3 → askRest n q c j t ≡ Refused 6 j → askGate n q c j ≡ Refused 6 j
+        pub gate_rest : t < 3 → ask_rest n q c j t ≡ Refused 6 j → ask_gate n q c j ≡ Refused 6 j
         gate_rest l here = named ∙ numbers_refused _ rests l here
 
-        pub gate_ok : 3 ≤ t → askGate n q c j ≡ Accepted
+        pub gate_ok : 3 ≤ t → ask_gate n q c j ≡ Accepted
         gate_ok e = named ∙ numbers_done _ rests e
 
 -- the circuit has a good size; then it is refused at a gate or at its last gate's kind, or passes
 module _ (n q : ℕ) (c : List ℕ) (whole : length c % gate_size ≡ 0) (two : fewest_gates ≤ gates c) (few : gates c ≤ most_gates) where
-  size_ok : askSize n q c ≡ Accepted
-  unfolding askSize
+  size_ok : ask_size n q c ≡ Accepted
+  unfolding ask_size
   size_ok = ask_yes 3 0 (both_true (both_true (eq-eqb (length c % gate_size) 0 whole) (le-leb fewest_gates (gates c) two)) (le-leb (gates c) most_gates few))
 
-  pub circuit_gates : {number index : ℕ} → Refused number index ≡ each (gates c) (askGate n q c) → Refused number index ≡ askCircuit n q c
-  unfolding askCircuit
+  pub circuit_gates : {number index : ℕ} → Refused number index ≡ each (gates c) (ask_gate n q c) → Refused number index ≡ ask_circuit n q c
+  unfolding ask_circuit
   circuit_gates e = sym (then_passed _ size_ok ∙ then_refused _ (sym e))
 
-  module _ (asked : Accepted ≡ each (gates c) (askGate n q c)) {r : Bool} (said : r ≡ is_out (gate c (gates c - 1))) where
-    pub circuit_last : not r ≡ true → Refused 7 0 ≡ askCircuit n q c
-    unfolding askCircuit askLast
+  module _ (asked : Accepted ≡ each (gates c) (ask_gate n q c)) {r : Bool} (said : r ≡ is_out (gate c (gates c - 1))) where
+    pub circuit_last : not r ≡ true → Refused 7 0 ≡ ask_circuit n q c
+    unfolding ask_circuit ask_last
     circuit_last h = sym (then_passed _ size_ok ∙ then_passed _ (sym asked) ∙ ask_no 7 0 (said_no said h))
 
-    pub circuit_ok : not r ≡ false → Accepted ≡ askCircuit n q c
-    unfolding askCircuit askLast
+    pub circuit_ok : not r ≡ false → Accepted ≡ ask_circuit n q c
+    unfolding ask_circuit ask_last
     circuit_ok h = sym (then_both size_ok (then_both (sym asked) (ask_yes 7 0 (said_yes said h))))

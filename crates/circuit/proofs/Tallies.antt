@@ -46,14 +46,14 @@ module _ {c : List ℕ} {i j : ℕ} {t : Tally} (was : Tallied c i j t) where
           inputs = omega (arith, was.inputs, input_more c i j, nobody (local_no_in h));
         }
 
-    pub tally-owned :
+    pub tally_owned :
         class_of s.class ≡ Owned →
         {x k : ℕ} →
         x ≡ (gate c j).first →
         k ≡ cond (eqb x i) 1 0 →
         Tallied c i (j + 1) (record { prep = t.prep + s.prep; openings = t.openings; unchecked = t.unchecked; inputs = t.inputs + k })
     unfolding owned_by
-    tally-owned e first one =
+    tally_owned e first one =
         let h = told e in
         let mine : ◌≡◌ {A = ℕ} (cond (owned_by i (gate c j)) 1 0) (cond (eqb (gate c j).first i) 1 0) = rw (class_is h) in
         let none = (owned_facts (gate c j) h).openings in
@@ -64,10 +64,10 @@ module _ {c : List ℕ} {i j : ℕ} {t : Tally} (was : Tallied c i j t) where
           inputs = cc (was.inputs, input_more c i j, mine, one, first);
         }
 
-    pub tally-opens :
+    pub tally_opens :
         class_of s.class ≡ Opens →
         Tallied c i (j + 1) (record { prep = t.prep + s.prep; openings = t.openings + s.openings; unchecked = t.unchecked + s.openings; inputs = t.inputs })
-    tally-opens e =
+    tally_opens e =
         let h = told e in
         let opened = shape_openings s (gate c j).kind said in
         record {
@@ -92,7 +92,7 @@ module _ {c : List ℕ} {j : ℕ} {t : Totals} (was : Totalled c j t) where
   pub totals_low : (t.prep ≤ 1 + 6 * j) × (t.openings ≤ 2 * j) × (t.ins ≤ j) × (t.outs ≤ j) × (t.words ≤ 36 * j) × (t.coefficients + N.unchecked c j ≤ 2 * j) × (t.checks ≤ 2 * j)
   totals_low = (rw was.prep (prep_le c j), rw was.openings (openings_le c j), rw was.ins (count_le is_in c j), rw was.outs (count_le is_out c j), rw was.words (words_run_le c j), rw was.coefficients (coefficients_run_le c j), rw was.checks (checks_run_le c j))
 
-  pub totals-more :
+  pub totals_more :
       (s : Shape) {u a o w k h : ℕ} {b d : Bool} →
       shape_of s ≡ shape (gate c j) →
       u ≡ N.unchecked c j →
@@ -104,7 +104,7 @@ module _ {c : List ℕ} {j : ℕ} {t : Totals} (was : Totalled c j t) where
       k ≡ over_rounds (coefficients_in u) (class_rounds u (class_of s.class)) →
       h ≡ over_rounds commits_in (class_rounds u (class_of s.class)) →
       Totalled c (j + 1) (record { prep = t.prep + s.prep; openings = t.openings + s.openings; ins = t.ins + a; outs = t.outs + o; words = t.words + w; coefficients = t.coefficients + k; checks = t.checks + h })
-  totals-more s said left isin one isout two sent taken made =
+  totals_more s said left isin one isout two sent taken made =
       let same : class_of s.class ≡ (shape (gate c j)).class = shape_class s (gate c j).kind said in
       record {
         prep = cc (was.prep, shape_prep s (gate c j).kind said, prep_more c j);

@@ -12,7 +12,7 @@ use borrow.Author.Tests.{ltb-true, leb-true, eqb-true, lt-ltb, le-leb, eq-eqb}
 use Rattle.circuit.specs.Verdict.{Accepted, ◌then◌, each, ask}
 use Rattle.circuit.specs.Gate.{gate_size, entry, gate, gates, first_kind, last_kind}
 use Rattle.circuit.specs.Kind.{has_value, Role, Unused, Party, Wire, Constant, Divisor, shape, role}
-use Rattle.circuit.specs.Accept.{fewest_gates, most_gates, is_kind, may_name, name_ok, rest_ok, askName, askRest, askGate, askSize, askLast, askCircuit}
+use Rattle.circuit.specs.Accept.{fewest_gates, most_gates, is_kind, may_name, name_ok, rest_ok, ask_name, ask_rest, ask_gate, ask_size, ask_last, ask_circuit}
 use Rattle.circuit.specs.Valid.{Ref, Fits, ValidGate, Valid}
 use Rattle.circuit.proofs.Tests.{both_left, both_right, both_true}
 use Rattle.circuit.proofs.Verdicts.{ask_true, ask_yes, then_left, then_right, then_both, each_below, each_all}
@@ -65,22 +65,22 @@ module _ (n q : ℕ) (c : List ℕ) (j : ℕ) where
   RestOk : ℕ → Type 0
   RestOk k = rest_ok q (entry c j (suc k)) (role (shape (gate c j)) (suc k)) ≡ true
 
-  module _ (e : askGate n q c j ≡ Accepted) where
-    names_rests : (each 3 (askName n q c j) then each 3 (askRest n q c j)) ≡ Accepted
-    unfolding askGate
+  module _ (e : ask_gate n q c j ≡ Accepted) where
+    names_rests : (each 3 (ask_name n q c j) then each 3 (ask_rest n q c j)) ≡ Accepted
+    unfolding ask_gate
     names_rests = then_right (ask 4 j (is_kind (entry c j 0))) _ e
 
     pub is_kind_lem : is_kind (entry c j 0) ≡ true
-    unfolding askGate
-    is_kind_lem = ask_true 4 j _ (then_left (ask 4 j (is_kind (entry c j 0))) (each 3 (askName n q c j) then each 3 (askRest n q c j)) e)
+    unfolding ask_gate
+    is_kind_lem = ask_true 4 j _ (then_left (ask 4 j (is_kind (entry c j 0))) (each 3 (ask_name n q c j) then each 3 (ask_rest n q c j)) e)
 
     name_ok_lem : (k : ℕ) → k < 3 → NameOk k
-    unfolding askName NameOk
-    name_ok_lem k h = ask_true 5 j _ (each_below (askName n q c j) 3 (then_left _ (each 3 (askRest n q c j)) names_rests) k h)
+    unfolding ask_name NameOk
+    name_ok_lem k h = ask_true 5 j _ (each_below (ask_name n q c j) 3 (then_left _ (each 3 (ask_rest n q c j)) names_rests) k h)
 
     rest_ok_lem : (k : ℕ) → k < 3 → RestOk k
-    unfolding askRest RestOk
-    rest_ok_lem k h = ask_true 6 j _ (each_below (askRest n q c j) 3 (then_right (each 3 (askName n q c j)) _ names_rests) k h)
+    unfolding ask_rest RestOk
+    rest_ok_lem k h = ask_true 6 j _ (each_below (ask_rest n q c j) 3 (then_right (each 3 (ask_name n q c j)) _ names_rests) k h)
 
     gate_valid : ValidGate n q c j
     unfolding is_kind NameOk RestOk role gate
@@ -102,36 +102,36 @@ module _ (n q : ℕ) (c : List ℕ) (j : ℕ) where
   unfolding RestOk role gate
   rests_ok v = three _ (fits_rest _ _ v.first) (fits_rest _ _ v.second) (fits_rest _ _ v.constant)
 
-  pub gate_accepted : ValidGate n q c j → askGate n q c j ≡ Accepted
-  unfolding askGate is_kind askName askRest NameOk RestOk
+  pub gate_accepted : ValidGate n q c j → ask_gate n q c j ≡ Accepted
+  unfolding ask_gate is_kind ask_name ask_rest NameOk RestOk
   gate_accepted v =
       then_both (ask_yes 4 j (both_true (le-leb first_kind (entry c j 0) v.low) (le-leb (entry c j 0) last_kind v.high)))
-      (then_both (each_all (askName n q c j) 3 (λ k h. ask_yes 5 j (names_ok v k h)))
-      (each_all (askRest n q c j) 3 (λ k h. ask_yes 6 j (rests_ok v k h))))
+      (then_both (each_all (ask_name n q c j) 3 (λ k h. ask_yes 5 j (names_ok v k h)))
+      (each_all (ask_rest n q c j) 3 (λ k h. ask_yes 6 j (rests_ok v k h))))
 
 module _ (n q : ℕ) (c : List ℕ) where
-  pub valid : askCircuit n q c ≡ Accepted → Valid n q c
-  unfolding askCircuit askSize askLast gates
+  pub valid : ask_circuit n q c ≡ Accepted → Valid n q c
+  unfolding ask_circuit ask_size ask_last gates
   valid e =
       let whole = eqb (length c % gate_size) 0 in
       let two = leb fewest_gates (gates c) in
       let few = leb (gates c) most_gates in
-      let scan = each (gates c) (askGate n q c) in
-      let rest : (scan then askLast n q c) ≡ Accepted = then_right (askSize n q c) _ e in
-      let size : (whole && two && few) ≡ true = ask_true 3 0 _ (then_left (askSize n q c) (scan then askLast n q c) e) in
+      let scan = each (gates c) (ask_gate n q c) in
+      let rest : (scan then ask_last n q c) ≡ Accepted = then_right (ask_size n q c) _ e in
+      let size : (whole && two && few) ≡ true = ask_true 3 0 _ (then_left (ask_size n q c) (scan then ask_last n q c) e) in
       let least : (whole && two) ≡ true = both_left (whole && two) few size in
       let none : length c % gate_size ≡ 0 = eqb-true (length c % gate_size) 0 (both_left whole two least) in
       record {
         whole = omega arith;
         two = leb-true fewest_gates (gates c) (both_right whole two least);
         few = leb-true (gates c) most_gates (both_right (whole && two) few size);
-        each = λ j h. gate_valid n q c j (each_below (askGate n q c) (gates c) (then_left scan (askLast n q c) rest) j h);
-        last = ask_true 7 0 _ (then_right scan (askLast n q c) rest);
+        each = λ j h. gate_valid n q c j (each_below (ask_gate n q c) (gates c) (then_left scan (ask_last n q c) rest) j h);
+        last = ask_true 7 0 _ (then_right scan (ask_last n q c) rest);
       }
 
-  pub accepted : Valid n q c → askCircuit n q c ≡ Accepted
-  unfolding askCircuit askSize askLast
+  pub accepted : Valid n q c → ask_circuit n q c ≡ Accepted
+  unfolding ask_circuit ask_size ask_last
   accepted v =
       let none : length c % gate_size ≡ 0 = omega (arith, v.whole) in
       then_both (ask_yes 3 0 (both_true (both_true (eq-eqb (length c % gate_size) 0 none) (le-leb fewest_gates (gates c) v.two)) (le-leb (gates c) most_gates v.few)))
-      (then_both (each_all (askGate n q c) (gates c) (λ j h. gate_accepted n q c j (v.each j h))) (ask_yes 7 0 v.last))
+      (then_both (each_all (ask_gate n q c) (gates c) (λ j h. gate_accepted n q c j (v.each j h))) (ask_yes 7 0 v.last))

@@ -39,24 +39,24 @@ rest_ok q x Divisor = ltb 0 x && ltb x q
 
 -- n parties, and a field of q elements
 module _ (n q : ℕ) (c : List ℕ) where
-  unfoldable pub askName : ℕ → ℕ → Verdict
-  askName j k = ask 5 j (name_ok n c j (entry c j (suc k)) (role (shape (gate c j)) (suc k)))
+  unfoldable pub ask_name : ℕ → ℕ → Verdict
+  ask_name j k = ask 5 j (name_ok n c j (entry c j (suc k)) (role (shape (gate c j)) (suc k)))
 
-  unfoldable pub askRest : ℕ → ℕ → Verdict
-  askRest j k = ask 6 j (rest_ok q (entry c j (suc k)) (role (shape (gate c j)) (suc k)))
+  unfoldable pub ask_rest : ℕ → ℕ → Verdict
+  ask_rest j k = ask 6 j (rest_ok q (entry c j (suc k)) (role (shape (gate c j)) (suc k)))
 
   -- "Of each line": 4 of its kind, 5 and then 6 of its first, second and constant
-  unfoldable pub askGate : ℕ → Verdict
-  askGate j = ask 4 j (is_kind (entry c j 0)) then each 3 (askName j) then each 3 (askRest j)
+  unfoldable pub ask_gate : ℕ → Verdict
+  ask_gate j = ask 4 j (is_kind (entry c j 0)) then each 3 (ask_name j) then each 3 (ask_rest j)
 
   -- "Is the circuit 4 × L numbers, L from 2 to 256? 3."
-  unfoldable pub askSize : Verdict
-  askSize = ask 3 0 (eqb (length c % gate_size) 0 && leb fewest_gates (gates c) && leb (gates c) most_gates)
+  unfoldable pub ask_size : Verdict
+  ask_size = ask 3 0 (eqb (length c % gate_size) 0 && leb fewest_gates (gates c) && leb (gates c) most_gates)
 
   -- "Is the last line an out? 7."; of a give document 02 says that it "may be last"
-  unfoldable pub askLast : Verdict
-  askLast = ask 7 0 (is_out (gate c (gates c - 1)))
+  unfoldable pub ask_last : Verdict
+  ask_last = ask 7 0 (is_out (gate c (gates c - 1)))
 
   -- questions 3 to 7. "All three are asked of line 0 before line 1."
-  unfoldable pub askCircuit : Verdict
-  askCircuit = askSize then each (gates c) askGate then askLast
+  unfoldable pub ask_circuit : Verdict
+  ask_circuit = ask_size then each (gates c) ask_gate then ask_last

@@ -3,10 +3,12 @@
 
 use field::Word;
 use joint::JointAnswer;
+use std::io;
 
 const PARTIES: u32 = 2;
 
-fn main() {
+fn main(rt: HostRuntime) -> io::Result<()> {
+    let mut to = rt.stdout();
     let circuit: [Word; 16] = [1, 0, 0, 0, 1, 1, 0, 0, 6, 0, 1, 0, 7, 2, 0, 0];
     let preps: [Word; 26] = [
         3, 1, 10, 2, 4, 30, 0, 1, 11, 3, 8, 5, 44, 4, 1, 4, 0, 6, 40, 10, 2, 10, 1, 20, 7, 40,
@@ -38,8 +40,9 @@ fn main() {
             rounds: _,
         } => {}
         JointAnswer::Done(rounds) => {
-            printing::print_rounds(PARTIES, &circuit, rounds, &transcript);
-            printing::print_list(b"out", &outputs);
+            printing::print_rounds(&mut to, PARTIES, &circuit, rounds, &transcript)?;
+            printing::print_list(&mut to, b"out", &outputs)?;
         }
     }
+    Ok(())
 }

@@ -13,7 +13,7 @@ use Rattle.circuit.specs.Gate.{Kind, gate}
 use Rattle.circuit.specs.Kind.{is_in}
 use Rattle.circuit.specs.Count.{count}
 use Rattle.ranges.specs.Interval.{Interval, interval, interval_size, interval_at, Reach, Stays, Leaves, up_to, kind_reach, range_at, reach}
-use Rattle.ranges.specs.Move.{Of, change_at, capped, kind_move, gateMove}
+use Rattle.ranges.specs.Move.{Of, change_at, capped, kind_move, gate_move}
 use Rattle.fit.specs.Code.{Fair, FairReach}
 
 module _ (lowest highest : ℕ) where
@@ -61,6 +61,6 @@ module _ (c ends : List ℕ) (j : ℕ) {kind : Kind} {f s k : ℕ} {x z : Interv
 
   pub move_made : (moves : List ℕ) {change m r : ℕ} (line amount : ℕ) → change ≡ change_at (Of line amount) j
       → m ≡ kind_move kind change x z (get_or moves f 0) (get_or moves s 0) k → Is size (capped size m) r
-      → (ranges : List ℕ) → Is size (gateMove size c ranges (Of line amount) ends moves j) r
-  unfolding gateMove
+      → (ranges : List ℕ) → Is size (gate_move size c ranges (Of line amount) ends moves j) r
+  unfolding gate_move
   move_made moves line amount e m r ranges = record { is = r.is ∙ rw (m, ex, ez, ek, ef, es, ea, e); below = r.below }

@@ -13,7 +13,7 @@ use Rattle.circuit.specs.Verdict.{Verdict, Accepted, Refused, ask, ◌then◌, e
 use Rattle.circuit.specs.Gate.{gate_size, Gate, entry, gate, gates}
 use Rattle.circuit.specs.Kind.{Class, Owned, is_class, shape, is_in, is_out}
 use Rattle.circuit.specs.Count.{total, count, in_count, out_count}
-use Rattle.circuit.specs.Accept.{most_gates, is_kind, askCircuit}
+use Rattle.circuit.specs.Accept.{most_gates, is_kind, ask_circuit}
 use Rattle.circuit.specs.Valid.{Valid}
 use Rattle.circuit.specs.Code.{verdict_of}
 use Rattle.circuit.specs.declared.Verdict as D
@@ -25,7 +25,7 @@ use Rattle.circuit.proofs.Loops.{then_assoc, call_then, refused_then}
 use Rattle.protocol.specs.Ask.{ask_parties}
 use Rattle.ranges.specs.Interval.{Interval, interval, interval_size, interval_at}
 use Rattle.ranges.specs.Move.{Change}
-use Rattle.ranges.specs.Entry.{query_of, range_ok, ask_ranges, is_in_line, ask_change, move_room_ok, ask_rooms, askFit}
+use Rattle.ranges.specs.Entry.{query_of, range_ok, ask_ranges, is_in_line, ask_change, move_room_ok, ask_rooms, ask_fit}
 
 -- of a range in order the highest end tells whether both are elements
 pub range_said : {lowest highest : ℕ} → lowest ≤ highest → ltb highest size ≡ range_ok size (interval lowest highest)
@@ -71,7 +71,7 @@ module _ (has : Gate → Bool) (c : List ℕ) where
 -- all questions in order
 module _ (n : ℕ) (c ranges : List ℕ) (change : Change) (room places : ℕ) where
   abbrev setting : Verdict
-  setting = ask_parties n then askCircuit n size c
+  setting = ask_parties n then ask_circuit n size c
 
   abbrev rooms : Verdict
   rooms = ask_rooms c change room places
@@ -79,19 +79,19 @@ module _ (n : ℕ) (c ranges : List ℕ) (change : Change) (room places : ℕ) w
   abbrev changes : Verdict
   changes = ask_change c change then rooms
 
-  asks : (setting then ask_ranges size c ranges then changes) ≡ askFit size (query_of n c ranges change) room places
-  unfolding askFit
-  asks = then_assoc (ask_parties n) (askCircuit n size c) (ask_ranges size c ranges then changes)
+  asks : (setting then ask_ranges size c ranges then changes) ≡ ask_fit size (query_of n c ranges change) room places
+  unfolding ask_fit
+  asks = then_assoc (ask_parties n) (ask_circuit n size c) (ask_ranges size c ranges then changes)
 
   module _ {r : D.Verdict} (e : verdict_of r ≡ setting) where
     pub refused_setting : {number index : ℕ} → r ≡ D.Verdict.Refused number index
-        → Refused number index ≡ askFit size (query_of n c ranges change) room places
+        → Refused number index ≡ ask_fit size (query_of n c ranges change) room places
     refused_setting t = refused_then setting _ e t ∙ asks
 
     module _ (t : r ≡ D.Verdict.Accepted) where
       accepted : Valid n size c
       unfolding verdict_of
-      accepted = valid n size c (then_right (ask_parties n) (askCircuit n size c) (sym e ∙ ap verdict_of t))
+      accepted = valid n size c (then_right (ask_parties n) (ask_circuit n size c) (sym e ∙ ap verdict_of t))
 
       pub setting_fits : (gate_size * (length c / gate_size) ≤ length c) × (length c / gate_size ≤ most_gates)
       unfolding gates
@@ -113,18 +113,18 @@ module _ (n : ℕ) (c ranges : List ℕ) (change : Change) (room places : ℕ) w
         module _ {r₂ : D.Verdict}
             (e₂ : verdict_of r₂ ≡ (ask 26 0 (eqb (length ranges) (interval_size * ins)) then each ins (λ k. ask 26 0 (range_ok size (interval_at ranges k))))) where
           pub refused_ranges : {number index : ℕ} → r₂ ≡ D.Verdict.Refused number index
-              → Refused number index ≡ askFit size (query_of n c ranges change) room places
+              → Refused number index ≡ ask_fit size (query_of n c ranges change) room places
           refused_ranges t₂ = call_then setting _ e t (refused_then (ask_ranges size c ranges) _ (e₂ ∙ ranges_are) t₂) ∙ asks
 
           module _ (t₂ : r₂ ≡ D.Verdict.Accepted) {r₃ : D.Verdict} (e₃ : verdict_of r₃ ≡ ask_change c change) where
             pub refused_change : {number index : ℕ} → r₃ ≡ D.Verdict.Refused number index
-                → Refused number index ≡ askFit size (query_of n c ranges change) room places
+                → Refused number index ≡ ask_fit size (query_of n c ranges change) room places
             refused_change t₃ =
                 call_then setting _ e t (call_then (ask_ranges size c ranges) _ (e₂ ∙ ranges_are) t₂ (refused_then (ask_change c change) _ e₃ t₃)) ∙ asks
 
             pub asked_rooms : r₃ ≡ D.Verdict.Accepted → {v : Verdict}
                 → v ≡ ask 18 0 (leb (interval_size * (length c / gate_size)) room && move_room_ok change (count is_out c (length c / gate_size)) places)
-                → v ≡ askFit size (query_of n c ranges change) room places
+                → v ≡ ask_fit size (query_of n c ranges change) room places
             unfolding ask_rooms out_count gates
             asked_rooms t₃ e₄ =
                 call_then setting _ e t (call_then (ask_ranges size c ranges) _ (e₂ ∙ ranges_are) t₂

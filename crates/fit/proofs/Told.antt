@@ -14,7 +14,7 @@ use Rattle.circuit.specs.Verdict.{Accepted, Refused, ask, ◌then◌, each}
 use Rattle.circuit.specs.Gate.{Kind, In, Add, Sub, Plus, Times, Mul, Out, Sq, Give, Over, gate, gates}
 use Rattle.circuit.specs.Kind.{Output, kind_shape, is_out}
 use Rattle.circuit.specs.Count.{count, in_count, out_count}
-use Rattle.circuit.specs.Accept.{most_gates, askCircuit}
+use Rattle.circuit.specs.Accept.{most_gates, ask_circuit}
 use Rattle.circuit.specs.Valid.{Fits, Valid}
 use Rattle.circuit.proofs.Tests.{by_cases, both_left, both_right}
 use Rattle.circuit.proofs.KindLaws.{is_class_lem}
@@ -27,7 +27,7 @@ use Rattle.protocol.specs.Send.{overwrite}
 use Rattle.ranges.specs.Interval.{Interval, interval_size, interval_at, intervals}
 use Rattle.ranges.specs.Move as M
 use Rattle.ranges.specs.Entry as E
-use Rattle.ranges.specs.Entry.{query_of, answer, range_ok, ask_ranges, ask_change, move_room_ok, ask_rooms, askFit, finding, moves_told, fitAnswer, fitIntervals, fitMoves}
+use Rattle.ranges.specs.Entry.{query_of, answer, range_ok, ask_ranges, ask_change, move_room_ok, ask_rooms, ask_fit, finding, moves_told, fit_answer, fit_intervals, fit_moves}
 use Rattle.ranges.proofs.Reaching.{intervals_length}
 use Rattle.ranges.proofs.Listed.{listed_length}
 use Rattle.ranges.proofs.Moves.{score_moves_listed}
@@ -96,28 +96,28 @@ module _ (c ranges scores : List ℕ) (few : gates c ≤ most_gates) (long : len
 -- what the entry answers, and the two lists afterwards
 abbrev pub Told : ℕ → List ℕ → List ℕ → M.Change → List ℕ → List ℕ → E.Answer → List ℕ → List ℕ → Type 0
 Told n c ranges change is ms a is' ms' =
-    (a ≡ fitAnswer size (query_of n c ranges change) (length is) (length ms))
-    × ((is' ≡ fitIntervals size (query_of n c ranges change) is (length ms))
-    × (ms' ≡ fitMoves size (query_of n c ranges change) (length is) ms))
+    (a ≡ fit_answer size (query_of n c ranges change) (length is) (length ms))
+    × ((is' ≡ fit_intervals size (query_of n c ranges change) is (length ms))
+    × (ms' ≡ fit_moves size (query_of n c ranges change) (length is) ms))
 
 module _ (n : ℕ) (c ranges : List ℕ) (change : M.Change) (is ms : List ℕ) where
-  pub refused_told : {number index : ℕ} → Refused number index ≡ askFit size (query_of n c ranges change) (length is) (length ms)
+  pub refused_told : {number index : ℕ} → Refused number index ≡ ask_fit size (query_of n c ranges change) (length is) (length ms)
       → Told n c ranges change is ms (E.Refusal number index) is ms
-  unfolding fitAnswer fitIntervals fitMoves answer
+  unfolding fit_answer fit_intervals fit_moves answer
   refused_told e = (rw (sym e), (rw (sym e), rw (sym e)))
 
-  module _ (e : Accepted ≡ askFit size (query_of n c ranges change) (length is) (length ms)) where
+  module _ (e : Accepted ≡ ask_fit size (query_of n c ranges change) (length is) (length ms)) where
     -- each question passed
     after_setting : (ask_ranges size c ranges then ask_change c change then ask_rooms c change (length is) (length ms)) ≡ Accepted
-    unfolding askFit
-    after_setting = then_right (askCircuit n size c) _ (then_right (ask_parties n) _ (sym e))
+    unfolding ask_fit
+    after_setting = then_right (ask_circuit n size c) _ (then_right (ask_parties n) _ (sym e))
 
     accepted : Valid n size c
-    unfolding askFit
-    accepted = valid n size c (then_left (askCircuit n size c) _ (then_right (ask_parties n) _ (sym e)))
+    unfolding ask_fit
+    accepted = valid n size c (then_left (ask_circuit n size c) _ (then_right (ask_parties n) _ (sym e)))
 
     some_parties : n ≤ most_gates
-    unfolding askFit ask_parties
+    unfolding ask_fit ask_parties
     some_parties =
         omega (arith, leb-true n most_parties (both_right (leb fewest_parties n) (leb n most_parties) (ask_true 1 0 _ (then_left (ask_parties n) _ (sym e)))))
 
@@ -159,12 +159,12 @@ module _ (n : ℕ) (c ranges : List ℕ) (change : M.Change) (is ms : List ℕ) 
     told_places : move_room_ok change (out_count c) (length ms) ≡ true
     told_places = both_right (leb (interval_size * gates c) (length is)) _ rooms_pass
 
-    found_is : fitAnswer size (query_of n c ranges change) (length is) (length ms) ≡ finding size c ranges (gates c)
-    unfolding fitAnswer answer
+    found_is : fit_answer size (query_of n c ranges change) (length is) (length ms) ≡ finding size c ranges (gates c)
+    unfolding fit_answer answer
     found_is = rw (sym e)
 
     pub leaves_told : {j : ℕ} → E.Leaves j ≡ finding size c ranges (gates c) → Told n c ranges change is ms (E.Leaves j) is ms
-    unfolding fitIntervals fitMoves
+    unfolding fit_intervals fit_moves
     leaves_told f = (rw (found_is, sym f), (rw (found_is, sym f), rw (found_is, sym f)))
 
     -- the fronts of the tool's own lists are written
@@ -186,6 +186,6 @@ module _ (n : ℕ) (c ranges : List ℕ) (change : M.Change) (is ms : List ℕ) 
           → is' ≡ take (interval_size * gates c - 0) (drop 0 ends) ++ drop (length (take (interval_size * gates c - 0) (drop 0 ends))) is
           → ms' ≡ take (outs - 0) (drop 0 scores) ++ drop (length (take (outs - 0) (drop 0 scores))) ms
           → Told n c ranges change is ms E.Fits is' ms'
-      unfolding fitIntervals fitMoves overwrite
+      unfolding fit_intervals fit_moves overwrite
       fits_told ei em =
           (rw (found_is, sym f), (rw (found_is, sym f) (ei ∙ rw ends_front), rw (found_is, sym f) (em ∙ rw (kept_front c ranges scores told_few w.2 change moves outs w.1))))

@@ -19,9 +19,9 @@ use Rattle.circuit.specs.Count.{total, count, in_count}
 use Rattle.circuit.specs.Accept.{most_gates}
 use Rattle.circuit.proofs.Tests.{by_cases}
 use Rattle.circuit.proofs.Counts.{total_mono, count_more}
-use Rattle.ranges.specs.Interval.{interval, interval_size, interval_at, Reach, Stays, Leaves, stays, ends as ends_of, reach, intervals, gateStays}
+use Rattle.ranges.specs.Interval.{interval, interval_size, interval_at, Reach, Stays, Leaves, stays, ends as ends_of, reach, intervals, gate_stays}
 use Rattle.ranges.specs.Move as M
-use Rattle.ranges.specs.Move.{Of, gateMove, moves, scoreMoves}
+use Rattle.ranges.specs.Move.{Of, gate_move, moves, score_moves}
 use Rattle.ranges.specs.Entry as E
 use Rattle.ranges.specs.Entry.{finding}
 use Rattle.ranges.proofs.Growing.{pair_earlier, pair_last}
@@ -48,7 +48,7 @@ gates_within c j h = omega arith
 -- one gate --------------------------------------------------------------------------------------------------------------
 
 module _ (c : List ℕ) (line amount : ℕ) (ends : List ℕ) (j : ℕ) (some : j < gates c) (few : j < most_gates) (tame : Tame c j) {m : ℕ} (before : List ℕ)
-    (made : (ranges : List ℕ) → Is size (gateMove size c ranges (Of line amount) ends before j) m) where
+    (made : (ranges : List ℕ) → Is size (gate_move size c ranges (Of line amount) ends before j) m) where
   -- moves stay elements
   pub set_low : ((x : ℕ) → get_or before x 0 < size) → (x : ℕ) → get_or (set before j m) x 0 < size
   set_low low x =
@@ -60,8 +60,8 @@ module _ (c : List ℕ) (line amount : ℕ) (ends : List ℕ) (j : ℕ) (some : 
   module _ (ranges : List ℕ) (h : Held interval_room ends (intervals size c ranges j)) where
     -- the move that is worked out of the lists is that of the definition
     move_is : Held move_room before (moves size c ranges (Of line amount) j)
-        → m ≡ gateMove size c ranges (Of line amount) (intervals size c ranges j) (moves size c ranges (Of line amount) j) j
-    unfolding gateMove
+        → m ≡ gate_move size c ranges (Of line amount) (intervals size c ranges j) (moves size c ranges (Of line amount) j) j
+    unfolding gate_move
     move_is t =
         (made ranges).is
         ∙ rw (held_interval h (gate c j).first, held_interval h (gate c j).second, t.at (gate c j).first, t.at (gate c j).second)
@@ -116,7 +116,7 @@ stepped_nothing c ends j h low = record { low = low; few = omega arith; kept = �
 pub record Course (change : M.Change) (c ranges ends moves scores : List ℕ) (ins outs j : ℕ) : Type 0 where
   pub upto : j ≤ gates c
   pub counted : ins ≡ count is_in c j
-  pub stayed : (i : ℕ) → i < j → gateStays size c ranges i ≡ true
+  pub stayed : (i : ℕ) → i < j → gate_stays size c ranges i ≡ true
   pub held : Held interval_room ends (intervals size c ranges j)
   pub fair : (x : ℕ) → Fair (interval_at ends x)
   pub moves_long : length moves ≡ move_room
@@ -134,7 +134,7 @@ fair_none l x h =
     }
 
 kept_none : (change : M.Change) (c ranges : List ℕ) {moves scores : List ℕ} → Held move_room moves [] → Held move_room scores [] → Kept change c ranges moves scores 0 0
-unfolding M.moves M.scoreMoves count total
+unfolding M.moves M.score_moves count total
 kept_none M.Nothing c ranges m s = refl
 kept_none (M.Of line amount) c ranges m s = record { moved = m; listed = s; counted = refl }
 
@@ -175,12 +175,12 @@ module _ (change : M.Change) (c ranges : List ℕ) where
     reach_held = rw (held_interval s.held (gate c j).first, held_interval s.held (gate c j).second)
 
     pub course_leaves : Leaves ≡ reach size c ranges ends j → E.Leaves j ≡ finding size c ranges (gates c)
-    unfolding gateStays
+    unfolding gate_stays
     course_leaves e = sym (finding_first size c ranges j (gates c) s.stayed (ap stays (sym (e ∙ reach_held))) h)
 
     module _ {lowest highest : ℕ} (e : Stays lowest highest ≡ reach size c ranges ends j) where
-      stays_here : gateStays size c ranges j ≡ true
-      unfolding gateStays
+      stays_here : gate_stays size c ranges j ≡ true
+      unfolding gate_stays
       stays_here = ap stays (sym (e ∙ reach_held))
 
       intervals_here : intervals size c ranges (j + 1) ≡ intervals size c ranges j ++ (lowest ∷ highest ∷ [])

@@ -84,7 +84,7 @@ pub record Apt (c : List ℕ) (j : ℕ) (ends moves scores : List ℕ) (outs : �
 -- the moves of the gates before j stand in a list, and those of their scores in another, so many of them
 pub record Tracked (c ranges : List ℕ) (line amount : ℕ) (moves scores : List ℕ) (j outs : ℕ) : Type 0 where
   pub moved : Held move_room moves (M.moves size c ranges (M.Of line amount) j)
-  pub listed : Held move_room scores (M.scoreMoves size c ranges (M.Of line amount) j)
+  pub listed : Held move_room scores (M.score_moves size c ranges (M.Of line amount) j)
   pub counted : outs ≡ count is_out c j
 
 -- where no change is given nothing is kept

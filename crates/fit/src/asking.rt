@@ -8,7 +8,7 @@ ghost use Rattle.circuit.specs.Count.{count};
 ghost use Rattle.circuit.specs.Accept.{most_gates, is_kind};
 ghost use Rattle.circuit.specs.Code.{verdict_of};
 ghost use Rattle.ranges.specs.Interval.{interval_size, interval_at};
-ghost use Rattle.ranges.specs.Entry.{query_of, range_ok, is_in_line, ask_change, move_room_ok, askFit};
+ghost use Rattle.ranges.specs.Entry.{query_of, range_ok, is_in_line, ask_change, move_room_ok, ask_fit};
 ghost use Rattle.fit.specs.Code.{interval_of, change_of};
 
 use crate::{Change, INTERVAL_SIZE, Interval, reaching};
@@ -151,7 +151,7 @@ pub fn ask(
     room: usize,
     places: usize,
 ) -> Verdict
-    ensures { verdict_of result ≡ askFit size (query_of parties c.now ranges.now (change_of change)) room places }
+    ensures { verdict_of result ≡ ask_fit size (query_of parties c.now ranges.now (change_of change)) room places }
 {
     match party::asking::ask_setting(parties, c) {
         Verdict::Refused { number, index } => {

@@ -8,7 +8,7 @@ pub mod working;
 
 ghost use Rattle.std.specs.Prelude.{◌≡◌, length};
 ghost use Rattle.field.specs.Words.{size};
-ghost use Rattle.ranges.specs.Entry.{query_of, fitAnswer, fitIntervals, fitMoves};
+ghost use Rattle.ranges.specs.Entry.{query_of, fit_answer, fit_intervals, fit_moves};
 ghost use Rattle.fit.specs.Code.{change_of, answer_of};
 
 use circuit::Verdict;
@@ -69,11 +69,11 @@ pub fn will_fit(
     moves: &mut [Word],
 ) -> Answer
     ensures answer { answer_of result
-        ≡ fitAnswer size (query_of parties c.now ranges.now (change_of change)) (length intervals.old) (length moves.old) }
+        ≡ fit_answer size (query_of parties c.now ranges.now (change_of change)) (length intervals.old) (length moves.old) }
     ensures intervals { intervals.new
-        ≡ fitIntervals size (query_of parties c.now ranges.now (change_of change)) intervals.old (length moves.old) }
+        ≡ fit_intervals size (query_of parties c.now ranges.now (change_of change)) intervals.old (length moves.old) }
     ensures moves { moves.new
-        ≡ fitMoves size (query_of parties c.now ranges.now (change_of change)) (length intervals.old) moves.old }
+        ≡ fit_moves size (query_of parties c.now ranges.now (change_of change)) (length intervals.old) moves.old }
 {
     match asking::ask(parties, c, ranges, change, intervals.len(), moves.len()) {
         Verdict::Refused { number, index } => {

@@ -5,7 +5,7 @@ ghost use Rattle.field.specs.Words.{size};
 ghost use Rattle.circuit.specs.Gate.{gate_size, gate};
 ghost use Rattle.circuit.specs.Code.{kind_of};
 ghost use Rattle.ranges.specs.Interval.{interval_at};
-ghost use Rattle.ranges.specs.Move.{Of, change_at, kind_move, capped, gateMove};
+ghost use Rattle.ranges.specs.Move.{Of, change_at, kind_move, capped, gate_move};
 ghost use Rattle.fit.specs.Code.{interval_of, Fair, Named};
 
 use crate::{Interval, reaching};
@@ -77,7 +77,7 @@ pub fn move_at(
         × Named c.now j ends.now
         × ((gate c.now j).first < length moves.now)
         × ((gate c.now j).second < length moves.now) }
-    ensures { (ranges : List ℕ) → Is size (gateMove size c.now ranges (Of line amount) ends.now moves.now j) result }
+    ensures { (ranges : List ℕ) → Is size (gate_move size c.now ranges (Of line amount) ends.now moves.now j) result }
 {
     let kind = reading::kind_at(c, j);
     let first = reading::first_at(c, j);

@@ -9,7 +9,7 @@ use lib.Dec.{leb}
 use borrow.Author.Tests.{le-leb}
 use Rattle.circuit.specs.Verdict.{Verdict, Accepted, Refused, ask, ◌then◌}
 use Rattle.circuit.specs.Gate.{gates}
-use Rattle.circuit.specs.Accept.{most_gates, askCircuit}
+use Rattle.circuit.specs.Accept.{most_gates, ask_circuit}
 use Rattle.circuit.proofs.Verdicts.{ask_yes, then_left, then_right, then_both}
 use Rattle.protocol.specs.Ask.{ask_parties}
 use Rattle.protocol.specs.Send.{overwrite}
@@ -17,7 +17,7 @@ use Rattle.protocol.specs.Entry.{leave}
 use Rattle.forms.specs.Form.{Form, print_rows, depth_of_all, gates_in_all, Sheet, circuit_of}
 use Rattle.forms.specs.Refusals.{deepest, Decides}
 use Rattle.forms.specs.Machine.{Reading, Rows, No, reading}
-use Rattle.forms.specs.Entry.{Refusal, Done, answer, ask_shape, rows_in, circuit_in, askRead, readAnswer, readCircuit}
+use Rattle.forms.specs.Entry.{Refusal, Done, answer, ask_shape, rows_in, circuit_in, ask_read, read_answer, read_circuit}
 use Rattle.forms.proofs.Exactly.{refused_exactly, accepted_exactly}
 use Rattle.forms.proofs.RoundTrip.{answer_done}
 
@@ -29,10 +29,10 @@ module _ (n q top : ℕ) (text : List ℕ) where
 
   -- "Text that breaks the shape .. is 22 .. 23 .. 24. The earliest byte decides and is the index": that is the answer, and nothing is written
   pub text_refused : (m i : ℕ) (circuit : List ℕ) → ask_parties n ≡ Accepted → Decides top text m i
-      → (readAnswer n q top text (length circuit) ≡ Refusal m i) × (readCircuit n q top text circuit ≡ circuit)
-  unfolding readAnswer readCircuit askRead answer leave
+      → (read_answer n q top text (length circuit) ≡ Refusal m i) × (read_circuit n q top text circuit ≡ circuit)
+  unfolding read_answer read_circuit ask_read answer leave
   text_refused m i circuit p d =
-      let e = refused_then m i (askCircuit n q (circuit_in top text) then ask 18 0 (leb (length (circuit_in top text)) (length circuit))) p
+      let e = refused_then m i (ask_circuit n q (circuit_in top text) then ask 18 0 (leb (length (circuit_in top text)) (length circuit))) p
       ((refused_exactly top text m i).1 d) in
       (rw e, rw e)
 
@@ -46,12 +46,12 @@ module _ (n q top : ℕ) (text : List ℕ) where
     its_circuit = ap (λ (r : Reading). circuit_of (rows_in r)) rows_read
 
     -- "3 to 7 follow on the circuit, then 18": a sheet within depth and count is read as its circuit, where that is accepted and has room
-    pub sheet_read_lem : (list : List ℕ) → ask_parties n ≡ Accepted → askCircuit n q (circuit_of rows) ≡ Accepted → length (circuit_of rows) ≤ length list
-        → (readAnswer n q top text (length list) ≡ Done (gates (circuit_of rows))) × (readCircuit n q top text list ≡ overwrite (circuit_of rows) list)
-    unfolding readAnswer readCircuit askRead answer leave
+    pub sheet_read_lem : (list : List ℕ) → ask_parties n ≡ Accepted → ask_circuit n q (circuit_of rows) ≡ Accepted → length (circuit_of rows) ≤ length list
+        → (read_answer n q top text (length list) ≡ Done (gates (circuit_of rows))) × (read_circuit n q top text list ≡ overwrite (circuit_of rows) list)
+    unfolding read_answer read_circuit ask_read answer leave
     sheet_read_lem list p c l =
         let read = circuit_in top text in
-        let asked : askRead n q top text (length list) ≡ Accepted = then_both p (then_both (unfold ask_shape in rw rows_read)
+        let asked : ask_read n q top text (length list) ≡ Accepted = then_both p (then_both (unfold ask_shape in rw rows_read)
         (then_both (rw its_circuit c) (ask_yes 18 0 (le-leb (length read) (length list) (rw its_circuit l))))) in
         (rw (asked, its_circuit), rw (asked, its_circuit))
 
@@ -63,15 +63,15 @@ module _ (n q top : ℕ) (text : List ℕ) where
     pub shallow : depth_of_all rows ≤ deepest
     pub few : gates_in_all rows ≤ most_gates
     pub counted : gates (circuit_of rows) ≡ k
-    pub written : readCircuit n q top text list ≡ overwrite (circuit_of rows) list
+    pub written : read_circuit n q top text list ≡ overwrite (circuit_of rows) list
 
-  pub read_is_sheet : (k : ℕ) (list : List ℕ) → readAnswer n q top text (length list) ≡ Done k → ReadSheet k list
-  unfolding readAnswer readCircuit askRead leave circuit_in rows_in ask_shape
+  pub read_is_sheet : (k : ℕ) (list : List ℕ) → read_answer n q top text (length list) ≡ Done k → ReadSheet k list
+  unfolding read_answer read_circuit ask_read leave circuit_in rows_in ask_shape
   read_is_sheet k list e =
-      let done = answer_done (askRead n q top text (length list)) (gates (circuit_in top text)) k e in
+      let done = answer_done (ask_read n q top text (length list)) (gates (circuit_in top text)) k e in
       go (reading top text) refl (then_left (ask_shape (reading top text)) _ (then_right (ask_parties n) _ done.0)) done.0 done.1
     where
-      go : (r : Reading) → reading top text ≡ r → ask_shape (reading top text) ≡ Accepted → askRead n q top text (length list) ≡ Accepted
+      go : (r : Reading) → reading top text ≡ r → ask_shape (reading top text) ≡ Accepted → ask_read n q top text (length list) ≡ Accepted
           → gates (circuit_of (rows_in (reading top text))) ≡ k → ReadSheet k list
       go (Rows rows) s a v c =
           let A = (accepted_exactly top text rows).0 s in

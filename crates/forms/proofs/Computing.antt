@@ -17,7 +17,7 @@ use Rattle.forms.specs.Form.{
   depth_of_all,
   marks,
   named,
-  numberFits,
+  number_fits,
   gates_in,
   gates_in_all,
   wire_of,
@@ -52,7 +52,7 @@ use Rattle.forms.specs.Machine.{
   operand,
   handed,
   ended,
-  numberLives,
+  number_lives,
   step,
   steps,
   read,
@@ -63,9 +63,9 @@ use Rattle.forms.specs.Entry.{
   ask_shape,
   rows_in,
   circuit_in,
-  askRead,
-  readAnswer,
-  readCircuit,
+  ask_read,
+  read_answer,
+  read_circuit,
   picked,
   head_of,
   counted,
@@ -77,12 +77,12 @@ use Rattle.forms.specs.Entry.{
   rows_up_to,
   rows_of,
   sheet_of,
-  askWrite,
-  writeAnswer,
-  writeText,
+  ask_write,
+  write_answer,
+  write_text,
 }
 use Rattle.forms.specs.Example.{bytes, times, reads, refused, becomes, writes, table, stops, long_table}
 
 unfoldable pub computing : Unit {0}
-unfolding below ask_parties overwrite leave valued outer inner stands placed line head digits decimal begin print print_rows larger depth depth_of_all marks named numberFits gates_in gates_in_all wire_of flat circuit_from circuit_of is_nil when starts same any_named may word_lives word_is is_digit begins name_lives whose closed open_here open_in closed_frames closed_numbered closed_here closed_in too_deep too_many begun begun_as operand handed ended numberLives step steps read reading answer ask_shape rows_in circuit_in askRead readAnswer readCircuit picked head_of counted number_of name form_of row_for row_of rows_up_to rows_of sheet_of askWrite writeAnswer writeText bytes times reads refused becomes writes table stops long_table
+unfolding below ask_parties overwrite leave valued outer inner stands placed line head digits decimal begin print print_rows larger depth depth_of_all marks named number_fits gates_in gates_in_all wire_of flat circuit_from circuit_of is_nil when starts same any_named may word_lives word_is is_digit begins name_lives whose closed open_here open_in closed_frames closed_numbered closed_here closed_in too_deep too_many begun begun_as operand handed ended number_lives step steps read reading answer ask_shape rows_in circuit_in ask_read read_answer read_circuit picked head_of counted number_of name form_of row_for row_of rows_up_to rows_of sheet_of ask_write write_answer write_text bytes times reads refused becomes writes table stops long_table
 computing = tt

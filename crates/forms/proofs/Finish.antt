@@ -21,7 +21,7 @@ use Rattle.forms.specs.Form.{
   scaled,
   marks,
   named,
-  numberFits,
+  number_fits,
   print,
   decimal,
   Fits,
@@ -59,7 +59,7 @@ use Rattle.forms.specs.Machine.{
   begins,
   name_lives,
   whose,
-  numberLives,
+  number_lives,
   closed,
   begun,
   operand,
@@ -145,8 +145,8 @@ module _ (top : ℕ) where
   leads_to_lem s w e E = record { rest = w ++ E.rest; rows = E.rows; leads = steps_then top w E.rest s e E.leads }
 
   -- 0 fits where no name is wanted
-  naught_fits : (rows : List Form) (h : Head) → names h ≡ false → numberFits top rows h 0 ≡ true
-  unfolding numberFits
+  naught_fits : (rows : List Form) (h : Head) → names h ≡ false → number_fits top rows h 0 ≡ true
+  unfolding number_fits
   naught_fits rows h n = rw n (le-leb 0 top (omega arith))
 
   -- (in 0) fits everywhere
@@ -197,8 +197,8 @@ module _ (top : ℕ) where
         leads_to_lem (at rows stack start) (print (leaf In 0)) (step_print top rows z stack refl) (made_ends stack (leaf In 0) G z)
 
     -- some number may stand: 0, or a row that can be named
-    some_number : (o : Bool) (p : Numbered) → GoodNumbered top rows o p → (n : ℕ) × (numberFits top rows (whose p) n ≡ true)
-    unfolding GoodNumbered whose numberFits
+    some_number : (o : Bool) (p : Numbered) → GoodNumbered top rows o p → (n : ℕ) × (number_fits top rows (whose p) n ≡ true)
+    unfolding GoodNumbered whose number_fits
     some_number o (after h f) G = (0, naught_fits rows h (holder_names_none h (rw G.1)))
     some_number o (plain h) G = go (names h) (may_any (any_named (marks rows)) o h G.0)
       where
@@ -214,14 +214,14 @@ module _ (top : ℕ) where
             leads_to_lem (at rows stack (number p)) (decimal n.0 ++ (closing ∷ [])) (steps_number top rows stack p n.0 n.1)
             (made_ends stack (closed p n.0) G (closed_fits top rows (is_nil stack) p n.0 N n.1))
 
-        fits_ends : (n : ℕ) → numberFits top rows (whose p) n ≡ true → Ends (at rows stack (digit p n))
+        fits_ends : (n : ℕ) → number_fits top rows (whose p) n ≡ true → Ends (at rows stack (digit p n))
         fits_ends n e =
             leads_to_lem (at rows stack (digit p n)) (closing ∷ [])
             (steps_one top (at rows stack (digit p n)) closing (step_closing top rows stack p n e))
             (made_ends stack (closed p n) G (closed_fits top rows (is_nil stack) p n N e))
 
         -- digits that begin a number lead to it
-        reach : (k v j : ℕ) → begins k v j ≡ true → numberLives top rows (whose p) j ≡ true →
+        reach : (k v j : ℕ) → begins k v j ≡ true → number_lives top rows (whose p) j ≡ true →
             (w : List ℕ) × (steps top (at rows stack (digit p v)) w ≡ some (at rows stack (digit p j)))
         unfolding begins
         reach zero v j e l = ([], unfold steps in rw (eqb-true v j e))
@@ -235,17 +235,17 @@ module _ (top : ℕ) where
               steps_then top r.0 ((naught + j % ten) ∷ []) (at rows stack (digit p v)) r.1 (digit_last top rows stack p j h l),
             ))
 
-        digit_ends : (v : ℕ) → numberLives top rows (whose p) v ≡ true → Ends (at rows stack (digit p v))
+        digit_ends : (v : ℕ) → number_lives top rows (whose p) v ≡ true → Ends (at rows stack (digit p v))
         digit_ends v e = go (names (whose p)) refl
           where
             go : (c : Bool) → names (whose p) ≡ c → Ends (at rows stack (digit p v))
             go true q =
-                let n = name_begun_lem (marks rows) 0 v (unfold numberLives in rw q at e) in
+                let n = name_begun_lem (marks rows) 0 v (unfold number_lives in rw q at e) in
                 let z : 0 + n.row ≡ n.row = omega arith in
-                let f : numberFits top rows (whose p) n.row ≡ true = unfold numberFits in rw q n.there in
+                let f : number_fits top rows (whose p) n.row ≡ true = unfold number_fits in rw q n.there in
                 let r = reach n.row v n.row (rw z at n.begin) (fits_lives top rows stack p n.row f) in
                 leads_to_lem (at rows stack (digit p v)) r.0 r.1 (fits_ends n.row f)
-            go false q = fits_ends v (unfold numberLives in rw q at e)
+            go false q = fits_ends v (unfold number_lives in rw q at e)
 
       begun_ends : (h : Head) (k : Sort) → sort h ≡ k → may (any_named (marks rows)) (is_nil stack) h ≡ true → Ends (begun rows stack h k)
       unfolding begun GoodStack GoodFrame GoodNumbered

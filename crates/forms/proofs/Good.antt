@@ -14,7 +14,7 @@ use Rattle.forms.specs.Words.{Head, Sort, Leaf, One, Two, Scaled, heads, sort, v
 use Rattle.forms.specs.Form.{
   Form,
   marks,
-  numberFits,
+  number_fits,
   Fits,
   leaf_fits,
   one_fits,
@@ -53,7 +53,7 @@ use Rattle.forms.specs.Machine.{
   word_is,
   is_digit,
   whose,
-  numberLives,
+  number_lives,
   closed,
   begun,
   begun_as,
@@ -97,7 +97,7 @@ module _ (top : ℕ) where
   GoodFocus rows o start = Unit {0}
   GoodFocus rows o (spelling w) = word_lives heads (any_named (marks rows)) o w ≡ true
   GoodFocus rows o (number p) = GoodNumbered rows o p
-  GoodFocus rows o (digit p v) = GoodNumbered rows o p × (numberLives top rows (whose p) v ≡ true)
+  GoodFocus rows o (digit p v) = GoodNumbered rows o p × (number_lives top rows (whose p) v ≡ true)
   GoodFocus rows o (made f) = Fits top rows o f
 
   pub record Good (s : State) : Type 0 where
@@ -110,7 +110,7 @@ module _ (top : ℕ) where
   origin_good = record { sheet = tt; stacked = tt; focused = tt }
 
   -- a number and its bracket make a form that fits
-  pub closed_fits : (rows : List Form) (o : Bool) (p : Numbered) (n : ℕ) → GoodNumbered rows o p → numberFits top rows (whose p) n ≡ true →
+  pub closed_fits : (rows : List Form) (o : Bool) (p : Numbered) (n : ℕ) → GoodNumbered rows o p → number_fits top rows (whose p) n ≡ true →
       Fits top rows o (closed p n)
   unfolding GoodNumbered closed whose
   closed_fits rows o (plain h) n N e = leaf_fits (may_stands (any_named (marks rows)) o h N.0) N.1 e
@@ -165,17 +165,17 @@ module _ (top : ℕ) where
         (λ p q.
         when_elim (word_lives heads (any_named (marks rows)) (is_nil stack) (w ++ (b ∷ []))) q Good (λ ok. good stack (spelling (w ++ (b ∷ []))) G ok))
     focus_good stack (number p) b t G N e =
-        when_elim (is_digit b && numberLives top rows (whose p) (b - naught)) e Good
-        (λ ok. good stack (digit p (b - naught)) G (N, both_right (is_digit b) (numberLives top rows (whose p) (b - naught)) ok))
+        when_elim (is_digit b && number_lives top rows (whose p) (b - naught)) e Good
+        (λ ok. good stack (digit p (b - naught)) G (N, both_right (is_digit b) (number_lives top rows (whose p) (b - naught)) ok))
     focus_good stack (digit p v) b t G N e =
         cond_elim (eqb b closing) e
         (λ c q.
-        when_elim (numberFits top rows (whose p) v) q Good (λ ok. good stack (made (closed p v)) G (closed_fits rows (is_nil stack) p v N.0 ok)))
+        when_elim (number_fits top rows (whose p) v) q Good (λ ok. good stack (made (closed p v)) G (closed_fits rows (is_nil stack) p v N.0 ok)))
         (λ c q.
-        when_elim (is_digit b && not (eqb v 0) && numberLives top rows (whose p) (v * ten + (b - naught))) q Good
+        when_elim (is_digit b && not (eqb v 0) && number_lives top rows (whose p) (v * ten + (b - naught))) q Good
         (λ ok.
         good stack (digit p (v * ten + (b - naught))) G
-        (N.0, both_right (is_digit b && not (eqb v 0)) (numberLives top rows (whose p) (v * ten + (b - naught))) ok)))
+        (N.0, both_right (is_digit b && not (eqb v 0)) (number_lives top rows (whose p) (v * ten + (b - naught))) ok)))
     focus_good stack (made f) b t G N e = handed_good stack f b t G N e
 
   pub step_good : (s : State) (b : ℕ) (t : State) → Good s → step top s b ≡ some t → Good t

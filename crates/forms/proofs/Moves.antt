@@ -10,7 +10,7 @@ use lib.Dec.{eqb}
 use borrow.Author.Tests.{eqb-true, ne_eqb}
 use Rattle.circuit.proofs.Tests.{false_no, both_left, both_right, both_true}
 use Rattle.forms.specs.Words.{Head, Sort, Leaf, One, Two, Scaled, heads, letters, sort, names}
-use Rattle.forms.specs.Form.{Form, one, two, marks, opening, closing, space, feed, naught, ten, numberFits}
+use Rattle.forms.specs.Form.{Form, one, two, marks, opening, closing, space, feed, naught, ten, number_fits}
 use Rattle.forms.specs.Refusals.{line_letter}
 use Rattle.forms.specs.Machine.{
   Frame,
@@ -41,7 +41,7 @@ use Rattle.forms.specs.Machine.{
   begun_as,
   operand,
   handed,
-  numberLives,
+  number_lives,
   step,
 }
 use Rattle.forms.proofs.Choices.{or_elim, cond_elim, some_is, none_no, when_elim}
@@ -177,18 +177,18 @@ module _ (top : ℕ) where
   at_number : (rows : List Form) (stack : List Frame) (p : Numbered) (b : ℕ) (t : State) →
       step top (at rows stack (number p)) b ≡ some t → Move rows stack (number p) b t
   unfolding step
-  at_number rows stack p b t e = when_elim (is_digit b && numberLives top rows (whose p) (b - naught)) e (Move rows stack (number p) b)
-      (λ ok. first_digit (digit_plain b (both_left (is_digit b) (numberLives top rows (whose p) (b - naught)) ok)))
+  at_number rows stack p b t e = when_elim (is_digit b && number_lives top rows (whose p) (b - naught)) e (Move rows stack (number p) b)
+      (λ ok. first_digit (digit_plain b (both_left (is_digit b) (number_lives top rows (whose p) (b - naught)) ok)))
 
   at_digit : (rows : List Form) (stack : List Frame) (p : Numbered) (v b : ℕ) (t : State) →
       step top (at rows stack (digit p v)) b ≡ some t → Move rows stack (digit p v) b t
   unfolding step
   at_digit rows stack p v b t e =
       cond_elim (eqb b closing) e
-      (λ c q. rw (eqb-true b closing c) (when_elim (numberFits top rows (whose p) v) q (Move rows stack (digit p v) closing) (λ ok. closes_number)))
-      (λ c q. when_elim (is_digit b && not (eqb v 0) && numberLives top rows (whose p) (v * ten + (b - naught))) q (Move rows stack (digit p v) b)
+      (λ c q. rw (eqb-true b closing c) (when_elim (number_fits top rows (whose p) v) q (Move rows stack (digit p v) closing) (λ ok. closes_number)))
+      (λ c q. when_elim (is_digit b && not (eqb v 0) && number_lives top rows (whose p) (v * ten + (b - naught))) q (Move rows stack (digit p v) b)
       (λ ok. more_digits (digit_plain b (both_left (is_digit b) (not (eqb v 0))
-      (both_left (is_digit b && not (eqb v 0)) (numberLives top rows (whose p) (v * ten + (b - naught))) ok)))))
+      (both_left (is_digit b && not (eqb v 0)) (number_lives top rows (whose p) (v * ten + (b - naught))) ok)))))
 
   pub step_move : (s : State) (b : ℕ) (t : State) → step top s b ≡ some t → Move s.rows s.stack s.focus b t
   unfolding step

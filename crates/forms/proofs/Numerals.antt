@@ -10,7 +10,7 @@ use lib.Dec.{eqb, ltb, leb}
 use borrow.Author.Tests.{eqb-true, eq-eqb, ne_eqb, leb-true, le-leb, ltb-true, ltb-false, le-ltb, not-true}
 use Rattle.circuit.proofs.Tests.{both_left, both_right, both_true}
 use Rattle.forms.specs.Words.{names}
-use Rattle.forms.specs.Form.{Form, marks, named, numberFits, decimal, closing, naught, ten}
+use Rattle.forms.specs.Form.{Form, marks, named, number_fits, decimal, closing, naught, ten}
 use Rattle.forms.specs.Machine.{
   Frame,
   Numbered,
@@ -23,7 +23,7 @@ use Rattle.forms.specs.Machine.{
   begins,
   name_lives,
   whose,
-  numberLives,
+  number_lives,
   closed,
   step,
   steps,
@@ -82,8 +82,8 @@ named_any (m ∷ ms) (suc n) e = or_right m (any_named ms) (named_any ms n e)
 -- numbers ---------------------------------------------------------------------------------------------------------------
 
 module _ (top : ℕ) (rows : List Form) (stack : List Frame) (p : Numbered) where
-  pub fits_lives : (n : ℕ) → numberFits top rows (whose p) n ≡ true → numberLives top rows (whose p) n ≡ true
-  unfolding numberFits numberLives
+  pub fits_lives : (n : ℕ) → number_fits top rows (whose p) n ≡ true → number_lives top rows (whose p) n ≡ true
+  unfolding number_fits number_lives
   fits_lives n e = go (names (whose p)) e
     where
       go : (c : Bool) → cond c (named (marks rows) n) (leb n top) ≡ true →
@@ -91,8 +91,8 @@ module _ (top : ℕ) (rows : List Form) (stack : List Frame) (p : Numbered) wher
       go true e = named_lives (marks rows) 0 n n (omega arith) e
       go false e = e
 
-  pub lives_tens : (n : ℕ) → ten ≤ n → numberLives top rows (whose p) n ≡ true → numberLives top rows (whose p) (n / ten) ≡ true
-  unfolding numberFits numberLives
+  pub lives_tens : (n : ℕ) → ten ≤ n → number_lives top rows (whose p) n ≡ true → number_lives top rows (whose p) (n / ten) ≡ true
+  unfolding number_fits number_lives
   lives_tens n h e = go (names (whose p)) e
     where
       go : (c : Bool) → cond c (name_lives (marks rows) 0 n) (cond c (named (marks rows) n) (leb n top)) ≡ true →
@@ -100,12 +100,12 @@ module _ (top : ℕ) (rows : List Form) (stack : List Frame) (p : Numbered) wher
       go true e = name_tens (marks rows) 0 n h e
       go false e = let l : n ≤ top = leb-true n top e in le-leb (n / ten) top (omega arith)
 
-  digit_first : (n : ℕ) → n < ten → numberLives top rows (whose p) n ≡ true →
+  digit_first : (n : ℕ) → n < ten → number_lives top rows (whose p) n ≡ true →
       step top (at rows stack (number p)) (naught + n) ≡ some (at rows stack (digit p n))
   unfolding step when
   digit_first n h e = let z : naught + n - naught ≡ n = omega arith in rw (is_digit_lem n h, z, e)
 
-  pub digit_next : (v d : ℕ) → 0 < v → d < ten → numberLives top rows (whose p) (v * ten + d) ≡ true →
+  pub digit_next : (v d : ℕ) → 0 < v → d < ten → number_lives top rows (whose p) (v * ten + d) ≡ true →
       step top (at rows stack (digit p v)) (naught + d) ≡ some (at rows stack (digit p (v * ten + d)))
   unfolding step when
   digit_next v d l h e =
@@ -114,18 +114,18 @@ module _ (top : ℕ) (rows : List Form) (stack : List Frame) (p : Numbered) wher
       let n : eqb v 0 ≡ false = ne_eqb v 0 (omega arith) in
       rw (c, is_digit_lem d h, n, z, e)
 
-  pub digit_last : (n : ℕ) → ten ≤ n → numberLives top rows (whose p) n ≡ true →
+  pub digit_last : (n : ℕ) → ten ≤ n → number_lives top rows (whose p) n ≡ true →
       steps top (at rows stack (digit p (n / ten))) ((naught + n % ten) ∷ []) ≡ some (at rows stack (digit p n))
   digit_last n h e =
       let z : n / ten * ten + n % ten ≡ n = omega arith in
       steps_one top (at rows stack (digit p (n / ten))) (naught + n % ten) (digit_next (n / ten) (n % ten) (omega arith) (omega arith) (rw z e))
       ∙ ap (λ (m : ℕ). some (at rows stack (digit p m))) z
 
-  decimal_short : (n : ℕ) → n < ten → numberLives top rows (whose p) n ≡ true →
+  decimal_short : (n : ℕ) → n < ten → number_lives top rows (whose p) n ≡ true →
       steps top (at rows stack (number p)) (decimal n) ≡ some (at rows stack (digit p n))
   decimal_short n h e = rw (decimal_last n h) (steps_one top (at rows stack (number p)) (naught + n) (digit_first n h e))
 
-  decimal_within : (k n : ℕ) → n ≤ k → numberLives top rows (whose p) n ≡ true →
+  decimal_within : (k n : ℕ) → n ≤ k → number_lives top rows (whose p) n ≡ true →
       steps top (at rows stack (number p)) (decimal n) ≡ some (at rows stack (digit p n))
   decimal_within zero n l e = decimal_short n (omega arith) e
   decimal_within (suc k) n l e = go (ltb n ten) refl (λ q h. decimal_within k (n / ten) q (lives_tens n h e))
@@ -140,17 +140,17 @@ module _ (top : ℕ) (rows : List Form) (stack : List Frame) (p : Numbered) wher
           (steps_then top (decimal (n / ten)) ((naught + n % ten) ∷ []) (at rows stack (number p)) (r (omega arith) h) (digit_last n h e))
 
   -- the digits of a number that lives
-  pub steps_decimal : (n : ℕ) → numberLives top rows (whose p) n ≡ true →
+  pub steps_decimal : (n : ℕ) → number_lives top rows (whose p) n ≡ true →
       steps top (at rows stack (number p)) (decimal n) ≡ some (at rows stack (digit p n))
   steps_decimal n e = decimal_within n n (omega arith) e
 
-  pub step_closing : (n : ℕ) → numberFits top rows (whose p) n ≡ true →
+  pub step_closing : (n : ℕ) → number_fits top rows (whose p) n ≡ true →
       step top (at rows stack (digit p n)) closing ≡ some (at rows stack (made (closed p n)))
   unfolding step when
   step_closing n e = rw e
 
   -- a whole number and its bracket
-  pub steps_number : (n : ℕ) → numberFits top rows (whose p) n ≡ true →
+  pub steps_number : (n : ℕ) → number_fits top rows (whose p) n ≡ true →
       steps top (at rows stack (number p)) (decimal n ++ (closing ∷ [])) ≡ some (at rows stack (made (closed p n)))
   steps_number n e =
       steps_then top (decimal n) (closing ∷ []) (at rows stack (number p)) (steps_decimal n (fits_lives n e))

@@ -12,7 +12,7 @@ use Rattle.forms.specs.Form.{
   one,
   two,
   marks,
-  numberFits,
+  number_fits,
   begin,
   print,
   print_rows,
@@ -65,8 +65,8 @@ module _ (rows : List Form) (o : Bool) (h : Head) (e : stands o h ≡ true) wher
   may_hold_lem k = may_stand (any_named (marks rows)) o h e (λ q. false_no (sym (holder_names_none h k) ∙ q))
 
   -- a word whose number fits
-  pub may_count : (top n : ℕ) → numberFits top rows h n ≡ true → may (any_named (marks rows)) o h ≡ true
-  unfolding numberFits
+  pub may_count : (top n : ℕ) → number_fits top rows h n ≡ true → may (any_named (marks rows)) o h ≡ true
+  unfolding number_fits
   may_count top n f = may_stand (any_named (marks rows)) o h e (λ q. named_any (marks rows) n (rw q at f))
 
 -- forms -----------------------------------------------------------------------------------------------------------------

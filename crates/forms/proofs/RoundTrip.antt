@@ -11,7 +11,7 @@ use lib.Dec.{leb}
 use borrow.Author.Tests.{leb-true, le-leb}
 use Rattle.circuit.specs.Verdict.{Verdict, Accepted, Refused, ask}
 use Rattle.circuit.specs.Gate.{gates}
-use Rattle.circuit.specs.Accept.{askCircuit}
+use Rattle.circuit.specs.Accept.{ask_circuit}
 use Rattle.circuit.specs.Valid.{Valid}
 use Rattle.circuit.proofs.Tests.{both_right}
 use Rattle.circuit.proofs.Verdicts.{ask_true, ask_yes, then_left, then_right, then_both}
@@ -27,14 +27,14 @@ use Rattle.forms.specs.Entry.{
   ask_shape,
   rows_in,
   circuit_in,
-  askRead,
-  readAnswer,
-  readCircuit,
+  ask_read,
+  read_answer,
+  read_circuit,
   rows_of,
   sheet_of,
-  askWrite,
-  writeAnswer,
-  writeText,
+  ask_write,
+  write_answer,
+  write_text,
 }
 use Rattle.forms.proofs.Exactly.{accepted_exactly}
 use Rattle.forms.proofs.Written.{rows_sheet, rows_low, rows_few, circuit_back}
@@ -74,7 +74,7 @@ module _ (n q top : ℕ) (c : List ℕ) (parties-fit : most_parties ≤ suc top)
   fitting e =
       omega (arith, parties-fit, leb-true n most_parties (both_right (leb fewest_parties n) (leb n most_parties) (ask_true 1 0 _ e)))
 
-  module _ (parties : ask_parties n ≡ Accepted) (circuit : askCircuit n q c ≡ Accepted) where
+  module _ (parties : ask_parties n ≡ Accepted) (circuit : ask_circuit n q c ≡ Accepted) where
     same_rows : reading top (sheet_of c) ≡ Rows (rows_of c)
     same_rows = reads_back n q top c (valid n q c circuit) (fitting parties) elements-fit
 
@@ -82,38 +82,38 @@ module _ (n q top : ℕ) (c : List ℕ) (parties-fit : most_parties ≤ suc top)
     same_circuit = circuit_in_lem n q top c (valid n q c circuit) (fitting parties) elements-fit
 
     -- it is accepted just where the list has room for the circuit
-    pub accepted_back : (room : ℕ) → (askRead n q top (sheet_of c) room ≡ Accepted) ↔ (length c ≤ room)
-    unfolding askRead
+    pub accepted_back : (room : ℕ) → (ask_read n q top (sheet_of c) room ≡ Accepted) ↔ (length c ≤ room)
+    unfolding ask_read
     accepted_back room =
         let text = sheet_of c in
         let read = circuit_in top text in
         let last = ask 18 0 (leb (length read) room) in (
           λ e. rw same_circuit at (leb-true (length read) room (ask_true 18 0 _
-              (then_right (askCircuit n q read) last (then_right (ask_shape (reading top text)) _ (then_right (ask_parties n) _ e))))),
+              (then_right (ask_circuit n q read) last (then_right (ask_shape (reading top text)) _ (then_right (ask_parties n) _ e))))),
           λ l. then_both parties
               (then_both (unfold ask_shape in rw same_rows)
               (then_both (rw same_circuit circuit) (ask_yes 18 0 (le-leb (length read) room (rw same_circuit l))))),
         )
 
-    pub answered_back : (room : ℕ) → length c ≤ room → readAnswer n q top (sheet_of c) room ≡ Done (gates c)
-    unfolding readAnswer answer
+    pub answered_back : (room : ℕ) → length c ≤ room → read_answer n q top (sheet_of c) room ≡ Done (gates c)
+    unfolding read_answer answer
     answered_back room l = rw ((accepted_back room).1 l, same_circuit)
 
-    pub round_trip : (list : List ℕ) → length c ≤ length list → readCircuit n q top (sheet_of c) list ≡ overwrite c list
-    unfolding readCircuit leave
+    pub round_trip : (list : List ℕ) → length c ≤ length list → read_circuit n q top (sheet_of c) list ≡ overwrite c list
+    unfolding read_circuit leave
     round_trip list l = rw ((accepted_back (length list)).1 l, same_circuit)
 
   -- the two entries one after the other: what is written is read
-  pub writer_then_reader : (text list : List ℕ) (k : ℕ) → writeAnswer n q c (length text) ≡ Done k → length c ≤ length list
-      → (readAnswer n q top (take k (writeText n q c text)) (length list) ≡ Done (gates c))
-      × (readCircuit n q top (take k (writeText n q c text)) list ≡ overwrite c list)
-  unfolding writeAnswer writeText askWrite
+  pub writer_then_reader : (text list : List ℕ) (k : ℕ) → write_answer n q c (length text) ≡ Done k → length c ≤ length list
+      → (read_answer n q top (take k (write_text n q c text)) (length list) ≡ Done (gates c))
+      × (read_circuit n q top (take k (write_text n q c text)) list ≡ overwrite c list)
+  unfolding write_answer write_text ask_write
   writer_then_reader text list k e l =
-      let asked = answer_done (askWrite n q c (length text)) (length (sheet_of c)) k e in
+      let asked = answer_done (ask_write n q c (length text)) (length (sheet_of c)) k e in
       let accepted = asked.0 in
       let parties : ask_parties n ≡ Accepted = then_left (ask_parties n) _ accepted in
-      let circuit : askCircuit n q c ≡ Accepted = then_left (askCircuit n q c) _ (then_right (ask_parties n) _ accepted) in
-      let written : take k (writeText n q c text) ≡ sheet_of c = written_is (askWrite n q c (length text)) (sheet_of c) text k accepted asked.1 in (
+      let circuit : ask_circuit n q c ≡ Accepted = then_left (ask_circuit n q c) _ (then_right (ask_parties n) _ accepted) in
+      let written : take k (write_text n q c text) ≡ sheet_of c = written_is (ask_write n q c (length text)) (sheet_of c) text k accepted asked.1 in (
         rw written (answered_back parties circuit (length list) l),
         rw written (round_trip parties circuit list l),
       )

@@ -19,7 +19,7 @@ use Rattle.forms.specs.Form.{
   depth,
   marks,
   named,
-  numberFits,
+  number_fits,
   Fits,
   leaf_fits,
   one_fits,
@@ -143,7 +143,7 @@ module _ (h : Head) (makes : names h ≡ false) where
     unfolding name
     name_fits x e =
         let here : stands false Line ≡ true = unfold stands inner in refl in
-        let there : numberFits top rows Line x ≡ true = unfold numberFits in e in
+        let there : number_fits top rows Line x ≡ true = unfold number_fits in e in
         leaf_fits here refl there
 
     pub formed_fits : (s : Sort) (x y n : ℕ) → sort h ≡ s → n ≤ top → Named s rows x y → Fits top rows true (form_of h s x y n)
@@ -153,14 +153,14 @@ module _ (h : Head) (makes : names h ≡ false) where
         here : stands true h ≡ true
         here = unfold stands outer in rw makes
 
-        number_fits : numberFits top rows h n ≡ true
-        number_fits = unfold numberFits in rw makes (le-leb n top l)
+        number_fits_lem : number_fits top rows h n ≡ true
+        number_fits_lem = unfold number_fits in rw makes (le-leb n top l)
 
         go : (s : Sort) → sort h ≡ s → Named s rows x y → Fits top rows true (form_of h s x y n)
-        go Leaf e N = leaf_fits here e number_fits
+        go Leaf e N = leaf_fits here e number_fits_lem
         go One e N = one_fits here e (name_fits x N)
         go Two e N = two_fits here e (name_fits x N.0) (name_fits y N.1)
-        go Scaled e N = scaled_fits here e (name_fits x N) number_fits
+        go Scaled e N = scaled_fits here e (name_fits x N) number_fits_lem
 
 -- one row more -----------------------------------------------------------------------------------------------------------
 

@@ -11,7 +11,7 @@ use lib.Dec.{eqb}
 use borrow.Author.Tests.{eqb-true, eqb-false, not-true}
 use Rattle.circuit.proofs.Tests.{both_left, both_right}
 use Rattle.forms.specs.Words.{Head, Sort, Leaf, One, Two, Scaled, heads, letters, sort}
-use Rattle.forms.specs.Form.{Form, one, marks, begin, print, print_rows, decimal, numberFits, opening, closing, space, feed, naught, ten}
+use Rattle.forms.specs.Form.{Form, one, marks, begin, print, print_rows, decimal, number_fits, opening, closing, space, feed, naught, ten}
 use Rattle.forms.specs.Machine.{
   Frame,
   first,
@@ -37,7 +37,7 @@ use Rattle.forms.specs.Machine.{
   word_is,
   is_digit,
   whose,
-  numberLives,
+  number_lives,
   closed,
   begun,
   begun_as,
@@ -177,20 +177,20 @@ module _ (top : ℕ) (rows : List Form) (stack : List Frame) (b : ℕ) (t : Stat
   at_number : (p : Numbered) → step top (at rows stack (number p)) b ≡ some t → Puts (at rows stack (number p)) b t
   unfolding step spelt spelt_focus
   at_number p e =
-      when_elim (is_digit b && numberLives top rows (whose p) (b - naught)) e (Puts (at rows stack (number p)) b)
-      (λ ok. rw (decimal_digit b (both_left (is_digit b) (numberLives top rows (whose p) (b - naught)) ok)) (simp append_assoc))
+      when_elim (is_digit b && number_lives top rows (whose p) (b - naught)) e (Puts (at rows stack (number p)) b)
+      (λ ok. rw (decimal_digit b (both_left (is_digit b) (number_lives top rows (whose p) (b - naught)) ok)) (simp append_assoc))
 
   at_digit : (p : Numbered) (v : ℕ) → step top (at rows stack (digit p v)) b ≡ some t → Puts (at rows stack (digit p v)) b t
   unfolding step spelt spelt_focus
   at_digit p v e =
       cond_elim (eqb b closing) e
       (λ c q.
-      when_elim (numberFits top rows (whose p) v) q (Puts (at rows stack (digit p v)) b)
+      when_elim (number_fits top rows (whose p) v) q (Puts (at rows stack (digit p v)) b)
       (λ ok. rw (eqb-true b closing c, closed_spelt p v) (simp append_assoc)))
       (λ c q.
-      when_elim (is_digit b && not (eqb v 0) && numberLives top rows (whose p) (v * ten + (b - naught))) q (Puts (at rows stack (digit p v)) b)
+      when_elim (is_digit b && not (eqb v 0) && number_lives top rows (whose p) (v * ten + (b - naught))) q (Puts (at rows stack (digit p v)) b)
       (λ ok.
-      let d = both_left (is_digit b && not (eqb v 0)) (numberLives top rows (whose p) (v * ten + (b - naught))) ok in
+      let d = both_left (is_digit b && not (eqb v 0)) (number_lives top rows (whose p) (v * ten + (b - naught))) ok in
       let z : v ≡ 0 → ⊥ = eqb-false v 0 (not-true (eqb v 0) (both_right (is_digit b) (not (eqb v 0)) d)) in
       rw (decimal_more v b (omega arith) (both_left (is_digit b) (not (eqb v 0)) d)) (simp append_assoc)))
 

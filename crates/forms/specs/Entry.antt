@@ -4,7 +4,7 @@ use Rattle.std.specs.Prelude.{ℕ, zero, suc, ◌+◌, cond, List, [], ◌∷◌
 use Rattle.circuit.specs.Verdict.{Verdict, Accepted, Refused, ask, ◌then◌}
 use Rattle.circuit.specs.Gate.{entry, gates}
 use Rattle.circuit.specs.Kind.{Shape, Role, Unused, Party, Wire, Constant, Divisor}
-use Rattle.circuit.specs.Accept.{askCircuit}
+use Rattle.circuit.specs.Accept.{ask_circuit}
 use Rattle.protocol.specs.Ask.{ask_parties}
 use Rattle.protocol.specs.Send.{overwrite}
 use Rattle.protocol.specs.Entry.{leave}
@@ -38,19 +38,19 @@ circuit_in top text = circuit_of (rows_in (reading top text))
 -- n parties, and a field of q elements
 module _ (n q top : ℕ) where
   -- 1, then 22 to 24; "3 to 7 follow on the circuit, then 18". The list for the circuit has room numbers
-  unfoldable pub askRead : List ℕ → ℕ → Verdict
-  askRead text room =
+  unfoldable pub ask_read : List ℕ → ℕ → Verdict
+  ask_read text room =
       ask_parties n
       then ask_shape (reading top text)
-      then askCircuit n q (circuit_in top text)
+      then ask_circuit n q (circuit_in top text)
       then ask 18 0 (leb (length (circuit_in top text)) room)
 
-  unfoldable pub readAnswer : List ℕ → ℕ → Answer
-  readAnswer text room = answer (askRead text room) (gates (circuit_in top text))
+  unfoldable pub read_answer : List ℕ → ℕ → Answer
+  read_answer text room = answer (ask_read text room) (gates (circuit_in top text))
 
   -- the list for the circuit afterwards
-  unfoldable pub readCircuit : List ℕ → List ℕ → List ℕ
-  readCircuit text circuit = leave (askRead text (length circuit)) (overwrite (circuit_in top text) circuit) circuit
+  unfoldable pub read_circuit : List ℕ → List ℕ → List ℕ
+  read_circuit text circuit = leave (ask_read text (length circuit)) (overwrite (circuit_in top text) circuit) circuit
 
 -- writing ---------------------------------------------------------------------------------------------------------------
 
@@ -103,12 +103,12 @@ sheet_of c = print_rows (rows_of c)
 
 module _ (n q : ℕ) (c : List ℕ) where
   -- 1, 3 to 7, then 18 of the sheet's bytes. The list for the text has room bytes
-  unfoldable pub askWrite : ℕ → Verdict
-  askWrite room = ask_parties n then askCircuit n q c then ask 18 0 (leb (length (sheet_of c)) room)
+  unfoldable pub ask_write : ℕ → Verdict
+  ask_write room = ask_parties n then ask_circuit n q c then ask 18 0 (leb (length (sheet_of c)) room)
 
-  unfoldable pub writeAnswer : ℕ → Answer
-  writeAnswer room = answer (askWrite room) (length (sheet_of c))
+  unfoldable pub write_answer : ℕ → Answer
+  write_answer room = answer (ask_write room) (length (sheet_of c))
 
   -- the list for the text afterwards
-  unfoldable pub writeText : List ℕ → List ℕ
-  writeText text = leave (askWrite (length text)) (overwrite (sheet_of c) text) text
+  unfoldable pub write_text : List ℕ → List ℕ
+  write_text text = leave (ask_write (length text)) (overwrite (sheet_of c) text) text

@@ -5,7 +5,7 @@ use Prim.Native.Char.{code}
 use Prim.Native.String as T
 use Rattle.circuit.specs.Gate.{gates}
 use Rattle.forms.specs.Machine.{Reading, No, reading}
-use Rattle.forms.specs.Entry.{Answer, Refusal, Done, readAnswer, readCircuit, writeAnswer, writeText}
+use Rattle.forms.specs.Entry.{Answer, Refusal, Done, read_answer, read_circuit, write_answer, write_text}
 
 -- document 01's p, and "a number above 4294967295"
 abbrev pub prime : ℕ
@@ -42,7 +42,7 @@ unfoldable pub reads : ℕ → List ℕ → List ℕ → Answer → List ℕ →
 reads n text lent answer after =
     record {
       does =
-          record { answer = readAnswer n prime largest text (length lent); after = readCircuit n prime largest text lent };
+          record { answer = read_answer n prime largest text (length lent); after = read_circuit n prime largest text lent };
       told = record { answer = answer; after = after };
     }
 
@@ -58,7 +58,7 @@ becomes n text circuit = reads n text (replicate (length circuit) blank) (Done (
 unfoldable pub writes : List ℕ → List ℕ → Answer → List ℕ → Case
 writes circuit lent answer after =
     record {
-      does = record { answer = writeAnswer 2 prime circuit (length lent); after = writeText 2 prime circuit lent };
+      does = record { answer = write_answer 2 prime circuit (length lent); after = write_text 2 prime circuit lent };
       told = record { answer = answer; after = after };
     }
 

@@ -91,17 +91,17 @@ named (m ∷ ms) (suc j) = named ms j
 -- top is the largest number that a sheet may have
 module _ (top : ℕ) where
   -- "a number above 4294967295, or a J that is no earlier sheet line with a value"
-  unfoldable pub numberFits : List Form → Head → ℕ → Bool
-  numberFits rows h n = cond (names h) (named (marks rows) n) (leb n top)
+  unfoldable pub number_fits : List Form → Head → ℕ → Bool
+  number_fits rows h n = cond (names h) (named (marks rows) n) (leb n top)
 
   -- a form that may stand after these rows, outermost or not
   pub data Fits (rows : List Form) : Bool → Form → Type 0 where
-    leaf_fits : {o : Bool} {h : Head} {n : ℕ} → stands o h ≡ true → sort h ≡ Leaf → numberFits rows h n ≡ true → Fits rows o (leaf h n)
+    leaf_fits : {o : Bool} {h : Head} {n : ℕ} → stands o h ≡ true → sort h ≡ Leaf → number_fits rows h n ≡ true → Fits rows o (leaf h n)
     one_fits : {o : Bool} {h : Head} {f : Form} → stands o h ≡ true → sort h ≡ One → Fits rows false f → Fits rows o (one h f)
     two_fits : {o : Bool} {h : Head} {f g : Form} →
         stands o h ≡ true → sort h ≡ Two → Fits rows false f → Fits rows false g → Fits rows o (two h f g)
     scaled_fits : {o : Bool} {h : Head} {f : Form} {n : ℕ} →
-        stands o h ≡ true → sort h ≡ Scaled → Fits rows false f → numberFits rows h n ≡ true → Fits rows o (scaled h f n)
+        stands o h ≡ true → sort h ≡ Scaled → Fits rows false f → number_fits rows h n ≡ true → Fits rows o (scaled h f n)
 
   -- rows that may follow these rows
   unfoldable pub Follow : List Form → List Form → Type 0

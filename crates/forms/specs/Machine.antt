@@ -6,7 +6,7 @@ use Rattle.std.specs.Prelude.{ℕ, zero, suc, ◌+◌, ◌*◌, ◌-◌, ◌/◌
 use Rattle.std.proofs.Math.Option.{Option, some, none}
 use Rattle.circuit.specs.Accept.{most_gates}
 use Rattle.forms.specs.Words.{Head, Sort, Leaf, One, Two, Scaled, heads, letters, sort, names, stands}
-use Rattle.forms.specs.Form.{Form, leaf, one, two, scaled, marks, numberFits, gates_in, gates_in_all, opening, closing, space, feed, naught, ten}
+use Rattle.forms.specs.Form.{Form, leaf, one, two, scaled, marks, number_fits, gates_in, gates_in_all, opening, closing, space, feed, naught, ten}
 use Rattle.forms.specs.Refusals.{deepest}
 
 -- an open form that waits for an operand: "(w " before F, or "(w F " before G
@@ -180,17 +180,17 @@ ended s i =
 
 -- top is the largest number that a sheet may have
 module _ (top : ℕ) where
-  unfoldable pub numberLives : List Form → Head → ℕ → Bool
-  numberLives rows h v = cond (names h) (name_lives (marks rows) 0 v) (numberFits top rows h v)
+  unfoldable pub number_lives : List Form → Head → ℕ → Bool
+  number_lives rows h v = cond (names h) (name_lives (marks rows) 0 v) (number_fits top rows h v)
 
   unfoldable pub step : State → ℕ → Option State
   step s b = elim s.focus [
     | start ↦ when (eqb b opening) (at s.rows s.stack (spelling []))
     | spelling w ↦ cond (eqb b space) (begun_as s.rows s.stack (word_is heads (any_named (marks s.rows)) (is_nil s.stack) w))
         (when (word_lives heads (any_named (marks s.rows)) (is_nil s.stack) (w ++ (b ∷ []))) (at s.rows s.stack (spelling (w ++ (b ∷ [])))))
-    | number p ↦ when (is_digit b && numberLives s.rows (whose p) (b - naught)) (at s.rows s.stack (digit p (b - naught)))
-    | digit p v ↦ cond (eqb b closing) (when (numberFits top s.rows (whose p) v) (at s.rows s.stack (made (closed p v))))
-        (when (is_digit b && not (eqb v 0) && numberLives s.rows (whose p) (v * ten + (b - naught)))
+    | number p ↦ when (is_digit b && number_lives s.rows (whose p) (b - naught)) (at s.rows s.stack (digit p (b - naught)))
+    | digit p v ↦ cond (eqb b closing) (when (number_fits top s.rows (whose p) v) (at s.rows s.stack (made (closed p v))))
+        (when (is_digit b && not (eqb v 0) && number_lives s.rows (whose p) (v * ten + (b - naught)))
         (at s.rows s.stack (digit p (v * ten + (b - naught)))))
     | made f ↦ handed s.rows s.stack f b
   ]

@@ -12,7 +12,7 @@ use Rattle.field.specs.Words.{size}
 use Rattle.circuit.specs.Verdict.{Verdict, Accepted, ◌then◌}
 use Rattle.circuit.specs.Count.{prep_size, in_count, out_count}
 use Rattle.circuit.specs.Round.{nonce_size, word_count, coefficient_count, check_count}
-use Rattle.circuit.specs.Accept.{askCircuit}
+use Rattle.circuit.specs.Accept.{ask_circuit}
 use Rattle.circuit.specs.Valid.{Valid}
 use Rattle.circuit.proofs.Tests.{both_left, both_right}
 use Rattle.circuit.proofs.Verdicts.{ask_true, then_left, then_right, elements_below}
@@ -27,7 +27,7 @@ use Rattle.joint.specs.Code.{Framed, lists_of, rooms_of, Runnable}
 
 -- 1 and 3 to 7
 abbrev pub setting_of : ℕ → List ℕ → Verdict
-setting_of n c = ask_parties n then askCircuit n size c
+setting_of n c = ask_parties n then ask_circuit n size c
 
 -- and the others
 abbrev pub lent_of : ℕ → List ℕ → List ℕ → List ℕ → ℕ → List ℕ → ℕ → ℕ → ℕ → Verdict

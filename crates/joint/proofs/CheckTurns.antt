@@ -17,7 +17,7 @@ use Rattle.circuit.proofs.Gates.{receiver_named}
 use Rattle.protocol.specs.Scratch.{layout, band, written_at, nonce_of, put_nonce, put_marks}
 use Rattle.protocol.specs.Position.{Point, Send, Aborted, aborted, resume, when_sending}
 use Rattle.protocol.specs.Send.{mark, revealed, sent, noted}
-use Rattle.protocol.specs.Receive.{Nobody, Passed, Stopped, passed, heardSum, score, scored, received, left}
+use Rattle.protocol.specs.Receive.{Nobody, Passed, Stopped, passed, heard_sum, score, scored, received, left}
 use Rattle.protocol.specs.Code.{layout_of}
 use Rattle.protocol.specs.Holding.{Opened}
 use Rattle.protocol.specs.Ready.{Ready, Settles}
@@ -26,7 +26,7 @@ use Rattle.protocol.specs.Joint.{Joint, party, nonce_for}
 use Rattle.protocol.specs.Run.{blamed, said, notes, ends, step, released}
 use Rattle.protocol.specs.JointEntry as E
 use Rattle.protocol.proofs.Runs.{Over}
-use Rattle.protocol.proofs.Scoring.{score-asks, score_made}
+use Rattle.protocol.proofs.Scoring.{score_asks, score_made}
 use Rattle.protocol.proofs.Tails.{length_written}
 use Rattle.protocol.proofs.Words.{joined_ext}
 use Rattle.protocol.proofs.Following.{next_follows, next_stops, weighs_zero, weighs_not}
@@ -110,10 +110,10 @@ module _ {f : Frame} {c preps inputs coefficients nonces l₀ t₀ o₀ : List �
       (λ i h. ap (λ (x : ℕ). mark (revealed x (nonce_in f s.checks nonces i))) (holds_is moving.going refl opened_is i)) refl
 
   -- each band is that of the definition
-  abbrev notedBand : ℕ → List ℕ
-  notedBand = noted_in f preps l m s.used coefficients s.checks nonces
+  abbrev noted_band : ℕ → List ℕ
+  noted_band = noted_in f preps l m s.used coefficients s.checks nonces
 
-  commit_step : (i : ℕ) → i < f.parties → notedBand i ≡ (step ops J (state_of f s none_held l) (Commit k)).scratch i
+  commit_step : (i : ℕ) → i < f.parties → noted_band i ≡ (step ops J (state_of f s none_held l) (Commit k)).scratch i
   unfolding step left received notes noted state_of party nonce_for
   commit_step i h =
       ap (put_marks (layout_of f.layout) (put_nonce (layout_of f.layout) (band f.scratch l i) (nonce_in f s.checks nonces i))) marks_said
@@ -127,7 +127,7 @@ module _ {f : Frame} {c preps inputs coefficients nonces l₀ t₀ o₀ : List �
     sealed_moved : Moved J f s (Commit k) none_held l t sealed (held_of f.parties share) l₁ marked
     unfolding commits_in
     sealed_moved =
-        round_moved moving notedBand commit_step el
+        round_moved moving noted_band commit_step el
         (quiet_named moving.going refl)
         (next_follows c s.point.gate _ (Commit k) (occurs J f s (Commit k) none_held l moving.going) (quiet_passed moving.going refl) refl)
         (λ r' e. moving.going.prep_is)
@@ -168,8 +168,8 @@ module _ {f : Frame} {c preps inputs coefficients nonces l₀ t₀ o₀ : List �
             rw (← moving.going.lent.framed.lay)
             (noted_nonce (lent_banded moving.going.lent moving.going.room) preps m s.used coefficients s.checks nonces el nonces_there i h)
 
-    abbrev revealedTo : List ℕ
-    revealedTo = written_at (s.written + f.parties * commit_words) reveals marked
+    abbrev revealed_to : List ℕ
+    revealed_to = written_at (s.written + f.parties * commit_words) reveals marked
 
     -- what the check asks
     pub check_asked : Common f l m → Checks f preps l m s.used coefficients s.checks nonces s.written t
@@ -202,23 +202,23 @@ module _ {f : Frame} {c preps inputs coefficients nonces l₀ t₀ o₀ : List �
           rounds = s.rounds + 2;
         }
 
-    words_put : revealedTo ≡ written_at (s.written + f.parties * commit_words) (said ops J (state_of f sealed (held_of f.parties share) l₁) (Reveal k)) marked
+    words_put : revealed_to ≡ written_at (s.written + f.parties * commit_words) (said ops J (state_of f sealed (held_of f.parties share) l₁) (Reveal k)) marked
     words_put = ap (λ (x : List ℕ). written_at (s.written + f.parties * commit_words) x marked) reveals_said
 
     words_long : s.written + f.parties * commit_words + f.parties * reveal_words ≡ s.written + f.parties * commit_words + length (said ops J (state_of f sealed (held_of f.parties share) l₁) (Reveal k))
     unfolding shape_words
     words_long = ap (λ (x : ℕ). s.written + f.parties * commit_words + x) (sym (said_long revealing))
 
-    module _ {v : ℕ} (ev : Is size (heardSum ops f.parties reveal_words 0 (reveals_in f preps l m s.used coefficients s.checks nonces)) v) where
-      sum_is : v ≡ heardSum ops f.parties reveal_words 0 (said ops J (state_of f sealed (held_of f.parties share) l₁) (Reveal k))
-      sum_is = ev.is ∙ ap (heardSum ops f.parties reveal_words 0) reveals_said
+    module _ {v : ℕ} (ev : Is size (heard_sum ops f.parties reveal_words 0 (reveals_in f preps l m s.used coefficients s.checks nonces)) v) where
+      sum_is : v ≡ heard_sum ops f.parties reveal_words 0 (said ops J (state_of f sealed (held_of f.parties share) l₁) (Reveal k))
+      sum_is = ev.is ∙ ap (heard_sum ops f.parties reveal_words 0) reveals_said
 
       -- the sum is not zero: the run is stopped, and nobody is named
       module _ (z : v ≡ 0 → ⊥) where
         stops : ends ops J (state_of f sealed (held_of f.parties share) l₁) (Reveal k) ≡ Stopped Nobody
         stops = sealed_ends ops J (state_of f sealed (held_of f.parties share) l₁) is_sealed k some_parties ∙ weighs_not _ (λ e. z (sum_is ∙ e))
 
-        stopped_moved : Moved J f sealed (Reveal k) (held_of f.parties share) l₁ marked (after (aborted s.point.gate) s.prep s.released) none_held l₁ revealedTo
+        stopped_moved : Moved J f sealed (Reveal k) (held_of f.parties share) l₁ marked (after (aborted s.point.gate) s.prep s.released) none_held l₁ revealed_to
         unfolding aborted
         stopped_moved =
             round_moved revealing _ (stopped_step revealing refl (ap passed stops))
@@ -227,7 +227,7 @@ module _ {f : Frame} {c preps inputs coefficients nonces l₀ t₀ o₀ : List �
             (next_stops c s.point.gate _ (Reveal k) (ap passed stops) refl)
             (λ r' e. moving.going.prep_is) refl (none_held_lem revealing.going refl) (none_taken revealing.going refl) (none_begun revealing.going refl) words_put words_long (omega arith)
 
-        pub check_stopped : {a : JointAnswer} → joint_answer_of a ≡ E.ended Aborted s.point.gate Nobody (s.rounds + 2) → Ran J l₀ t₀ o₀ a l₁ revealedTo o
+        pub check_stopped : {a : JointAnswer} → joint_answer_of a ≡ E.ended Aborted s.point.gate Nobody (s.rounds + 2) → Ran J l₀ t₀ o₀ a l₁ revealed_to o
         unfolding aborted
         check_stopped e =
             running_over J f l₀ t₀ o₀ able
@@ -246,11 +246,11 @@ module _ {f : Frame} {c preps inputs coefficients nonces l₀ t₀ o₀ : List �
   module _ (inv : Running (lent_all f c preps inputs coefficients nonces) f l₀ t₀ o₀ s none_held l t o)
       (due : s.point.stage ≡ Send (Commit First)) {m : ℕ} (em : m ≡ unchecked c s.point.gate)
       {l₁ : List ℕ} (el : l₁ ≡ rebanded f (noted_in f preps l m s.used coefficients s.checks nonces) l)
-      {v : ℕ} (ev : Is size (heardSum ops f.parties reveal_words 0 (reveals_in f preps l m s.used coefficients s.checks nonces)) v) (z : v ≡ 0) where
+      {v : ℕ} (ev : Is size (heard_sum ops f.parties reveal_words 0 (reveals_in f preps l m s.used coefficients s.checks nonces)) v) (z : v ≡ 0) where
     first_goes : ends ops (lent_all f c preps inputs coefficients nonces) (state_of f (sealed able First inv due em) (held_of f.parties (share able First inv due em)) l₁) (Reveal First) ≡ Passed
     first_goes = goes able First inv due em el ev z
 
-    first_moved : Moved (lent_all f c preps inputs coefficients nonces) f (sealed able First inv due em) (Reveal First) (held_of f.parties (share able First inv due em)) l₁ (marked able First inv due em) (after able First inv due em el (due_at s.point.gate Open) s.prep s.released) none_held l₁ (revealedTo able First inv due em el)
+    first_moved : Moved (lent_all f c preps inputs coefficients nonces) f (sealed able First inv due em) (Reveal First) (held_of f.parties (share able First inv due em)) l₁ (marked able First inv due em) (after able First inv due em el (due_at s.point.gate Open) s.prep s.released) none_held l₁ (revealed_to able First inv due em el)
     first_moved =
         let u = revealing able First inv due em el in
         round_moved u _ (received_step u refl (ap passed first_goes))
@@ -259,7 +259,7 @@ module _ {f : Frame} {c preps inputs coefficients nonces l₀ t₀ o₀ : List �
         (next_follows c s.point.gate _ (Reveal First) (occurs _ f _ (Reveal First) _ l₁ u.going) (ap passed first_goes) refl)
         (λ r' e. (moving able First inv due em).going.prep_is) refl (none_held_lem u.going refl) (none_taken u.going refl) (none_begun u.going refl) (words_put able First inv due em el) (words_long able First inv due em el) (omega arith)
 
-    pub first_checked : Running (lent_all f c preps inputs coefficients nonces) f l₀ t₀ o₀ (after able First inv due em el (due_at s.point.gate Open) s.prep s.released) none_held l₁ (revealedTo able First inv due em el) o
+    pub first_checked : Running (lent_all f c preps inputs coefficients nonces) f l₀ t₀ o₀ (after able First inv due em el (due_at s.point.gate Open) s.prep s.released) none_held l₁ (revealed_to able First inv due em el) o
     first_checked =
         running_again _ f l₀ t₀ o₀ able (sealed_running able First inv due em el) (Reveal First) refl
         (turned_quietly _ f (sealed able First inv due em) _ l₁ (Reveal First) refl first_moved refl)
@@ -268,10 +268,10 @@ module _ {f : Frame} {c preps inputs coefficients nonces l₀ t₀ o₀ : List �
   module _ (inv : Running (lent_all f c preps inputs coefficients nonces) f l₀ t₀ o₀ s none_held l t o)
       (due : s.point.stage ≡ Send (Commit Second))
       {l₁ : List ℕ} (el : l₁ ≡ rebanded f (noted_in f preps l 1 s.used coefficients s.checks nonces) l) where
-    abbrev output-sealed : Course
-    output-sealed = sealed able Second inv due refl
+    abbrev output_sealed : Course
+    output_sealed = sealed able Second inv due refl
 
-    output_revealing : Moving (lent_all f c preps inputs coefficients nonces) f output-sealed (Reveal Second) (held_of f.parties (share able Second inv due refl)) l₁ (marked able Second inv due refl)
+    output_revealing : Moving (lent_all f c preps inputs coefficients nonces) f output_sealed (Reveal Second) (held_of f.parties (share able Second inv due refl)) l₁ (marked able Second inv due refl)
     output_revealing = revealing able Second inv due refl el
 
     within_gates : s.point.gate < gates c
@@ -288,11 +288,11 @@ module _ {f : Frame} {c preps inputs coefficients nonces l₀ t₀ o₀ : List �
     receives : receiver (gate c s.point.gate) < f.parties
     receives = receiver_named able.lent.valid s.point.gate within_gates (omega (arith, able.lent.some))
 
-    score_ready : (i : ℕ) → i < f.parties → Ready size (party (lent_all f c preps inputs coefficients nonces) i) (band f.scratch l₁ i) f.layout (site_of c output-sealed i) (Reveal Second)
+    score_ready : (i : ℕ) → i < f.parties → Ready size (party (lent_all f c preps inputs coefficients nonces) i) (band f.scratch l₁ i) f.layout (site_of c output_sealed i) (Reveal Second)
     score_ready = output_revealing.going.ready
 
     module _ {give : Bool} (eg : give ≡ is_give (gate c s.point.gate)) where
-      pub score-asked :
+      pub score_asked :
           (gate_size * s.point.gate + gate_size ≤ length c)
           × (receiver (gate c s.point.gate) < f.parties)
           × Banded f l₁
@@ -300,13 +300,13 @@ module _ {f : Frame} {c preps inputs coefficients nonces l₀ t₀ o₀ : List �
           × (give ≡ true → s.prep + mask_size ≤ f.prep)
           × EachBand f l₁ (λ i x. Opened size (layout_of f.layout) x 0)
       unfolding site_of party
-      score-asked = (
-        (score-asks _ _ _ _ (score_ready _ receives)).0,
+      score_asked = (
+        (score_asks _ _ _ _ (score_ready _ receives)).0,
         receives,
         lent_banded output_revealing.going.lent output_revealing.going.room,
         lent_prepared output_revealing.going.lent s.prep 0 (omega (arith, output_record)),
         (λ b. omega (arith, output_record, give_prep (gate c s.point.gate) (sym eg ∙ b))),
-        λ i h. (score-asks _ _ _ _ (score_ready i h)).5,
+        λ i h. (score_asks _ _ _ _ (score_ready i h)).5,
       )
 
       -- what the code reads is the receiver's score
@@ -318,38 +318,38 @@ module _ {f : Frame} {c preps inputs coefficients nonces l₀ t₀ o₀ : List �
           score_made ops _ _ _ _ (Reveal Second) (score_ready _ receives) eg
           (lent_record_is output_revealing.going.lent output_revealing.going.prep_is within_gates (receiver (gate c s.point.gate))) e
 
-    pub output_room : s.released < length o
-    output_room = outputs_left _ f l₀ t₀ o₀ able (sealed_running able Second inv due refl el) (Reveal Second) refl refl
+    pub output_room_lem : s.released < length o
+    output_room_lem = outputs_left _ f l₀ t₀ o₀ able (sealed_running able Second inv due refl el) (Reveal Second) refl refl
 
     pub output_settles : Prepared f preps 0 1
         × Banded f l₁
         × (0 < f.parties)
         × EachBand f l₁ (λ i x. Settles size c (layout_of f.layout) (key_in f preps i) x (s.point.gate + 1))
     output_settles =
-        reveal_settles f output-sealed c preps inputs l₁ _ (lent_undrawn output_revealing.going.lent) output_revealing.going.room (said_received output_revealing)
+        reveal_settles f output_sealed c preps inputs l₁ _ (lent_undrawn output_revealing.going.lent) output_revealing.going.room (said_received output_revealing)
 
-    module _ {v : ℕ} (ev : Is size (heardSum ops f.parties reveal_words 0 (reveals_in f preps l 1 s.used coefficients s.checks nonces)) v) (z : v ≡ 0)
+    module _ {v : ℕ} (ev : Is size (heard_sum ops f.parties reveal_words 0 (reveals_in f preps l 1 s.used coefficients s.checks nonces)) v) (z : v ≡ 0)
         {l₂ : List ℕ} (es : l₂ ≡ rebanded f (settled_left f c preps l₁ (s.point.gate + 1)) l₁) {x : ℕ}
         (ex : x ≡ scored ops (party (lent_all f c preps inputs coefficients nonces) (receiver (gate c s.point.gate))) (band f.scratch l₁ (receiver (gate c s.point.gate))) s.point.gate) where
-      second_goes : ends ops (lent_all f c preps inputs coefficients nonces) (state_of f output-sealed (held_of f.parties (share able Second inv due refl)) l₁) (Reveal Second) ≡ Passed
+      second_goes : ends ops (lent_all f c preps inputs coefficients nonces) (state_of f output_sealed (held_of f.parties (share able Second inv due refl)) l₁) (Reveal Second) ≡ Passed
       second_goes = goes able Second inv due refl el ev z
 
-      second_moved : Moved (lent_all f c preps inputs coefficients nonces) f output-sealed (Reveal Second) (held_of f.parties (share able Second inv due refl)) l₁ (marked able Second inv due refl) (after able Second inv due refl el (resume c (suc s.point.gate)) (s.prep + (shape (gate c s.point.gate)).prep) (s.released + 1)) none_held l₂ (revealedTo able Second inv due refl el)
+      second_moved : Moved (lent_all f c preps inputs coefficients nonces) f output_sealed (Reveal Second) (held_of f.parties (share able Second inv due refl)) l₁ (marked able Second inv due refl) (after able Second inv due refl el (resume c (suc s.point.gate)) (s.prep + (shape (gate c s.point.gate)).prep) (s.released + 1)) none_held l₂ (revealed_to able Second inv due refl el)
       second_moved =
           round_moved output_revealing _ (received_step output_revealing refl (ap passed second_goes))
-          (reveal_received f output-sealed c preps inputs l₁ _ (lent_undrawn output_revealing.going.lent) output_revealing.going.room (said_received output_revealing) es)
+          (reveal_received f output_sealed c preps inputs l₁ _ (lent_undrawn output_revealing.going.lent) output_revealing.going.room (said_received output_revealing) es)
           (ap blamed second_goes)
           (next_follows c s.point.gate _ (Reveal Second) (occurs _ f _ (Reveal Second) _ l₁ output_revealing.going) (ap passed second_goes) refl)
           next_record refl (none_held_lem output_revealing.going refl) (none_taken output_revealing.going refl) (none_begun output_revealing.going refl) (words_put able Second inv due refl el) (words_long able Second inv due refl el) (omega arith)
 
-      released_here : (s.released + 1 ≡ s.released + length (released ops (lent_all f c preps inputs coefficients nonces) (state_of f output-sealed (held_of f.parties (share able Second inv due refl)) l₁) (Reveal Second)))
-          × (set o s.released x ≡ written_at s.released (released ops (lent_all f c preps inputs coefficients nonces) (state_of f output-sealed (held_of f.parties (share able Second inv due refl)) l₁) (Reveal Second)) o)
+      released_here : (s.released + 1 ≡ s.released + length (released ops (lent_all f c preps inputs coefficients nonces) (state_of f output_sealed (held_of f.parties (share able Second inv due refl)) l₁) (Reveal Second)))
+          × (set o s.released x ≡ written_at s.released (released ops (lent_all f c preps inputs coefficients nonces) (state_of f output_sealed (held_of f.parties (share able Second inv due refl)) l₁) (Reveal Second)) o)
       unfolding released state_of
       released_here =
           freed_one (Reveal Second)
-          (ends ops (lent_all f c preps inputs coefficients nonces) (state_of f output-sealed (held_of f.parties (share able Second inv due refl)) l₁) (Reveal Second)) s.released o refl (ap passed second_goes) ex
+          (ends ops (lent_all f c preps inputs coefficients nonces) (state_of f output_sealed (held_of f.parties (share able Second inv due refl)) l₁) (Reveal Second)) s.released o refl (ap passed second_goes) ex
 
-      pub second_checked : Running (lent_all f c preps inputs coefficients nonces) f l₀ t₀ o₀ (after able Second inv due refl el (resume c (suc s.point.gate)) (s.prep + (shape (gate c s.point.gate)).prep) (s.released + 1)) none_held l₂ (revealedTo able Second inv due refl el) (set o s.released x)
+      pub second_checked : Running (lent_all f c preps inputs coefficients nonces) f l₀ t₀ o₀ (after able Second inv due refl el (resume c (suc s.point.gate)) (s.prep + (shape (gate c s.point.gate)).prep) (s.released + 1)) none_held l₂ (revealed_to able Second inv due refl el) (set o s.released x)
       second_checked =
           running_again _ f l₀ t₀ o₀ able (sealed_running able Second inv due refl el) (Reveal Second) refl
           (record { moved = second_moved; outputs = released_here.1; given = released_here.0 })

@@ -16,8 +16,8 @@ use Rattle.sha256.specs.Sha256.{words_of}
 use Rattle.sha256.proofs.Bytes.{length_words}
 use Rattle.circuit.specs.Round.{commit_words, nonce_size, nonce_words, reveal_words}
 use Rattle.protocol.specs.Scratch.{band, written_at, nonce_of, put_nonce}
-use Rattle.protocol.specs.Send.{mark, checkShare}
-use Rattle.protocol.specs.Receive.{heardSum}
+use Rattle.protocol.specs.Send.{mark, check_share}
+use Rattle.protocol.specs.Receive.{heard_sum}
 use Rattle.protocol.specs.Code.{layout_of}
 use Rattle.protocol.specs.Ask.{most_parties}
 use Rattle.protocol.specs.Joint.{joined}
@@ -54,7 +54,7 @@ held_room n h = let z : n - 0 ≡ n = omega arith in rw z (length-take-le n none
 
 -- check shares are elements
 pub share_low : (f : Frame) (preps l : List ℕ) (k u : ℕ) (coefficients : List ℕ) (i : ℕ) → share_in f preps l k u coefficients i < size
-unfolding checkShare
+unfolding check_share
 share_low f preps l k u coefficients i = sub_lt laws _ _
 
 -- the nonces of check q of n parties
@@ -133,17 +133,17 @@ module _ {f : Frame} {preps l : List ℕ} {k u : ℕ} {coefficients : List ℕ} 
   words_end = omega (arith, h.words_fit)
 
   -- the part of the nonces that the check takes
-  abbrev nonces-here : List ℕ
-  nonces-here = take (q * f.parties * nonce_size + f.parties * nonce_size - q * f.parties * nonce_size) (drop (q * f.parties * nonce_size) nonces)
+  abbrev nonces_here : List ℕ
+  nonces_here = take (q * f.parties * nonce_size + f.parties * nonce_size - q * f.parties * nonce_size) (drop (q * f.parties * nonce_size) nonces)
 
   -- nonces are noted
-  module _ {l₁ : List ℕ} (d₁ : l₁ ≡ rebanded f (nonce_left f l nonces-here) l) where
+  module _ {l₁ : List ℕ} (d₁ : l₁ ≡ rebanded f (nonce_left f l nonces_here) l) where
     pub noted_banded : Banded f l₁
-    noted_banded = reband_banded h.banded (nonce_left f l nonces-here) (nonce_each h.banded nonces-here) d₁
+    noted_banded = reband_banded h.banded (nonce_left f l nonces_here) (nonce_each h.banded nonces_here) d₁
 
     noted_is : (i : ℕ) → i < f.parties → band f.scratch l₁ i ≡ put_nonce (layout_of f.layout) (band f.scratch l i) (nonce_in f q nonces i)
     noted_is i z =
-        reband_band h.banded (nonce_left f l nonces-here) (nonce_each h.banded nonces-here) d₁ i z
+        reband_band h.banded (nonce_left f l nonces_here) (nonce_each h.banded nonces_here) d₁ i z
         ∙ ap (λ (x : List ℕ). put_nonce (layout_of f.layout) (band f.scratch l i) (words_of x)) (nonce_cut f.parties q nonces h.nonce_count i z)
 
     nonce_there : (i : ℕ) → i < f.parties → nonce_of (layout_of f.layout) (band f.scratch l₁ i) ≡ nonce_in f q nonces i
@@ -202,7 +202,7 @@ module _ {f : Frame} {preps l : List ℕ} {k u : ℕ} {coefficients : List ℕ} 
 
           scratch_is : l₂ ≡ rebanded f (noted_in f preps l k u coefficients q nonces) l
           scratch_is =
-              reband_twice h.banded (nonce_left f l nonces-here) (nonce_each h.banded nonces-here) d₁ (marks_left f l₁ heard) (noted_in f preps l k u coefficients q nonces)
+              reband_twice h.banded (nonce_left f l nonces_here) (nonce_each h.banded nonces_here) d₁ (marks_left f l₁ heard) (noted_in f preps l k u coefficients q nonces)
               (λ i z. rw (noted_is i z, heard_is)) d₂
 
           nonce_still : (i : ℕ) → i < f.parties → nonce_of (layout_of f.layout) (band f.scratch l₂ i) ≡ nonce_in f q nonces i
@@ -231,10 +231,10 @@ module _ {f : Frame} {preps l : List ℕ} {k u : ℕ} {coefficients : List ℕ} 
             pub revealed_long : length (put_mid (a + f.parties * commit_words) (a + f.parties * commit_words + f.parties * reveal_words - (a + f.parties * commit_words)) (put_mid a (a + f.parties * commit_words - a) t ms) rs) ≡ length t
             revealed_long = ap length transcript_is ∙ length_written (a + f.parties * commit_words) reveals (written_at a marks t) ∙ length_written a marks t
 
-            abbrev revealed-there : List ℕ
-            revealed-there = take (a + f.parties * commit_words + f.parties * reveal_words - (a + f.parties * commit_words)) (drop (a + f.parties * commit_words) t₂)
+            abbrev revealed_there : List ℕ
+            revealed_there = take (a + f.parties * commit_words + f.parties * reveal_words - (a + f.parties * commit_words)) (drop (a + f.parties * commit_words) t₂)
 
-            revealed_is : revealed-there ≡ reveals
+            revealed_is : revealed_there ≡ reveals
             revealed_is = part_again t₁ rs (a + f.parties * commit_words) (f.parties * reveal_words) rs_fit rs_long ∙ reveals_are
 
             pub reveals_sum : (0 < reveal_words)
@@ -248,7 +248,7 @@ module _ {f : Frame} {preps l : List ℕ} {k u : ℕ} {coefficients : List ℕ} 
                 )
 
             pub checked : {e : ℕ}
-                → Is size (heardSum ops f.parties reveal_words 0 (take (a + f.parties * commit_words + f.parties * reveal_words - (a + f.parties * commit_words)) (drop (a + f.parties * commit_words) (put_mid (a + f.parties * commit_words) (a + f.parties * commit_words + f.parties * reveal_words - (a + f.parties * commit_words)) (put_mid a (a + f.parties * commit_words - a) t ms) rs)))) e
+                → Is size (heard_sum ops f.parties reveal_words 0 (take (a + f.parties * commit_words + f.parties * reveal_words - (a + f.parties * commit_words)) (drop (a + f.parties * commit_words) (put_mid (a + f.parties * commit_words) (a + f.parties * commit_words + f.parties * reveal_words - (a + f.parties * commit_words)) (put_mid a (a + f.parties * commit_words - a) t ms) rs)))) e
                 → Checked f preps l k u coefficients q nonces a t e l₂ (put_mid (a + f.parties * commit_words) (a + f.parties * commit_words + f.parties * reveal_words - (a + f.parties * commit_words)) (put_mid a (a + f.parties * commit_words - a) t ms) rs)
             checked w = record { sum = rw revealed_is at w; scratch = scratch_is; transcript = transcript_is }
 

@@ -24,7 +24,7 @@ use Rattle.circuit.proofs.Tests.{by_cases}
 use Rattle.protocol.specs.Scratch.{Layout, layout, Value, slots_size, read, put_opened, band}
 use Rattle.protocol.specs.Party.{key}
 use Rattle.protocol.specs.Send.{noted}
-use Rattle.protocol.specs.Receive.{afterInput, putDifferences, afterOpening, afterOpenOutput, putLinear, afterLinear, settle, onward, ownReceived, received, left}
+use Rattle.protocol.specs.Receive.{after_input, put_differences, after_opening, after_open_output, put_linear, after_linear, settle, onward, own_received, received, left}
 use Rattle.protocol.specs.Code.{layout_of}
 use Rattle.protocol.specs.Joint.{Joint, party}
 use Rattle.protocol.specs.Run.{said, notes, step}
@@ -65,10 +65,10 @@ module _ (O : Ops) (y : Layout) {t : ℕ} (w : t < y.capacity) where
   settle_value i key c zero j l h = refl
   settle_value i key c (suc left) j l h =
       go (is_linear (gate c j))
-      (settle_value i key c left (suc j) (afterLinear O i key y l j (gate c j)) (omega arith) ∙ (unfold afterLinear putLinear in value_put y l j t _ (omega arith) w))
+      (settle_value i key c left (suc j) (after_linear O i key y l j (gate c j)) (omega arith) ∙ (unfold after_linear put_linear in value_put y l j t _ (omega arith) w))
     where
-      go : (b : Bool) → read y (settle O i key c y left (suc j) (afterLinear O i key y l j (gate c j))) (Value t) ≡ read y l (Value t)
-          → read y (cond b (settle O i key c y left (suc j) (afterLinear O i key y l j (gate c j))) l) (Value t) ≡ read y l (Value t)
+      go : (b : Bool) → read y (settle O i key c y left (suc j) (after_linear O i key y l j (gate c j))) (Value t) ≡ read y l (Value t)
+          → read y (cond b (settle O i key c y left (suc j) (after_linear O i key y l j (gate c j))) l) (Value t) ≡ read y l (Value t)
       go true e = e
       go false e = refl
 
@@ -89,8 +89,8 @@ module _ (O : Ops) (y : Layout) {t : ℕ} (w : t < y.capacity) where
       → u + k ≤ y.capacity
       → (t < u → read y l (Value t) ≡ read y l' (Value t))
       → t < u + k
-      → read y (afterOpening O i key y l j x z m k u e d) (Value t) ≡ read y (afterOpening O i' key' y l' j x z m' k u e d) (Value t)
-  unfolding afterOpening putDifferences
+      → read y (after_opening O i key y l j x z m k u e d) (Value t) ≡ read y (after_opening O i' key' y l' j x z m' k u e d) (Value t)
+  unfolding after_opening put_differences
   opening_value l l' room room' i i' key key' j x z m m' k u e d h some few fits same q =
       value_put y _ j t _ h w
       ∙ by_cases (eqb k 2)
@@ -148,7 +148,7 @@ module _ {J : Joint} {f : Frame} {s : Course} {l t : List ℕ} {held : List ℕ}
   -- an in gate leaves opened values
   input_kept : (shape (gate J.circuit s.point.gate)).class ≡ Owned → (i k : ℕ) → k < (layout J.circuit).capacity
       → read (layout J.circuit) (received ops (party J i) (band f.scratch l i) s.point.gate Own (heard g d refl refl)) (Value k) ≡ read (layout J.circuit) (band f.scratch l i) (Value k)
-  unfolding received ownReceived onward party afterInput
+  unfolding received own_received onward party after_input
   input_kept cl i k fits =
       rw cl
       (settle_value ops (layout J.circuit) fits i _ _ _ _ _ (rest_fits g d refl refl inside)
@@ -165,7 +165,7 @@ module _ {J : Joint} {f : Frame} {s : Course} {l t : List ℕ} {held : List ℕ}
   pub opening_common : (shape (gate J.circuit s.point.gate)).class ≡ Opens → {u k : ℕ} → u ≡ unchecked J.circuit s.point.gate → k ≡ (shape (gate J.circuit s.point.gate)).openings
       → Common f l u
       → Common f l' (u + k)
-  unfolding received ownReceived onward party layout
+  unfolding received own_received onward party layout
   opening_common cl {u} {k} eu ek h =
       let o = opens_facts (gate J.circuit s.point.gate) cl in
       common_after g d refl refl (u + k) (λ i q e w.
@@ -179,7 +179,7 @@ module _ {J : Joint} {f : Frame} {s : Course} {l t : List ℕ} {held : List ℕ}
 -- an output that is opened is the same to all
 module _ {J : Joint} {f : Frame} {s : Course} {l t : List ℕ} {held : List ℕ} {s' : Course} {held' l' t' : List ℕ} (g : Going J f s Open held l) (d : Moved J f s Open held l t s' held' l' t') where
   pub show_common : Common f l' 1
-  unfolding received afterOpenOutput party layout capacity
+  unfolding received after_open_output party layout capacity
   show_common =
       common_after g d refl refl 1 (λ i q k w.
       let z : k ≡ 0 = omega arith in

@@ -21,7 +21,7 @@ use Rattle.protocol.specs.Scratch.{band, written_at}
 use Rattle.protocol.specs.Holding.{Opened}
 use Rattle.protocol.specs.Code.{layout_of}
 use Rattle.protocol.specs.Joint.{party}
-use Rattle.protocol.specs.Run.{mostRounds}
+use Rattle.protocol.specs.Run.{most_rounds}
 use Rattle.protocol.specs.JointEntry as E
 use Rattle.protocol.proofs.Bands.{band_end, joined_bands}
 use Rattle.protocol.proofs.Readiness.{settles_here}
@@ -41,7 +41,7 @@ use Rattle.joint.proofs.Stops.{own_in, own_opens, came_in, came_own, came_open, 
 use Rattle.joint.proofs.Running.{Running, running_moving, running_again, running_over, running_start}
 use Rattle.joint.proofs.Passing.{turned_quietly, Standing, Before, next_stop, places_stay, own_waits, own_moving}
 use Rattle.joint.proofs.Turns.{next_waits}
-use Rattle.joint.proofs.CheckTurns.{check_asked, check_stopped, first_checked, output_room, output_record, output_settles, score-asked, score_is, second_checked}
+use Rattle.joint.proofs.CheckTurns.{check_asked, check_stopped, first_checked, output_room_lem, output_record, output_settles, score_asked, score_is, second_checked}
 
 -- nothing is sent once a run is finished
 over_finished : Over Finished
@@ -117,7 +117,7 @@ module _ {f : Frame} {c preps inputs coefficients nonces l₀ t₀ o₀ : List �
       all_wait : s.waiting ≡ unchecked c s.gate
       all_wait = ⊎_elim (λ w. w) (λ w. absurd (z w.1)) inv.waits
 
-      pub first_few : s.rounds < mostRounds ops (lent_all f c preps inputs coefficients nonces) * gates c
+      pub first_few : s.rounds < most_rounds ops (lent_all f c preps inputs coefficients nonces) * gates c
       first_few = (running_moving _ f l₀ t₀ o₀ able sealing (Commit First) refl).rounds_few
 
       pub first_asked : Checks f preps l s.waiting s.used coefficients s.checks nonces s.written t
@@ -174,7 +174,7 @@ module _ {f : Frame} {c preps inputs coefficients nonces l₀ t₀ o₀ : List �
 
         module _ {v : ℕ} {l₂ t₂ : List ℕ} (e : Checked f preps l₁ 1 s₁.used coefficients s₁.checks nonces s₁.written t₁ v l₂ t₂) where
           pub second_room : s₁.released < length o
-          second_room = output_room able shown refl e.scratch
+          second_room = output_room_lem able shown refl e.scratch
 
           pub second_settles : SettlesAll f c preps l₂ (s.gate + 1)
           second_settles = output_settles able shown refl e.scratch
@@ -186,7 +186,7 @@ module _ {f : Frame} {c preps inputs coefficients nonces l₀ t₀ o₀ : List �
               × Prepared f preps s₁.prep 0
               × (give ≡ true → s₁.prep + mask_size ≤ f.prep)
               × EachBand f l₂ (λ i x. Opened size (layout_of f.layout) x 0)
-          second_score = score-asked able shown refl e.scratch
+          second_score = score_asked able shown refl e.scratch
 
           -- the record of the gate fits the preprocessing
           pub second_record : s₁.prep + (shape (gate c s.gate)).prep ≤ f.prep
@@ -207,8 +207,8 @@ module _ {f : Frame} {c preps inputs coefficients nonces l₀ t₀ o₀ : List �
             unfolding unchecked unchecked_after
             none_waits = rw (stop_is, waits_stop c s.gate h, add-one s.gate, class_is cl)
 
-            abbrev second-after : Stop
-            second-after =
+            abbrev second_after : Stop
+            second_after =
                 record {
                   gate = s.gate + 1;
                   prep = s₁.prep + (shape (gate c s.gate)).prep;
@@ -236,7 +236,7 @@ module _ {f : Frame} {c preps inputs coefficients nonces l₀ t₀ o₀ : List �
                         common = λ i q k w. absurd (omega arith);
                         running =
                             rw e.transcript
-                            (subst (λ (y : Point). Running (lent_all f c preps inputs coefficients nonces) f l₀ t₀ o₀ (course_of y second-after) none_held (settled_all f c preps l₂ (s.gate + 1))
+                            (subst (λ (y : Point). Running (lent_all f c preps inputs coefficients nonces) f l₀ t₀ o₀ (course_of y second_after) none_held (settled_all f c preps l₂ (s.gate + 1))
                             (written_at (s₁.written + f.parties * commit_words) (reveals_in f preps l₁ 1 s₁.used coefficients s₁.checks nonces) (written_at s₁.written (marks_in f preps l₁ 1 s₁.used coefficients s₁.checks nonces) t₁)) (set o s₁.released x))
                             (resume_came c s.gate h stop_is none_waits)
                             (second_checked able shown refl e.scratch e.sum w refl (score_is able shown refl e.scratch eg ex)));

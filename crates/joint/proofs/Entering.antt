@@ -15,7 +15,7 @@ use Rattle.protocol.specs.Ask.{most_parties}
 use Rattle.protocol.specs.Entry.{leave}
 use Rattle.protocol.specs.Joint.{Joint}
 use Rattle.protocol.specs.JointAsk.{ask_joint}
-use Rattle.protocol.specs.JointEntry.{JointAnswer, Refusal, jointly, verdict, jointAnswer, jointScratch, jointTranscript, jointOutputs}
+use Rattle.protocol.specs.JointEntry.{JointAnswer, Refusal, jointly, verdict, joint_answer, joint_scratch, joint_transcript, joint_outputs}
 use Rattle.joint.specs.declared.JointAnswer as D
 use Rattle.joint.specs.declared.Frame.{Frame}
 use Rattle.joint.specs.Code.{joint_of, joint_answer_of, Placed, Framed, Runnable, Ran}
@@ -25,8 +25,8 @@ use Rattle.joint.proofs.Accepting.{setting_of, lent_of, asked, Settled, settled,
 -- what the entry ensures
 abbrev Ensured : Joint → List ℕ → List ℕ → List ℕ → JointAnswer → List ℕ → List ℕ → List ℕ → Type 0
 Ensured J l t o a l' t' o' =
-    (a ≡ jointAnswer ops J l t o)
-    × ((l' ≡ jointScratch ops J l t o) × ((t' ≡ jointTranscript ops J l t o) × (o' ≡ jointOutputs ops J l t o)))
+    (a ≡ joint_answer ops J l t o)
+    × ((l' ≡ joint_scratch ops J l t o) × ((t' ≡ joint_transcript ops J l t o) × (o' ≡ joint_outputs ops J l t o)))
 
 -- what is asked of the frame
 pub frame_asked : {n : ℕ} {c : List ℕ} {f : Frame} {m : ℕ} {t : Totals} → Settled n c → Framed n c f → m ≡ gates c → Totalled c m t
@@ -37,12 +37,12 @@ frame_asked {c = c} {f = f} {t = t} s framed count all =
 
 module _ (J : Joint) (l t o : List ℕ) where
   entry_refused : {number index : ℕ} → ask_joint size J l (length t) (length o) ≡ Refused number index → Ensured J l t o (Refusal number index) l t o
-  unfolding jointAnswer jointScratch jointTranscript jointOutputs verdict jointly leave
+  unfolding joint_answer joint_scratch joint_transcript joint_outputs verdict jointly leave
   entry_refused e = (rw e, (rw e, (rw e, rw e)))
 
   entry_ran : ask_joint size J l (length t) (length o) ≡ Accepted → {a : D.JointAnswer} {l' t' o' : List ℕ} → Ran J l t o a l' t' o'
       → Ensured J l t o (joint_answer_of a) l' t' o'
-  unfolding jointAnswer jointScratch jointTranscript jointOutputs verdict jointly leave
+  unfolding joint_answer joint_scratch joint_transcript joint_outputs verdict jointly leave
   entry_ran e d = (rw e d.answer, (rw e d.scratch, (rw e d.transcript, rw e d.outputs)))
 
   -- the first group refuses ..

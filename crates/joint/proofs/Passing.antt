@@ -61,8 +61,8 @@ module _ (J : Joint) (f : Frame) (l₀ t₀ o₀ : List ℕ) where
     pub running : Running J f l₀ t₀ o₀ (course_of (came_to J.circuit s.gate s.waiting) s) none_held l t o
 
   -- where the linear gates from the gate of s on lead
-  abbrev pub stopOf : Stop → Stop
-  stopOf s =
+  abbrev pub stop_of : Stop → Stop
+  stop_of s =
       record {
         gate = reach J.circuit (f.layout.gates - s.gate) s.gate;
         prep = s.prep;
@@ -77,7 +77,7 @@ module _ (J : Joint) (f : Frame) (l₀ t₀ o₀ : List ℕ) where
   -- the run is before linear gates, or none: once these are done, it has come to a gate that has rounds, or to the end
   pub record Before (s : Stop) (places l t o : List ℕ) : Type 0 where
     pub settles : SettlesAll f J.circuit J.preps l s.gate
-    pub standing : Standing (stopOf s) places (settled_all f J.circuit J.preps l s.gate) t o
+    pub standing : Standing (stop_of s) places (settled_all f J.circuit J.preps l s.gate) t o
 
   -- they are done
   pub stood : {s : Stop} {places l t o : List ℕ} → Before s places l t o

@@ -16,7 +16,7 @@ use Rattle.circuit.specs.Round.{First, Second, Round, Own, Open, Reveal, nonce_s
 use Rattle.circuit.proofs.KindLaws.{owned_facts, opens_facts, give_prep}
 use Rattle.protocol.specs.Position.{reach}
 use Rattle.protocol.specs.Send.{shown}
-use Rattle.protocol.specs.Receive.{afterInput, afterOpening, afterOpenOutput, putLinear, settle}
+use Rattle.protocol.specs.Receive.{after_input, after_opening, after_open_output, put_linear, settle}
 use Rattle.protocol.specs.Holding.{Held, Reads}
 use Rattle.protocol.specs.Code.{layout_of}
 use Rattle.protocol.specs.Ready.{Opening, Settles, Receives, heard_first, Named, Summed}
@@ -39,22 +39,22 @@ use Rattle.joint.proofs.SendTurns.{lent_all}
 
 -- what becomes of party i's band: at in gate j ..
 abbrev pub input_left : Frame → List ℕ → List ℕ → ℕ → ℕ → ℕ → ℕ → List ℕ
-input_left f preps l j a e i = afterInput ops i (key_in f preps i) (layout_of f.layout) (band f.scratch l i) j (prep_from f preps a i) e
+input_left f preps l j a e i = after_input ops i (key_in f preps i) (layout_of f.layout) (band f.scratch l i) j (prep_from f preps a i) e
 
 -- .. at gate j, which opens k values ..
 abbrev pub opening_left : Frame → List ℕ → List ℕ → ℕ → ℕ → ℕ → ℕ → ℕ → ℕ → ℕ → ℕ → ℕ → List ℕ
-opening_left f preps l j x z a k u e d i = afterOpening ops i (key_in f preps i) (layout_of f.layout) (band f.scratch l i) j x z (prep_from f preps a i) k u e d
+opening_left f preps l j x z a k u e d i = after_opening ops i (key_in f preps i) (layout_of f.layout) (band f.scratch l i) j x z (prep_from f preps a i) k u e d
 
 -- .. where an output is opened ..
 abbrev pub output_left : Frame → List ℕ → List ℕ → ℕ → ℕ → Bool → ℕ → ℕ → List ℕ
 output_left f preps l at x give e i =
-    afterOpenOutput ops (layout_of f.layout) (band f.scratch l i)
+    after_open_output ops (layout_of f.layout) (band f.scratch l i)
     (shown ops (layout_of f.layout) (band f.scratch l i) give x (prep_from f preps at i)) e
 
 -- .. at linear gate j, which is g with what it is worked out with as its constant ..
 abbrev pub linear_left : Frame → List ℕ → List ℕ → ℕ → Gate → ℕ → List ℕ
 linear_left f preps l j g i =
-    putLinear ops i (key_in f preps i) (layout_of f.layout) (band f.scratch l i) j g.kind g.first g.second g.constant
+    put_linear ops i (key_in f preps i) (layout_of f.layout) (band f.scratch l i) j g.kind g.first g.second g.constant
 
 -- .. where its nonce is noted, and where the marks of all are ..
 abbrev pub nonce_left : Frame → List ℕ → List ℕ → ℕ → List ℕ
@@ -70,16 +70,16 @@ settled_left f c preps l a i = settle ops i (key_in f preps i) c (layout_of f.la
 -- it is as long as before
 module _ {f : Frame} {l : List ℕ} (b : Banded f l) where
   pub input_each : (preps : List ℕ) (j a e i : ℕ) → i < f.parties → length (input_left f preps l j a e i) ≡ f.scratch
-  unfolding afterInput
+  unfolding after_input
   input_each preps j a e i h = length_put (layout_of f.layout) (band f.scratch l i) j _ ∙ band_long b i h
 
   pub opening_each : (preps : List ℕ) (j x z a k u e d i : ℕ) → i < f.parties → length (opening_left f preps l j x z a k u e d i) ≡ f.scratch
-  unfolding afterOpening
+  unfolding after_opening
   opening_each preps j x z a k u e d i h =
       length_put (layout_of f.layout) _ j _ ∙ length_differences ops (layout_of f.layout) (band f.scratch l i) x z (prep_from f preps a i) k u e d ∙ band_long b i h
 
   pub output_each : (preps : List ℕ) (at x : ℕ) (give : Bool) (e i : ℕ) → i < f.parties → length (output_left f preps l at x give e i) ≡ f.scratch
-  unfolding afterOpenOutput
+  unfolding after_open_output
   output_each preps at x give e i h = length_opened (layout_of f.layout) (band f.scratch l i) 0 e _ ∙ band_long b i h
 
   pub linear_each : (preps : List ℕ) (j : ℕ) (g : Gate) (i : ℕ) → i < f.parties → length (linear_left f preps l j g i) ≡ f.scratch
@@ -207,18 +207,18 @@ module _ (f : Frame) (s : Course) (c preps inputs l heard : List ℕ) (t : Lent 
   some = omega (arith, t.some)
 
   -- the bands as they are defined
-  abbrev bandsOf : Round → ℕ → List ℕ
-  bandsOf r = received_in f J s.point.gate l r heard
+  abbrev bands_of : Round → ℕ → List ℕ
+  bands_of r = received_in f J s.point.gate l r heard
 
   -- a round that leaves the bands
   pub left_alone : l ≡ rebanded f (band f.scratch l) l
   left_alone = sym (joined_bands f.parties f.scratch l room)
 
-  pub first_left : l ≡ rebanded f (bandsOf (Reveal First)) l
+  pub first_left : l ≡ rebanded f (bands_of (Reveal First)) l
   first_left =
       left_alone
       ∙ ap (λ (z : List ℕ). z ++ drop (f.parties * f.scratch) l)
-      (joined_ext f.parties (band f.scratch l) (bandsOf (Reveal First)) (λ i h. R.first_received ops (party J i) (band f.scratch l i) s.point.gate heard))
+      (joined_ext f.parties (band f.scratch l) (bands_of (Reveal First)) (λ i h. R.first_received ops (party J i) (band f.scratch l i) s.point.gate heard))
 
   -- a round that leaves each band as F i, and then settles it
   module _ (F : ℕ → List ℕ) (each : (i : ℕ) → i < f.parties → length (F i) ≡ f.scratch) {l₁ : List ℕ} (d : l₁ ≡ rebanded f F l) where
@@ -227,11 +227,11 @@ module _ (f : Frame) (s : Course) (c preps inputs l heard : List ℕ) (t : Lent 
     settling_asked k = (lent_key t, reband_banded banded F each d, some, λ i h. k i h (reband_band banded F each d i h))
 
     settling_made : (r : Round)
-        → ((i : ℕ) → i < f.parties → band f.scratch l₁ i ≡ F i → settled_left f c preps l₁ (s.point.gate + 1) i ≡ bandsOf r i)
+        → ((i : ℕ) → i < f.parties → band f.scratch l₁ i ≡ F i → settled_left f c preps l₁ (s.point.gate + 1) i ≡ bands_of r i)
         → {l₂ : List ℕ} → l₂ ≡ rebanded f (settled_left f c preps l₁ (s.point.gate + 1)) l₁
-        → l₂ ≡ rebanded f (bandsOf r) l
+        → l₂ ≡ rebanded f (bands_of r) l
     settling_made r k =
-        reband_twice banded F each d (settled_left f c preps l₁ (s.point.gate + 1)) (bandsOf r) (λ i h. k i h (reband_band banded F each d i h))
+        reband_twice banded F each d (settled_left f c preps l₁ (s.point.gate + 1)) (bands_of r) (λ i h. k i h (reband_band banded F each d i h))
 
   -- the record of the gate
   module _ {r : Round} (w : asked r) where
@@ -270,7 +270,7 @@ module _ (f : Frame) (s : Course) (c preps inputs l heard : List ℕ) (t : Lent 
 
         pub inputs_received : e ≡ heard_first ops f.parties (gate c s.point.gate) Own heard → {l₂ : List ℕ}
             → l₂ ≡ rebanded f (settled_left f c preps l₁ (s.point.gate + 1)) l₁
-            → l₂ ≡ rebanded f (bandsOf Own) l
+            → l₂ ≡ rebanded f (bands_of Own) l
         unfolding site_of party
         inputs_received ee =
             settling_made _ lengths d Own
@@ -313,7 +313,7 @@ module _ (f : Frame) (s : Course) (c preps inputs l heard : List ℕ) (t : Lent 
             (opening_settles laws (party J i) (band f.scratch l i) f.layout (site_of c s i) (w i h).ready i x z (prep_from f preps s.prep i) k e d
             (rw (lent_keyed t i) at (each_asks i h)) (y ∙ rw (lent_keyed t i))))
 
-        pub openings_received : {l₂ : List ℕ} → l₂ ≡ rebanded f (settled_left f c preps l₁ (s.point.gate + 1)) l₁ → l₂ ≡ rebanded f (bandsOf Own) l
+        pub openings_received : {l₂ : List ℕ} → l₂ ≡ rebanded f (settled_left f c preps l₁ (s.point.gate + 1)) l₁ → l₂ ≡ rebanded f (bands_of Own) l
         unfolding site_of party
         openings_received =
             settling_made opened opened_lengths q Own
@@ -339,12 +339,12 @@ module _ (f : Frame) (s : Course) (c preps inputs l heard : List ℕ) (t : Lent 
       λ i h. (R.output_asks (party J i) (band f.scratch l i) f.layout (site_of c s i) (w i h).ready ex eg (record_here w i)).2,
     )
 
-    pub outputs_received : {e : ℕ} → e ≡ heard_first ops f.parties (gate c s.point.gate) Open heard → {l₁ : List ℕ} → l₁ ≡ rebanded f (output_left f preps l s.prep x give e) l → l₁ ≡ rebanded f (bandsOf Open) l
+    pub outputs_received : {e : ℕ} → e ≡ heard_first ops f.parties (gate c s.point.gate) Open heard → {l₁ : List ℕ} → l₁ ≡ rebanded f (output_left f preps l s.prep x give e) l → l₁ ≡ rebanded f (bands_of Open) l
     unfolding site_of party
     outputs_received {e} ee d =
         d
         ∙ ap (λ (z : List ℕ). z ++ drop (f.parties * f.scratch) l)
-        (joined_ext f.parties (output_left f preps l s.prep x give e) (bandsOf Open)
+        (joined_ext f.parties (output_left f preps l s.prep x give e) (bands_of Open)
         (λ i h. R.output_received ops (party J i) (band f.scratch l i) f.layout (site_of c s i) heard (w i h).ready ex eg (record_here w i) ee refl))
 
   -- the reveal of the second check
@@ -358,10 +358,10 @@ module _ (f : Frame) (s : Course) (c preps inputs l heard : List ℕ) (t : Lent 
       λ i h. rw (lent_keyed t i) (output_settles (party J i) (band f.scratch l i) f.layout (site_of c s i) (w i h).ready),
     )
 
-    pub reveal_received : {l₁ : List ℕ} → l₁ ≡ rebanded f (settled_left f c preps l (s.point.gate + 1)) l → l₁ ≡ rebanded f (bandsOf (Reveal Second)) l
+    pub reveal_received : {l₁ : List ℕ} → l₁ ≡ rebanded f (settled_left f c preps l (s.point.gate + 1)) l → l₁ ≡ rebanded f (bands_of (Reveal Second)) l
     unfolding site_of party
     reveal_received d =
         d
         ∙ ap (λ (z : List ℕ). z ++ drop (f.parties * f.scratch) l)
-        (joined_ext f.parties (settled_left f c preps l (s.point.gate + 1)) (bandsOf (Reveal Second))
+        (joined_ext f.parties (settled_left f c preps l (s.point.gate + 1)) (bands_of (Reveal Second))
         (λ i h. R.reveal_received ops (party J i) (band f.scratch l i) f.layout (site_of c s i) heard (w i h).ready (rw (lent_keyed t i))))

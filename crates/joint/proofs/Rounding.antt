@@ -33,7 +33,7 @@ use Rattle.protocol.proofs.Said.{sent_low}
 use Rattle.joint.specs.declared.Frame.{Frame}
 use Rattle.joint.specs.Code.{Course, site_of, state_of, received_in, rebanded, Moving, Moved}
 use Rattle.joint.proofs.Parties.{undrawn, party_undrawn}
-use Rattle.joint.proofs.Going.{heard_long, endsIn, nextIn}
+use Rattle.joint.proofs.Going.{heard_long, ends_in, next_in}
 use Rattle.joint.proofs.Rows.{gate_fits}
 
 -- a part of a list that comes back as ws holds ws, and the list is as long as before
@@ -113,12 +113,12 @@ module _ {J : Joint} {f : Frame} {s : Course} {r : Round} {held l t : List ℕ} 
 
   -- what a round that is no commitment leaves of each band, where it stops the run and where it does not
   module _ (e : is_commit r ≡ false) where
-    pub received_step : passed (endsIn J f s r held l u.going) ≡ true → (i : ℕ) → i < J.parties
+    pub received_step : passed (ends_in J f s r held l u.going) ≡ true → (i : ℕ) → i < J.parties
         → received_in f (undrawn J) s.point.gate l r said_here i ≡ (step ops J (state_of f s held l) r).scratch i
     unfolding step notes noted left state_of party
     received_step z i h = rw (e, z)
 
-    pub stopped_step : passed (endsIn J f s r held l u.going) ≡ false → (i : ℕ) → i < J.parties
+    pub stopped_step : passed (ends_in J f s r held l u.going) ≡ false → (i : ℕ) → i < J.parties
         → band f.scratch l i ≡ (step ops J (state_of f s held l) r).scratch i
     unfolding step notes noted left state_of
     stopped_step z i h = rw (e, z)
@@ -147,9 +147,9 @@ module _ {J : Joint} {f : Frame} {s : Course} {r : Round} {held l t : List ℕ} 
         ∙ same i h
 
     -- what the round leaves, which names nobody
-    pub round_moved : blamed (endsIn J f s r held l u.going) ≡ Nobody
+    pub round_moved : blamed (ends_in J f s r held l u.going) ≡ Nobody
         → {s' : Course} {held' t' : List ℕ}
-        → s'.point ≡ nextIn J f s r held l u.going
+        → s'.point ≡ next_in J f s r held l u.going
         → ((r' : Round) → s'.point.stage ≡ Send r' → s'.prep ≡ prep_at J.circuit s'.point.gate)
         → length held' ≡ most_parties
         → ((i : ℕ) → i < J.parties → Is size ((step ops J (state_of f s held l) r).held i) (get_or held' i 0))

@@ -22,7 +22,7 @@ use Rattle.protocol.proofs.Following.{start_is}
 use Rattle.protocol.proofs.Points.{FitsStage, spent, sending, spent_follow, Goes, goes_start, spent_le}
 use Rattle.protocol.specs.Send.{overwrite}
 use Rattle.protocol.specs.Joint.{Joint, joined, party}
-use Rattle.protocol.specs.Run.{State, Run, said, step, released, takes, begun, still, ahead, run, mostRounds, whole}
+use Rattle.protocol.specs.Run.{State, Run, said, step, released, takes, begun, still, ahead, run, most_rounds, whole}
 use Rattle.protocol.specs.JointEntry as E
 use Rattle.joint.specs.declared.JointAnswer.{JointAnswer}
 use Rattle.joint.specs.declared.Frame.{Frame}
@@ -36,7 +36,7 @@ use Rattle.protocol.proofs.Runs.{Over, run_goes, run_over, next_passed, next_goe
 use Rattle.joint.proofs.Parties.{party_prep, party_prep_low, party_inputs, party_inputs_low}
 use Rattle.protocol.proofs.Spending.{rounds_le, outputs_all}
 use Rattle.joint.proofs.States.{said_alike, released_alike, step_alike, alike_then}
-use Rattle.joint.proofs.Going.{endsIn, nextIn, within, occurs, heard_long, point_is, next_fits, going_next}
+use Rattle.joint.proofs.Going.{ends_in, next_in, within, occurs, heard_long, point_is, next_fits, going_next}
 
 -- what a round takes: one round, the words of a party, coefficients, checks, and outputs where it is not stopped
 abbrev one : ℕ → Round → ℕ
@@ -58,7 +58,7 @@ module _ (J : Joint) (f : Frame) where
   -- round r is due: what it asks is there, and what lies behind it is used up. That many rounds may still be made
   pub record DueRound (s : Course) (held l : List ℕ) (left : ℕ) (r : Round) : Type 0 where
     pub going : Going J f s r held l
-    pub fuel : s.rounds + left ≡ mostRounds ops J * gates J.circuit
+    pub fuel : s.rounds + left ≡ most_rounds ops J * gates J.circuit
     pub rounds : s.rounds ≡ spent J.circuit one (sending s.point.gate r)
     pub written : s.written ≡ J.parties * spent J.circuit (words_of J.circuit) (sending s.point.gate r)
     pub used : s.used ≡ spent J.circuit (draws_of J.circuit) (sending s.point.gate r)
@@ -99,7 +99,7 @@ module _ (J : Joint) (f : Frame) where
       fits = (within J f s r held l due_is.going, occurs J f s r held l due_is.going)
 
       -- there are rounds left
-      pub rounds_left : s.rounds < mostRounds ops J * gates J.circuit
+      pub rounds_left : s.rounds < most_rounds ops J * gates J.circuit
       rounds_left = omega (arith, due_is.rounds, spent_le J.circuit one s.point.gate r fits, rounds_le J.circuit (gates J.circuit))
 
       words_left : s.written + J.parties * words (gate J.circuit s.point.gate) r ≤ length t
@@ -174,7 +174,7 @@ module _ (J : Joint) (f : Frame) where
         run_is = ap (λ (k : ℕ). run ops J k inv.st) rest_is ∙ run_goes ops J rest inv.st r st_sends
 
         -- what lies behind the next round
-        module _ (r' : Round) (e' : (nextIn J f s r held l due_is.going).stage ≡ Send r') where
+        module _ (r' : Round) (e' : (next_in J f s r held l due_is.going).stage ≡ Send r') where
           spent_next : (h : ℕ → Round → ℕ) → spent J.circuit h (sending s'.point.gate r') ≡ spent J.circuit h (sending s.point.gate r) + h s.point.gate r
           spent_next h =
               ap (λ (x : Point). spent J.circuit h x) there
@@ -183,8 +183,8 @@ module _ (J : Joint) (f : Frame) where
               there : ◌≡◌ {A = Point} (record { gate = s'.point.gate; stage = Send r' }) (follow J.circuit s.point.gate r)
               there =
                   ap (λ (x : Point). record { gate = x.gate; stage = Send r' }) (point_is J f s r held l due_is.going d.moved)
-                  ∙ ap (λ (z : Stage). record { gate = (nextIn J f s r held l due_is.going).gate; stage = z }) (sym e')
-                  ∙ next_goes J.circuit s.point.gate r (endsIn J f s r held l due_is.going) r' e'
+                  ∙ ap (λ (z : Stage). record { gate = (next_in J f s r held l due_is.going).gate; stage = z }) (sym e')
+                  ∙ next_goes J.circuit s.point.gate r (ends_in J f s r held l due_is.going) r' e'
 
           fits_next : FitsStage J.circuit s'.point.gate (Send r')
           fits_next = next_fits J f s r held l due_is.going d.moved r' e'
@@ -224,16 +224,16 @@ module _ (J : Joint) (f : Frame) where
                       d.given,
                       due_is.given,
                       spent_next output_of,
-                      released_one ops J (state_of f s held l) r (next_passed J.circuit s.point.gate r (endsIn J f s r held l due_is.going) r' e'),
+                      released_one ops J (state_of f s held l) r (next_passed J.circuit s.point.gate r (ends_in J f s r held l due_is.going) r' e'),
                     );
               }
 
         due_then : Due s' held' l' rest s'.point.stage
         due_then =
             subst (Due s' held' l' rest) (sym (ap (λ (x : Point). x.stage) (point_is J f s r held l due_is.going d.moved)))
-            (go (nextIn J f s r held l due_is.going).stage refl)
+            (go (next_in J f s r held l due_is.going).stage refl)
           where
-            go : (x : Stage) → (nextIn J f s r held l due_is.going).stage ≡ x → Due s' held' l' rest x
+            go : (x : Stage) → (next_in J f s r held l due_is.going).stage ≡ x → Due s' held' l' rest x
             go (Send r') e' = due_next r' e'
             go (Receive r') e' = tt
             go Finished e' = tt
@@ -381,7 +381,7 @@ module _ (J : Joint) (f : Frame) (l t o : List ℕ) (able : Runnable J f l t o) 
               checks = b.checks;
               blame = refl;
             };
-        left = mostRounds ops J * gates J.circuit;
+        left = most_rounds ops J * gates J.circuit;
         ws = [];
         vs = [];
         long = refl;
@@ -395,7 +395,7 @@ module _ (J : Joint) (f : Frame) (l t o : List ℕ) (able : Runnable J f l t o) 
         rounds = omega (arith, b.rounds);
         last = refl;
         due =
-            subst (Due J f s none_held l (mostRounds ops J * gates J.circuit)) (sym stage_input)
+            subst (Due J f s none_held l (most_rounds ops J * gates J.circuit)) (sym stage_input)
             (record {
               going =
                   record {

@@ -27,7 +27,7 @@ use Rattle.circuit.proofs.Tests.{by_cases}
 use Rattle.protocol.specs.Scratch.{Layout, band}
 use Rattle.protocol.specs.Position.{keep}
 use Rattle.protocol.specs.Party.{key, record_in, record_of, input_of}
-use Rattle.protocol.specs.Send.{mark, inputWord, openingWords, opening, own_words, shown, showing, sent, holds}
+use Rattle.protocol.specs.Send.{mark, input_word, words_of_opening, opening, own_words, shown, showing, sent, holds}
 use Rattle.protocol.specs.Holding.{Below, Held, Opened}
 use Rattle.protocol.specs.Code.{layout_of}
 use Rattle.protocol.specs.Ready.{Named}
@@ -37,11 +37,11 @@ use Rattle.protocol.specs.Joint.{Joint, joined, inputs_at, party}
 use Rattle.protocol.specs.Run.{takes, taken, said, step}
 use Rattle.joint.specs.declared.Frame.{Frame}
 use Rattle.joint.specs.Code.{Course, Placed, joint_of, site_of, state_of, part, prep_from, key_in, Prepared, Banded, EachBand, Going, said_by, share_in, revealed_by}
-use Rattle.protocol.specs.Receive.{heardSum}
+use Rattle.protocol.specs.Receive.{heard_sum}
 use Rattle.sha256.specs.Digest.Laws.{digest_long}
 use Rattle.protocol.proofs.Summing.{Running}
 use Rattle.protocol.proofs.Tails.{length_nonce}
-use Rattle.protocol.proofs.Words.{joined_ext, heard_sum}
+use Rattle.protocol.proofs.Words.{joined_ext, heard_sum_lem}
 use Rattle.joint.proofs.Cutting.{band_tail}
 use Rattle.joint.proofs.Parties.{lent_prepared, lent_key, lent_banded, lent_keyed, lent_record, lent_record_is}
 use Rattle.joint.proofs.Going.{within, occurs}
@@ -52,10 +52,10 @@ part_enough u k xs h = rw (add-sub_cancel_left u k) (omega (arith, length-take-l
 
 -- the words of party i at a gate that opens k values and names x and z
 abbrev pub opened_words : Frame → List ℕ → List ℕ → ℕ → ℕ → ℕ → ℕ → ℕ → List ℕ
-opened_words f preps l a x z k i = openingWords ops (layout_of f.layout) (band f.scratch l i) x z (prep_from f preps a i) k
+opened_words f preps l a x z k i = words_of_opening ops (layout_of f.layout) (band f.scratch l i) x z (prep_from f preps a i) k
 
 -- they are k
-pub opened_words_lem : (O : Ops) (y : Layout) (l : List ℕ) (x z : ℕ) (m : List ℕ) (k : ℕ) → 1 ≤ k → k ≤ 2 → length (openingWords O y l x z m k) ≡ k
+pub opened_words_lem : (O : Ops) (y : Layout) (l : List ℕ) (x z : ℕ) (m : List ℕ) (k : ℕ) → 1 ≤ k → k ≤ 2 → length (words_of_opening O y l x z m k) ≡ k
 opened_words_lem O y l x z m k some few =
     by_cases (eqb k 2) (λ e. rw e (omega (arith, eqb-true k 2 e))) (λ e. rw e (omega (arith, eqb-false k 2 e)))
 
@@ -71,7 +71,7 @@ reveal_long {f} {l} b held i h = ap suc (length_nonce (layout_of f.layout) (band
 module _ (n k t : ℕ) (F : ℕ → List ℕ) (each : (i : ℕ) → i < n → length (F i) ≡ k) (within : t < k) where
   pub words_heard : {out : List ℕ} → out ≡ joined n F → {most i acc e : ℕ} → i ≤ n → n ≤ i → Running ops most (λ z. get_or (F z) t 0) i acc
       → Is size (ops.norm acc) e
-      → Is size (heardSum ops n k t out) e
+      → Is size (heard_sum ops n k t out) e
   words_heard d {i = i} upto done a ee =
       let q : i ≡ n = omega arith in
       record {
@@ -79,17 +79,17 @@ module _ (n k t : ℕ) (F : ℕ → List ℕ) (each : (i : ℕ) → i < n → le
             ee.is
             ∙ a.added.is
             ∙ ap (λ (m : ℕ). sum ops m (λ z. get_or (F z) t 0)) q
-            ∙ sym (heard_sum laws n k t F each within)
-            ∙ ap (heardSum ops n k t) (sym d);
+            ∙ sym (heard_sum_lem laws n k t F each within)
+            ∙ ap (heard_sum ops n k t) (sym d);
         below = ee.below;
       }
 
 -- an input matters to its owner only
-input_same : (O : Ops) (i owner : ℕ) (m : List ℕ) (u v : ℕ) → (i ≡ owner → u ≡ v) → inputWord O i owner m u ≡ inputWord O i owner m v
-unfolding inputWord
+input_same : (O : Ops) (i owner : ℕ) (m : List ℕ) (u v : ℕ) → (i ≡ owner → u ≡ v) → input_word O i owner m u ≡ input_word O i owner m v
+unfolding input_word
 input_same O i owner m u v h = go (ℕ_discrete i owner)
   where
-    go : Dec (i ≡ owner) → inputWord O i owner m u ≡ inputWord O i owner m v
+    go : Dec (i ≡ owner) → input_word O i owner m u ≡ input_word O i owner m v
     go (yes e) = rw (h e)
     go (no e) = rw (ne_eqb i owner e)
 
@@ -183,7 +183,7 @@ module _ {f : Frame} {s : Course} {c preps inputs coefficients nonces held l : L
           ∙ sym (get_or-take (input_count c i) (drop (inputs_at c i) inputs) (input_at c i s.point.gate) 0 (input_within c i s.point.gate (class_is cl) (sym e) (within (lent_all f c preps inputs coefficients nonces) f s Own held l g)) ∙ get_or-drop (inputs_at c i) inputs (input_at c i s.point.gate) 0)
 
       pub said_input : {x : ℕ} → x ≡ (gate c s.point.gate).first → {out : List ℕ}
-          → out ≡ joined f.parties (λ i. inputWord ops i x (prep_from f preps s.prep i) (get_or inputs (get_or places i 0) 0) ∷ [])
+          → out ≡ joined f.parties (λ i. input_word ops i x (prep_from f preps s.prep i) (get_or inputs (get_or places i 0) 0) ∷ [])
           → out ≡ said ops (lent_all f c preps inputs coefficients nonces) (state_of f s held l) Own
       unfolding sent own_words state_of party
       said_input {x} ex d =

@@ -21,11 +21,11 @@ use Rattle.circuit.proofs.Counts.{unchecked_few}
 use Rattle.circuit.proofs.RoundLaws.{class_at_round}
 use Rattle.protocol.specs.Scratch.{band}
 use Rattle.protocol.specs.Position.{Point, Send, resume}
-use Rattle.protocol.specs.Receive.{Nobody, passed, heardSum}
+use Rattle.protocol.specs.Receive.{Nobody, passed, heard_sum}
 use Rattle.protocol.specs.Holding.{Below, Held}
 use Rattle.protocol.specs.Code.{layout_of}
 use Rattle.protocol.specs.Ready.{Opening, heard_first, Named, Hears, Summed}
-use Rattle.protocol.specs.Send.{inputWord, shown}
+use Rattle.protocol.specs.Send.{input_word, shown}
 use Rattle.protocol.specs.Ask.{most_parties}
 use Rattle.protocol.specs.Joint.{Joint, joined}
 use Rattle.protocol.specs.Run.{blamed, takes, said, step}
@@ -38,7 +38,7 @@ use Rattle.protocol.proofs.Readiness.{input_words, opening_words, output_words}
 use Rattle.joint.specs.declared.Frame.{Frame}
 use Rattle.joint.specs.Code.{Course, Small, Placed, due_at, state_of, prep_from, key_in, Prepared, Banded, EachBand, rebanded, received_in, none_held, SettlesAll, settled_all, Going, Moving, Moved}
 use Rattle.joint.proofs.Parties.{undrawn, lent_undrawn, lent_record, lent_key}
-use Rattle.joint.proofs.Going.{within, occurs, endsIn}
+use Rattle.joint.proofs.Going.{within, occurs, ends_in}
 use Rattle.joint.proofs.Rows.{all_hear}
 use Rattle.joint.proofs.Arrays.{owner_there, owner_few, counted_in, placed_small, placed_on}
 use Rattle.joint.proofs.Later.{resumed_prep}
@@ -67,10 +67,10 @@ module _ {f : Frame} {s : Course} {c preps inputs coefficients nonces held l : L
   none_begun e = rw e (omega arith)
 
   -- a round that is no reveal passes, and names nobody
-  pub quiet_passed : is_reveal r ≡ false → passed (endsIn (lent_all f c preps inputs coefficients nonces) f s r held l g) ≡ true
+  pub quiet_passed : is_reveal r ≡ false → passed (ends_in (lent_all f c preps inputs coefficients nonces) f s r held l g) ≡ true
   quiet_passed e = ap passed (ends_other ops (lent_all f c preps inputs coefficients nonces) (state_of f s held l) r e)
 
-  pub quiet_named : is_reveal r ≡ false → blamed (endsIn (lent_all f c preps inputs coefficients nonces) f s r held l g) ≡ Nobody
+  pub quiet_named : is_reveal r ≡ false → blamed (ends_in (lent_all f c preps inputs coefficients nonces) f s r held l g) ≡ Nobody
   quiet_named e = ap blamed (ends_other ops (lent_all f c preps inputs coefficients nonces) (state_of f s held l) r e)
 
 -- a gate's own round, of which m words come back as ws: what it leaves once the bands are those of the definition
@@ -161,7 +161,7 @@ module _ {f : Frame} {s : Course} {c preps inputs coefficients nonces l t : List
       input_waits {w} ew =
           let z : w + 0 ≡ _ = next_waits (owned_no_out cl) ew (sym (owned_facts (gate c s.point.gate) cl).openings) in omega (arith, z)
 
-      module _ {ws : List ℕ} (d : ws ≡ joined f.parties (λ i. inputWord ops i x (prep_from f preps s.prep i) (get_or inputs (get_or places i 0) 0) ∷ [])) where
+      module _ {ws : List ℕ} (d : ws ≡ joined f.parties (λ i. input_word ops i x (prep_from f preps s.prep i) (get_or inputs (get_or places i 0) 0) ∷ [])) where
         input_said : ws ≡ said ops (lent_all f c preps inputs coefficients nonces) (state_of f s none_held l) Own
         input_said = said_input u.going cl placed ex d
 
@@ -178,7 +178,7 @@ module _ {f : Frame} {s : Course} {c preps inputs coefficients nonces l t : List
             × (is_class Owned (class_of g.class) ≡ true → x < f.parties)
         input_hears = first_asks (own_hears each_one input_said) (shape_class g _ eg) words_are ex
 
-        module _ {e : ℕ} (ee : Is size (cond (is_class Owned (class_of g.class)) (get_or (heard_at s f.parties t ws) (x * g.words) 0) (heardSum ops f.parties g.words 0 (heard_at s f.parties t ws))) e) where
+        module _ {e : ℕ} (ee : Is size (cond (is_class Owned (class_of g.class)) (get_or (heard_at s f.parties t ws) (x * g.words) 0) (heard_sum ops f.parties g.words 0 (heard_at s f.parties t ws))) e) where
           heard_first_lem : Is size (heard_first ops f.parties (gate c s.point.gate) Own (heard_at s f.parties t ws)) e
           heard_first_lem = first_found (own_hears each_one input_said) (shape_class g _ eg) words_are ops ex ee
 
@@ -253,8 +253,8 @@ module _ {f : Frame} {s : Course} {c preps inputs coefficients nonces l t : List
         class_same : class_of g.class ≡ Opens
         class_same = shape_class g _ eg ∙ cl
 
-        module _ {e : ℕ} (ee : Is size (heardSum ops f.parties g.openings 0 ws) e)
-            {v : ℕ} (ev : Is size (heardSum ops f.parties g.openings (g.openings - 1) ws) v) where
+        module _ {e : ℕ} (ee : Is size (heard_sum ops f.parties g.openings 0 ws) e)
+            {v : ℕ} (ev : Is size (heard_sum ops f.parties g.openings (g.openings - 1) ws) v) where
           summed : Summed ops f.parties (gate c s.point.gate) Own (heard_at s (f.parties * g.openings) t ws) e v
           summed =
               record {
@@ -332,11 +332,11 @@ module _ {f : Frame} {s : Course} {c preps inputs coefficients nonces l t : List
           outputs_ask f s c preps inputs l (heard_at s f.parties t ws) (lent_undrawn u.going.lent) u.going.room
           (round_receives u shown_each said_is) ex eg
 
-      module _ {e : ℕ} (ee : Is size (heardSum ops f.parties 1 0 (heard_at s f.parties t ws)) e) {l₁ : List ℕ} (el : l₁ ≡ rebanded f (output_left f preps l s.prep x give e) l) where
+      module _ {e : ℕ} (ee : Is size (heard_sum ops f.parties 1 0 (heard_at s f.parties t ws)) e) {l₁ : List ℕ} (el : l₁ ≡ rebanded f (output_left f preps l s.prep x give e) l) where
         shown_is : e ≡ heard_first ops f.parties (gate c s.point.gate) Open (heard_at s f.parties t ws)
         shown_is =
             ee.is
-            ∙ ap (λ (k : ℕ). heardSum ops f.parties k 0 (heard_at s f.parties t ws)) (sym one_word)
+            ∙ ap (λ (k : ℕ). heard_sum ops f.parties k 0 (heard_at s f.parties t ws)) (sym one_word)
             ∙ sym (output_heard ops f.parties (heard_at s f.parties t ws) Open (gate c s.point.gate) is_out_lem)
 
         left_is : l₁ ≡ rebanded f (received_in f (undrawn (lent_all f c preps inputs coefficients nonces)) s.point.gate l Open (heard_at s f.parties t ws)) l

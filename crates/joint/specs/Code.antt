@@ -14,15 +14,15 @@ use Rattle.circuit.specs.Valid.{Valid}
 use Rattle.sha256.specs.Sha256.{words_of}
 use Rattle.protocol.specs.Scratch.{layout, Value, read, band, written_at, marks_at, scratch_size, nonce_of, put_nonce, put_marks}
 use Rattle.protocol.specs.Position.{Point, Send, finished}
-use Rattle.protocol.specs.Send.{revealed, mark, checkShare, sent, overwrite}
-use Rattle.protocol.specs.Receive.{Nobody, heardSum, received, settle}
+use Rattle.protocol.specs.Send.{revealed, mark, check_share, sent, overwrite}
+use Rattle.protocol.specs.Receive.{Nobody, heard_sum, received, settle}
 use Rattle.protocol.specs.Holding.{Below, Opened}
 use Rattle.protocol.specs.Code.{layout_of, blame_of}
 use Rattle.protocol.specs.Ready.{Ready, Settles}
 use Rattle.protocol.specs.declared.Site.{Site}
 use Rattle.protocol.specs.Ask.{fewest_parties, most_parties}
 use Rattle.protocol.specs.Joint.{Joint, joined, inputs_at, party, nonce_for}
-use Rattle.protocol.specs.Run.{State, taken, said, step, released, mostRounds, whole}
+use Rattle.protocol.specs.Run.{State, taken, said, step, released, most_rounds, whole}
 use Rattle.protocol.specs.JointEntry as E
 use Rattle.joint.specs.declared.JointAnswer.{JointAnswer}
 use Rattle.joint.specs.declared.JointAnswer.TheVariants.{Refusal, Done, Aborted}
@@ -195,7 +195,7 @@ Common f l u =
 -- the check share of party i over the first k opened entries, whose coefficients start at u
 abbrev pub share_in : Frame → List ℕ → List ℕ → ℕ → ℕ → List ℕ → ℕ → ℕ
 share_in f preps l k u coefficients i =
-    checkShare ops (layout_of f.layout) (band f.scratch l i) k (key_in f preps i) (part u (u + k) coefficients)
+    check_share ops (layout_of f.layout) (band f.scratch l i) k (key_in f preps i) (part u (u + k) coefficients)
 
 -- one word of each party
 abbrev pub each : ℕ → (ℕ → ℕ) → List ℕ
@@ -242,7 +242,7 @@ pub record Checks (f : Frame) (preps l : List ℕ) (k u : ℕ) (coefficients : L
 
 -- and what it leaves; e is the sum of the check shares
 pub record Checked (f : Frame) (preps l : List ℕ) (k u : ℕ) (coefficients : List ℕ) (q : ℕ) (nonces : List ℕ) (a : ℕ) (t : List ℕ) (e : ℕ) (l' t' : List ℕ) : Type 0 where
-  pub sum : Is size (heardSum ops f.parties reveal_words 0 (reveals_in f preps l k u coefficients q nonces)) e
+  pub sum : Is size (heard_sum ops f.parties reveal_words 0 (reveals_in f preps l k u coefficients q nonces)) e
   pub scratch : l' ≡ rebanded f (noted_in f preps l k u coefficients q nonces) l
   pub transcript : t'
       ≡ written_at (a + f.parties * commit_words) (reveals_in f preps l k u coefficients q nonces)
@@ -287,7 +287,7 @@ pub record Going (J : Joint) (f : Frame) (s : Course) (r : Round) (held l : List
 pub record Moving (J : Joint) (f : Frame) (s : Course) (r : Round) (held l t : List ℕ) : Type 0 where
   pub going : Going J f s r held l
   pub words_fit : s.written + J.parties * words (gate J.circuit s.point.gate) r ≤ length t
-  pub rounds_few : s.rounds < mostRounds ops J * gates J.circuit
+  pub rounds_few : s.rounds < most_rounds ops J * gates J.circuit
 
 -- two states are the same to n parties
 pub record Alike (n : ℕ) (s s' : State) : Type 0 where

@@ -9,7 +9,7 @@ mod sending;
 
 ghost use Rattle.std.specs.Prelude.{◌≡◌};
 ghost use Rattle.field.specs.Words.{ops};
-ghost use Rattle.protocol.specs.JointEntry.{jointAnswer, jointScratch, jointTranscript, jointOutputs};
+ghost use Rattle.protocol.specs.JointEntry.{joint_answer, joint_scratch, joint_transcript, joint_outputs};
 ghost use Rattle.joint.specs.Code.{joint_answer_of, joint_of};
 
 use circuit::Verdict;
@@ -75,16 +75,16 @@ pub fn joint_run(
     outputs: &mut [Word],
 ) -> JointAnswer
     ensures answer { joint_answer_of result
-        ≡ jointAnswer ops (joint_of parties c.now preps.now inputs.now coefficients.now nonces.now)
+        ≡ joint_answer ops (joint_of parties c.now preps.now inputs.now coefficients.now nonces.now)
         scratch.old transcript.old outputs.old }
     ensures scratch { scratch.new
-        ≡ jointScratch ops (joint_of parties c.now preps.now inputs.now coefficients.now nonces.now)
+        ≡ joint_scratch ops (joint_of parties c.now preps.now inputs.now coefficients.now nonces.now)
         scratch.old transcript.old outputs.old }
     ensures transcript { transcript.new
-        ≡ jointTranscript ops (joint_of parties c.now preps.now inputs.now coefficients.now nonces.now)
+        ≡ joint_transcript ops (joint_of parties c.now preps.now inputs.now coefficients.now nonces.now)
         scratch.old transcript.old outputs.old }
     ensures outputs { outputs.new
-        ≡ jointOutputs ops (joint_of parties c.now preps.now inputs.now coefficients.now nonces.now)
+        ≡ joint_outputs ops (joint_of parties c.now preps.now inputs.now coefficients.now nonces.now)
         scratch.old transcript.old outputs.old }
 {
     match party::asking::ask_setting(parties, c) {

@@ -8,7 +8,7 @@ ghost use Rattle.circuit.specs.Round.{commit_words};
 ghost use Rattle.circuit.specs.Code.{kind_of};
 ghost use Rattle.protocol.specs.Position.{reach};
 ghost use Rattle.protocol.specs.Send.{shown};
-ghost use Rattle.protocol.specs.Receive.{afterInput, afterOpening, afterOpenOutput, score, putLinear, settle};
+ghost use Rattle.protocol.specs.Receive.{after_input, after_opening, after_open_output, score, put_linear, settle};
 ghost use Rattle.protocol.specs.Holding.{Held, Opened, Reads};
 ghost use Rattle.protocol.specs.Code.{layout_of};
 ghost use Rattle.protocol.specs.Ready.{Opening};
@@ -23,7 +23,7 @@ use field::Word;
 pub fn receive_inputs(f: Frame, j: usize, at: usize, preps: &[Word], scratch: &mut [Word], e: Word)
     requires { Prepared f preps.now at 2 × Banded f scratch.old × (j < f.layout.gates) × (e < size) }
     ensures { scratch.new
-        ≡ rebanded f (λ i. afterInput ops i (key_in f preps.now i) (layout_of f.layout) (band f.scratch scratch.old i) j (prep_from f preps.now at i) e) scratch.old }
+        ≡ rebanded f (λ i. after_input ops i (key_in f preps.now i) (layout_of f.layout) (band f.scratch scratch.old i) j (prep_from f preps.now at i) e) scratch.old }
 {
     let mut start = 0;
     let mut i = 0;
@@ -64,7 +64,7 @@ pub fn receive_openings(
         × Banded f scratch.old
         × EachBand f scratch.old (λ i l. Opening size (key_in f preps.now i) (layout_of f.layout) l j x z (prep_from f preps.now at i) k u e d) }
     ensures { scratch.new
-        ≡ rebanded f (λ i. afterOpening ops i (key_in f preps.now i) (layout_of f.layout) (band f.scratch scratch.old i) j x z (prep_from f preps.now at i) k u e d) scratch.old }
+        ≡ rebanded f (λ i. after_opening ops i (key_in f preps.now i) (layout_of f.layout) (band f.scratch scratch.old i) j x z (prep_from f preps.now at i) k u e d) scratch.old }
 {
     let mut start = 0;
     let mut i = 0;
@@ -108,7 +108,7 @@ pub fn receive_outputs(
         × (0 < f.layout.capacity)
         × EachBand f scratch.old (λ i l. Held size (layout_of f.layout) l x) }
     ensures { scratch.new
-        ≡ rebanded f (λ i. afterOpenOutput ops (layout_of f.layout) (band f.scratch scratch.old i) (shown ops (layout_of f.layout) (band f.scratch scratch.old i) give x (prep_from f preps.now at i)) e) scratch.old }
+        ≡ rebanded f (λ i. after_open_output ops (layout_of f.layout) (band f.scratch scratch.old i) (shown ops (layout_of f.layout) (band f.scratch scratch.old i) give x (prep_from f preps.now at i)) e) scratch.old }
 {
     let mut start = 0;
     let mut i = 0;
@@ -189,7 +189,7 @@ fn settle_gate(
         × (is_class Local (kind_shape (kind_of kind)).class ≡ true)
         × EachBand f scratch.old (λ i l. Reads size (layout_of f.layout) l (gate_of (kind_of kind) x z k)) }
     ensures { scratch.new
-        ≡ rebanded f (λ i. putLinear ops i (key_in f preps.now i) (layout_of f.layout) (band f.scratch scratch.old i) j (kind_of kind) x z k) scratch.old }
+        ≡ rebanded f (λ i. put_linear ops i (key_in f preps.now i) (layout_of f.layout) (band f.scratch scratch.old i) j (kind_of kind) x z k) scratch.old }
 {
     let mut start = 0;
     let mut i = 0;

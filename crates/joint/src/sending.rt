@@ -7,8 +7,8 @@ ghost use Rattle.circuit.specs.Kind.{mask_size};
 ghost use Rattle.circuit.specs.Round.{commit_words, nonce_size, reveal_words};
 ghost use Rattle.sha256.specs.Sha256.{words_of};
 ghost use Rattle.protocol.specs.Scratch.{band, put_nonce};
-ghost use Rattle.protocol.specs.Send.{mark, inputWord, openingWords, shown};
-ghost use Rattle.protocol.specs.Receive.{heardSum};
+ghost use Rattle.protocol.specs.Send.{mark, input_word, words_of_opening, shown};
+ghost use Rattle.protocol.specs.Receive.{heard_sum};
 ghost use Rattle.protocol.specs.Holding.{Below, Held, Opened};
 ghost use Rattle.protocol.specs.Code.{layout_of};
 ghost use Rattle.protocol.specs.Ask.{most_parties};
@@ -37,7 +37,7 @@ pub fn input_words(
         × (f.parties ≤ length places.now)
         × (length out.old ≡ f.parties) }
     ensures { out.new
-        ≡ joined f.parties (λ i. inputWord ops i owner (prep_from f preps.now at i) (get_or inputs.now (get_or places.now i 0) 0) ∷ []) }
+        ≡ joined f.parties (λ i. input_word ops i owner (prep_from f preps.now at i) (get_or inputs.now (get_or places.now i 0) 0) ∷ []) }
 {
     let mut i = 0;
     while i < f.parties {
@@ -68,9 +68,9 @@ pub fn opening_words(
         × (length out.old ≡ f.parties * k)
         × (f.parties ≤ most_parties) }
     ensures out { out.new
-        ≡ joined f.parties (λ i. openingWords ops (layout_of f.layout) (band f.scratch scratch.now i) x z (prep_from f preps.now at i) k) }
-    ensures sums { Is size (heardSum ops f.parties k 0 out.new) result.first
-        × Is size (heardSum ops f.parties k (k - 1) out.new) result.last }
+        ≡ joined f.parties (λ i. words_of_opening ops (layout_of f.layout) (band f.scratch scratch.now i) x z (prep_from f preps.now at i) k) }
+    ensures sums { Is size (heard_sum ops f.parties k 0 out.new) result.first
+        × Is size (heard_sum ops f.parties k (k - 1) out.new) result.last }
 {
     let mut sums = Sums { first: 0, last: 0 };
     let mut a = 0;

@@ -7,11 +7,11 @@ use native.Mathlib.Omega.{arith}
 use Rattle.field.specs.Words.{size}
 use Rattle.circuit.specs.Verdict.{Accepted}
 use Rattle.protocol.specs.Party.{Party}
-use Rattle.protocol.specs.Ask.{askLent}
+use Rattle.protocol.specs.Ask.{ask_lent}
 use Rattle.protocol.proofs.Accepted.{Lends, lends}
 
 pub positive : 0 < size
 positive = omega arith
 
-pub lends_here : (P : Party) (l : List ℕ) → askLent size P l ≡ Accepted → Lends size P l
+pub lends_here : (P : Party) (l : List ℕ) → ask_lent size P l ≡ Accepted → Lends size P l
 lends_here = lends positive

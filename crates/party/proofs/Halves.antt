@@ -22,14 +22,14 @@ use Rattle.protocol.specs.Code.{layout_of, stage_of, Sited}
 use Rattle.protocol.specs.Ready.{Ready}
 use Rattle.protocol.specs.declared.Layout.{Layout}
 use Rattle.protocol.specs.declared.Site.{Site}
-use Rattle.protocol.specs.Ask.{most_parties, askLent, askSendRound, askReceiveRound, askSend, askReceive}
+use Rattle.protocol.specs.Ask.{most_parties, ask_lent, ask_send_round, ask_receive_round, ask_send, ask_receive}
 use Rattle.protocol.specs.Entry as E
 use Rattle.party.specs.Code.{position_of, leads_to, Posed, lent_of, LentOk, place_of, PlaceOk, LentTo, RoundAt, Sendable, Receivable}
 use Rattle.party.specs.declared.Position.{Position}
 use Rattle.party.specs.declared.Lent as D
 use Rattle.circuit.proofs.Tests.{by_cases, both_left}
-use Rattle.protocol.proofs.Answers.{release-second}
-use Rattle.protocol.proofs.Scoring.{score-asks, score_made}
+use Rattle.protocol.proofs.Answers.{release_second}
+use Rattle.protocol.proofs.Scoring.{score_asks, score_made}
 use Rattle.protocol.proofs.Accepted.{Lends, parties_few, gate_occurs, stage_occurs_lem, entries_fit, sends, receives}
 use Rattle.protocol.proofs.Readiness.{lay_gates}
 use Rattle.protocol.proofs.Tails.{slots_room}
@@ -38,22 +38,22 @@ use Rattle.protocol.proofs.Entries.{asked, half_decides, sending_at_lem, receivi
 
 -- questions 1 to 13, by the one that decides
 module _ (P : Party) (l : List ℕ) (at : At.Position) where
-  pub lent_refuses : {number index : ℕ} → askLent size P l ≡ Refused number index → Refused number index ≡ place_of P l at
+  pub lent_refuses : {number index : ℕ} → ask_lent size P l ≡ Refused number index → Refused number index ≡ place_of P l at
   unfolding place_of ◌then◌
   lent_refuses e = rw e
 
-  pub place_refuses : askLent size P l ≡ Accepted → At.occurs size P.circuit at ≡ false → Refused 13 0 ≡ place_of P l at
+  pub place_refuses : ask_lent size P l ≡ Accepted → At.occurs size P.circuit at ≡ false → Refused 13 0 ≡ place_of P l at
   unfolding place_of ◌then◌ ask
   place_refuses e f = rw (e, f)
 
-  pub place_accepts : askLent size P l ≡ Accepted → At.occurs size P.circuit at ≡ true → Accepted ≡ place_of P l at
+  pub place_accepts : ask_lent size P l ≡ Accepted → At.occurs size P.circuit at ≡ true → Accepted ≡ place_of P l at
   unfolding place_of ◌then◌ ask
   place_accepts e f = rw (e, f)
 
   -- they come first
   pub placed_refuses : {number index : ℕ} (half : Verdict) → place_of P l at ≡ Refused number index → Refused number index ≡ asked size P l at half
   unfolding place_of ◌then◌
-  placed_refuses {number} {index} half e = go (askLent size P l) e
+  placed_refuses {number} {index} half e = go (ask_lent size P l) e
     where
       go : (v : Verdict) → (v then ask 13 0 (At.occurs size P.circuit at)) ≡ Refused number index
           → Refused number index ≡ (v then ask 13 0 (At.occurs size P.circuit at) then half)
@@ -61,7 +61,7 @@ module _ (P : Party) (l : List ℕ) (at : At.Position) where
       go (Refused m k) e = sym e
 
 pub lent_to : (P : Party) (l : List ℕ) (gate : ℕ) {x : D.Lent} {y : Layout} {site : Site}
-    → lent_of x ≡ askLent size P l → LentOk P.circuit P.me gate x → x ≡ D.Lent.Accepted y site → LentTo P l y site gate
+    → lent_of x ≡ ask_lent size P l → LentOk P.circuit P.me gate x → x ≡ D.Lent.Accepted y site → LentTo P l y site gate
 unfolding lent_of
 lent_to P l gate {y} {site} e h g =
     let ok = (rw g at h) in
@@ -76,7 +76,7 @@ leads_is : (P : Party) (j held : ℕ) (r : Round) {told : Bool} {output w : ℕ}
     → told ≡ (E.releases r && seen_by (alone P.me) (gate P.circuit j))
     → (told ≡ true → output ≡ w)
     → leads_to r held told output v (next P.circuit j r v) ≡ E.concludes ops P w j held r v
-unfolding leads_to E.concludes E.nextPosition
+unfolding leads_to E.concludes E.next_position
 leads_is P j held r {told} Passed e h = rw (← e) (by_cases told (λ b. rw (b, h b)) (λ b. rw b))
 leads_is P j held r (Stopped b) e h = refl
 
@@ -105,7 +105,7 @@ module _ (P : Party) (l : List ℕ) (y : Layout) (site : Site) where
       × Below size P.prep
       × (slots_size (layout_of y) ≤ length l)
       × Opened size (layout_of y) l 0
-  told_asks {r} h e t = score-asks P l y site (rw (release-second r (both_left (E.releases r) _ (sym e ∙ t))) at h)
+  told_asks {r} h e t = score_asks P l y site (rw (release_second r (both_left (E.releases r) _ (sym e ∙ t))) at h)
 
   module _ (at : Position) (h : RoundAt P l y site at) where
     lent : Lends size P l
@@ -140,13 +140,13 @@ module _ (P : Party) (l : List ℕ) (y : Layout) (site : Site) where
 
       -- all questions of a call, by those of its round
       module _ (g : stage_of at.stage ≡ At.Send r) (coefficients nonce : List ℕ) (room : ℕ) where
-        pub send_asked : {v : Verdict} → v ≡ askSendRound size P.circuit l site.gate coefficients nonce room r → v ≡ askSend size P l (position_of at) coefficients nonce room
-        unfolding position_of askSend
+        pub send_asked : {v : Verdict} → v ≡ ask_send_round size P.circuit l site.gate coefficients nonce room r → v ≡ ask_send size P l (position_of at) coefficients nonce room
+        unfolding position_of ask_send
         send_asked e =
             half_decides size P l (position_of at) _ h.lent.accepted h.can
-            (e ∙ ap (λ (k : ℕ). askSendRound size P.circuit l k coefficients nonce room r) h.lent.here ∙ sym (sending_at_lem (stage_of at.stage) r g _ _))
+            (e ∙ ap (λ (k : ℕ). ask_send_round size P.circuit l k coefficients nonce room r) h.lent.here ∙ sym (sending_at_lem (stage_of at.stage) r g _ _))
 
-        pub sendable : askSendRound size P.circuit l site.gate coefficients nonce room r ≡ Accepted → Sendable P l at coefficients nonce room y site r
+        pub sendable : ask_send_round size P.circuit l site.gate coefficients nonce room r ≡ Accepted → Sendable P l at coefficients nonce room y site r
         sendable e =
             record {
               here = h.lent.here;
@@ -155,13 +155,13 @@ module _ (P : Party) (l : List ℕ) (y : Layout) (site : Site) where
             }
 
       module _ (g : stage_of at.stage ≡ At.Receive r) (heard : List ℕ) where
-        pub receive_asked : {v : Verdict} → v ≡ askReceiveRound size P.circuit P.parties l site.gate heard r → v ≡ askReceive size P l (position_of at) heard
-        unfolding position_of askReceive
+        pub receive_asked : {v : Verdict} → v ≡ ask_receive_round size P.circuit P.parties l site.gate heard r → v ≡ ask_receive size P l (position_of at) heard
+        unfolding position_of ask_receive
         receive_asked e =
             half_decides size P l (position_of at) _ h.lent.accepted h.can
-            (e ∙ ap (λ (k : ℕ). askReceiveRound size P.circuit P.parties l k heard r) h.lent.here ∙ sym (receiving_at_lem (stage_of at.stage) r g _ _))
+            (e ∙ ap (λ (k : ℕ). ask_receive_round size P.circuit P.parties l k heard r) h.lent.here ∙ sym (receiving_at_lem (stage_of at.stage) r g _ _))
 
-        pub receivable : askReceiveRound size P.circuit P.parties l site.gate heard r ≡ Accepted → Receivable P l at heard y site r
+        pub receivable : ask_receive_round size P.circuit P.parties l site.gate heard r ≡ Accepted → Receivable P l at heard y site r
         receivable e =
             record {
               here = h.lent.here;
@@ -172,7 +172,7 @@ module _ (P : Party) (l : List ℕ) (y : Layout) (site : Site) where
   -- an accepted call, once its step is done
   module _ (at : Position) (r : Round) where
     module _ (coefficients nonce out : List ℕ) (s : Sendable P l at coefficients nonce (length out) y site r) where
-      pub sent_done : {held : ℕ} {later scratch : List ℕ} → askSend size P l (position_of at) coefficients nonce (length out) ≡ Accepted
+      pub sent_done : {held : ℕ} {later scratch : List ℕ} → ask_send size P l (position_of at) coefficients nonce (length out) ≡ Accepted
           → held ≡ holds ops P l site.gate r coefficients
           → later ≡ overwrite (sent ops P l site.gate at.held coefficients nonce r) out
           → scratch ≡ noted ops P l r nonce
@@ -184,7 +184,7 @@ module _ (P : Party) (l : List ℕ) (y : Layout) (site : Site) where
           (j ∙ ap (λ (k : ℕ). overwrite (sent ops P l k at.held coefficients nonce r) out) s.here) k
 
     module _ (heard : List ℕ) (s : Receivable P l at heard y site r) where
-      pub received_done : {told : Bool} {output : ℕ} {v : Ruling} {x : At.Point} {a : E.Answer} {later : List ℕ} → askReceive size P l (position_of at) heard ≡ Accepted
+      pub received_done : {told : Bool} {output : ℕ} {v : Ruling} {x : At.Point} {a : E.Answer} {later : List ℕ} → ask_receive size P l (position_of at) heard ≡ Accepted
           → told ≡ (E.releases r && seen_by (alone P.me) (gate P.circuit site.gate))
           → (told ≡ true → output ≡ score ops (layout_of y) l (is_give (gate P.circuit site.gate)) (drop site.prep P.prep))
           → v ≡ finds ops P l r heard

@@ -11,7 +11,7 @@ use Rattle.circuit.specs.Verdict.{Verdict, Accepted, Refused, ask, ◌then◌, e
 use Rattle.circuit.specs.Gate.{gate_size, gates}
 use Rattle.circuit.specs.Count.{prep_size, capacity, input_count}
 use Rattle.circuit.specs.Round.{commit_words}
-use Rattle.circuit.specs.Accept.{askCircuit}
+use Rattle.circuit.specs.Accept.{ask_circuit}
 use Rattle.circuit.specs.Valid.{Valid}
 use Rattle.circuit.specs.Code.{verdict_of, Tallied}
 use Rattle.circuit.specs.declared.Verdict as Told
@@ -28,7 +28,7 @@ use Rattle.protocol.specs.Party.{Party}
 use Rattle.protocol.specs.Code.{layout_of, Sited}
 use Rattle.protocol.specs.declared.Layout.{Layout}
 use Rattle.protocol.specs.declared.Site.{Site}
-use Rattle.protocol.specs.Ask.{ask_parties, askLent}
+use Rattle.protocol.specs.Ask.{ask_parties, ask_lent}
 use Rattle.circuit.proofs.Loops.{then_assoc}
 
 -- questions 8 to 12, of the lengths a, b and s
@@ -43,22 +43,22 @@ lists_asked prep inputs room a b s =
 module _ (P : Party) (l : List ℕ) where
   -- 1 and 2, then 3 to 7, and then 8 to 12
   pub lent_split :
-      askLent size P l
+      ask_lent size P l
       ≡ ((ask_parties P.parties then ask 2 0 (ltb P.me P.parties))
-      then askCircuit P.parties size P.circuit
+      then ask_circuit P.parties size P.circuit
       then lists_asked P.prep P.inputs (length l) (prep_size P.circuit) (input_count P.circuit P.me) (S.scratch_size P.parties P.circuit))
-  unfolding askLent
+  unfolding ask_lent
   lent_split = sym (then_assoc _ _ _)
 
 -- what 3 to 7 answered with what is counted, r
-module _ (n m : ℕ) (c : List ℕ) {r : D.Survey} (said : survey_of r ≡ askCircuit n m c) (is : m ≡ size) where
-  pub survey_refused : {number index : ℕ} → r ≡ D.Survey.Refused number index → Refused number index ≡ askCircuit n size c
+module _ (n m : ℕ) (c : List ℕ) {r : D.Survey} (said : survey_of r ≡ ask_circuit n m c) (is : m ≡ size) where
+  pub survey_refused : {number index : ℕ} → r ≡ D.Survey.Refused number index → Refused number index ≡ ask_circuit n size c
   unfolding survey_of
-  survey_refused e = sym (ap survey_of e) ∙ said ∙ ap (λ (q : ℕ). askCircuit n q c) is
+  survey_refused e = sym (ap survey_of e) ∙ said ∙ ap (λ (q : ℕ). ask_circuit n q c) is
 
-  pub survey_passed : {here all : Tally} → r ≡ D.Survey.Accepted here all → Accepted ≡ askCircuit n size c
+  pub survey_passed : {here all : Tally} → r ≡ D.Survey.Accepted here all → Accepted ≡ ask_circuit n size c
   unfolding survey_of
-  survey_passed e = sym (ap survey_of e) ∙ said ∙ ap (λ (q : ℕ). askCircuit n q c) is
+  survey_passed e = sym (ap survey_of e) ∙ said ∙ ap (λ (q : ℕ). ask_circuit n q c) is
 
   pub survey_valid : {here all : Tally} → r ≡ D.Survey.Accepted here all → Valid n size c
   survey_valid e = valid n size c (sym (survey_passed e))

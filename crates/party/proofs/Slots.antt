@@ -10,7 +10,7 @@ use Rattle.circuit.specs.Verdict.{Accepted}
 use Rattle.circuit.proofs.Verdicts.{each_all}
 use Rattle.protocol.specs.Scratch.{Layout, layout, offset, slots_size, read}
 use Rattle.protocol.specs.Holding.{Within}
-use Rattle.protocol.specs.Ask.{askSlots}
+use Rattle.protocol.specs.Ask.{ask_slots}
 use Rattle.protocol.proofs.Slots.{slot_fits}
 use Rattle.protocol.proofs.SlotQuestions.{fine}
 use Rattle.party.specs.declared.Sort.{Sort}
@@ -39,8 +39,8 @@ pub slots_fine : (q : ℕ) (c l : List ℕ) (sort : Sort) (k at : ℕ)
     → at ≡ offset (layout c) (sort_of sort 0)
     → at + k ≤ length l
     → ((t : ℕ) → t < length (take (at + k - at) (drop at l)) → get_or (take (at + k - at) (drop at l)) t 0 < q)
-    → askSlots q c l k (wanted_of c sort) (sort_of sort) ≡ Accepted
-unfolding askSlots read
+    → ask_slots q c l k (wanted_of c sort) (sort_of sort) ≡ Accepted
+unfolding ask_slots read
 slots_fine q c l sort k at e room below =
     each_all _ _ (λ t h. sym (fine q c l (wanted_of c sort t) (sort_of sort t) (rw (slot_behind (layout c) sort t, ← e) (there t h))))
   where

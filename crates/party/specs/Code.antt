@@ -18,7 +18,7 @@ use Rattle.protocol.specs.Code.{layout_of, stage_of, blame_of, Sited}
 use Rattle.protocol.specs.Ready.{Sends, Receives}
 use Rattle.protocol.specs.declared.Layout.{Layout}
 use Rattle.protocol.specs.declared.Site.{Site}
-use Rattle.protocol.specs.Ask.{askLent}
+use Rattle.protocol.specs.Ask.{ask_lent}
 use Rattle.protocol.specs.Entry as E
 use Rattle.party.specs.declared.Sort.{Sort}
 use Rattle.party.specs.declared.Sort.TheVariants.{Shares, Macs, Values, ValueMacs}
@@ -84,11 +84,11 @@ LentOk c i j (LentAccepted y at) = (layout_of y ≡ S.layout c) × (at.gate ≡ 
 
 -- questions 1 to 13
 unfoldable pub place_of : Party → List ℕ → At.Position → Q.Verdict
-place_of P l at = askLent size P l then Q.ask 13 0 (At.occurs size P.circuit at)
+place_of P l at = ask_lent size P l then Q.ask 13 0 (At.occurs size P.circuit at)
 
 -- what a call has once 1 to 12 accept: the layout, and the site of the position's gate if there is such a gate
 pub record LentTo (P : Party) (l : List ℕ) (y : Layout) (site : Site) (gate : ℕ) : Type 0 where
-  pub accepted : askLent size P l ≡ Q.Accepted
+  pub accepted : ask_lent size P l ≡ Q.Accepted
   pub lay : layout_of y ≡ S.layout P.circuit
   pub here : site.gate ≡ gate
   pub sited : gate < gates P.circuit → Sited P.circuit P.me site

@@ -4,7 +4,7 @@ ghost use Rattle.field.specs.Words.{size};
 ghost use Rattle.circuit.specs.Verdict.{ask, ◌then◌, each, elements};
 ghost use Rattle.circuit.specs.Gate.{gate_size, gates};
 ghost use Rattle.circuit.specs.Count.{unchecked};
-ghost use Rattle.circuit.specs.Accept.{askCircuit};
+ghost use Rattle.circuit.specs.Accept.{ask_circuit};
 ghost use Rattle.circuit.specs.Round.{is_reveal, reveal_words, shape_words, coefficients_in, nonce_in};
 ghost use Rattle.circuit.specs.Code.{verdict_of, round_of, shape_of};
 ghost use Rattle.protocol.specs.Scratch.{layout};
@@ -12,7 +12,7 @@ ghost use Rattle.protocol.specs.Position.{may_hold, stage_occurs, occurs};
 ghost use Rattle.protocol.specs.Party.{party_of};
 ghost use Rattle.protocol.specs.Holding.{Within};
 ghost use Rattle.protocol.specs.Code.{slot_of, stage_of};
-ghost use Rattle.protocol.specs.Ask.{ask_parties, slotQuestion, askSlots, askWorked, ask_heard, askSendRound, askReceiveRound, askLent, askSend, askReceive};
+ghost use Rattle.protocol.specs.Ask.{ask_parties, slot_question, ask_slots, ask_worked, ask_heard, ask_send_round, ask_receive_round, ask_lent, ask_send, ask_receive};
 ghost use Rattle.party.specs.Code.{sort_of, wanted_of, position_of, Laid, Posed, lent_of, LentOk, asked_of, SendOk, ReceiveOk, place_of, PlaceOk};
 
 use crate::{Asked, Lent, Position, Sort};
@@ -160,14 +160,14 @@ pub fn ask_lists(
 
 // Questions 3 to 7, of the field of this crate.
 pub fn ask_circuit(parties: usize, c: &[Word]) -> Verdict
-    ensures { verdict_of result ≡ askCircuit parties size c.now }
+    ensures { verdict_of result ≡ ask_circuit parties size c.now }
 {
     gates::asking::accept(parties, field::index(field::SIZE), c)
 }
 
 // Questions 1 and 3 to 7: what is asked where no party calls.
 pub fn ask_setting(parties: usize, c: &[Word]) -> Verdict
-    ensures { verdict_of result ≡ (ask_parties parties then askCircuit parties size c.now) }
+    ensures { verdict_of result ≡ (ask_parties parties then ask_circuit parties size c.now) }
 {
     match ask_parties(parties) {
         Verdict::Refused { number, index } => {
@@ -269,7 +269,7 @@ fn is_wanted(c: &[Word], sort: Sort, k: usize) -> bool
 // Question 15 of one slot. Whether it is wanted is asked only if its number is no element.
 fn ask_slot(c: &[Word], l: &[Word], y: Layout, sort: Sort, t: usize) -> Verdict
     requires { Laid c.now l.now y × Within (layout c.now) (sort_of sort t) }
-    ensures { verdict_of result ≡ slotQuestion size c.now l.now (wanted_of c.now sort t) (sort_of sort t) }
+    ensures { verdict_of result ≡ slot_question size c.now l.now (wanted_of c.now sort t) (sort_of sort t) }
 {
     let at = protocol::offset_of(y, slot_at(sort, t));
     if l[at] < field::SIZE {
@@ -287,7 +287,7 @@ fn ask_slot(c: &[Word], l: &[Word], y: Layout, sort: Sort, t: usize) -> Verdict
 // Question 15 of the slots of one sort below k, which stand side by side. Where all their numbers are elements, none is looked at alone.
 fn ask_slots(c: &[Word], l: &[Word], y: Layout, k: usize, sort: Sort) -> Verdict
     requires { Laid c.now l.now y × ((t : ℕ) → t < k → Within (layout c.now) (sort_of sort t)) }
-    ensures { verdict_of result ≡ askSlots size c.now l.now k (wanted_of c.now sort) (sort_of sort) }
+    ensures { verdict_of result ≡ ask_slots size c.now l.now k (wanted_of c.now sort) (sort_of sort) }
 {
     if k == 0 {
         return Verdict::Accepted;
@@ -313,7 +313,7 @@ fn ask_slots(c: &[Word], l: &[Word], y: Layout, k: usize, sort: Sort) -> Verdict
 // Question 15: the gates before j, and the opened entries that are not yet checked.
 fn ask_worked(c: &[Word], l: &[Word], y: Layout, at: Site, r: Round) -> Verdict
     requires { Posed c.now l.now y at (round_of r) }
-    ensures { verdict_of result ≡ askWorked size c.now l.now at.gate (round_of r) }
+    ensures { verdict_of result ≡ ask_worked size c.now l.now at.gate (round_of r) }
 {
     let j = at.gate;
     let opened = rounds::opened_in(at.unchecked, r);
@@ -384,7 +384,7 @@ fn ask_send_round(
     room: usize,
 ) -> Verdict
     requires { Posed c.now l.now y at (round_of r) }
-    ensures { verdict_of result ≡ askSendRound size c.now l.now at.gate coefficients.now nonce.now room (round_of r) }
+    ensures { verdict_of result ≡ ask_send_round size c.now l.now at.gate coefficients.now nonce.now room (round_of r) }
 {
     match ask_worked(c, l, y, at, r) {
         Verdict::Refused { number, index } => {
@@ -412,7 +412,7 @@ fn ask_receive_round(
     heard: &[Word],
 ) -> Verdict
     requires { Posed c.now l.now y at (round_of r) × (parties ≤ 8) }
-    ensures { verdict_of result ≡ askReceiveRound size c.now parties l.now at.gate heard.now (round_of r) }
+    ensures { verdict_of result ≡ ask_receive_round size c.now parties l.now at.gate heard.now (round_of r) }
 {
     match ask_worked(c, l, y, at, r) {
         Verdict::Refused { number, index } => {
@@ -439,7 +439,7 @@ pub fn ask_lent(
     l: &[Word],
     gate: usize,
 ) -> Lent
-    ensures asked { lent_of result ≡ askLent size (party_of parties me c.now prep.now inputs.now) l.now }
+    ensures asked { lent_of result ≡ ask_lent size (party_of parties me c.now prep.now inputs.now) l.now }
     ensures accepted { LentOk c.now me gate result }
 {
     match ask_party(parties, me) {
@@ -518,7 +518,7 @@ pub fn ask_send(
     room: usize,
 ) -> Asked
     ensures asked { asked_of result
-        ≡ askSend size (party_of parties me c.now prep.now inputs.now)
+        ≡ ask_send size (party_of parties me c.now prep.now inputs.now)
         l.now (position_of at) coefficients.now nonce.now room }
     ensures accepted { SendOk (party_of parties me c.now prep.now inputs.now)
         l.now at coefficients.now nonce.now room result }
@@ -570,7 +570,7 @@ pub fn ask_receive(
     heard: &[Word],
 ) -> Asked
     ensures asked { asked_of result
-        ≡ askReceive size (party_of parties me c.now prep.now inputs.now)
+        ≡ ask_receive size (party_of parties me c.now prep.now inputs.now)
         l.now (position_of at) heard.now }
     ensures accepted { ReceiveOk (party_of parties me c.now prep.now inputs.now)
         l.now at heard.now result }

@@ -14,7 +14,7 @@ ghost use Rattle.protocol.specs.Scratch.{slots_size};
 ghost use Rattle.protocol.specs.Receive.{score};
 ghost use Rattle.protocol.specs.Holding.{Below, Opened};
 ghost use Rattle.protocol.specs.Code.{layout_of, point_of, ruling_of};
-ghost use Rattle.protocol.specs.Entry.{Next, Output, releases, openAnswer, sendAnswer, sendOut, sendScratch, receiveAnswer, receiveScratch};
+ghost use Rattle.protocol.specs.Entry.{Next, Output, releases, open_answer, send_answer, send_out, send_scratch, receive_answer, receive_scratch};
 ghost use Rattle.party.specs.Code.{position_of, answer_of, leads_to};
 
 use circuit::Round;
@@ -72,7 +72,7 @@ pub fn open_run(
     l: &[Word],
 ) -> Answer
     ensures { answer_of result
-        ≡ openAnswer ops (party_of parties me c.now prep.now inputs.now) l.now }
+        ≡ open_answer ops (party_of parties me c.now prep.now inputs.now) l.now }
 {
     match asking::ask_lent(parties, me, c, prep, inputs, l, 0) {
         Lent::Refused { number, index } => Answer::Refusal { number, index },
@@ -98,13 +98,13 @@ pub fn send(
     out: &mut [Word],
 ) -> Answer
     ensures answer { answer_of result
-        ≡ sendAnswer ops (party_of parties me c.now prep.now inputs.now)
+        ≡ send_answer ops (party_of parties me c.now prep.now inputs.now)
         l.old (position_of at) coefficients.now nonce.now (length out.old) }
     ensures out { out.new
-        ≡ sendOut ops (party_of parties me c.now prep.now inputs.now)
+        ≡ send_out ops (party_of parties me c.now prep.now inputs.now)
         l.old (position_of at) coefficients.now nonce.now out.old }
     ensures scratch { l.new
-        ≡ sendScratch ops (party_of parties me c.now prep.now inputs.now)
+        ≡ send_scratch ops (party_of parties me c.now prep.now inputs.now)
         l.old (position_of at) coefficients.now nonce.now (length out.old) }
 {
     match asking::ask_send(
@@ -157,10 +157,10 @@ pub fn receive(
     heard: &[Word],
 ) -> Answer
     ensures answer { answer_of result
-        ≡ receiveAnswer ops (party_of parties me c.now prep.now inputs.now)
+        ≡ receive_answer ops (party_of parties me c.now prep.now inputs.now)
         l.old (position_of at) heard.now }
     ensures scratch { l.new
-        ≡ receiveScratch ops (party_of parties me c.now prep.now inputs.now)
+        ≡ receive_scratch ops (party_of parties me c.now prep.now inputs.now)
         l.old (position_of at) heard.now }
 {
     match asking::ask_receive(parties, me, c, prep, inputs, l, at, heard) {

@@ -1,14 +1,15 @@
-// Printing numbers, lists and the rounds of a joint run on standard output.
+// Printing numbers, lists and the rounds of a joint run. An error is the writer's.
 #![tactic(auto)]
 
-ghost use Rattle.std.specs.Prelude.{◌+◌, ◌*◌, ◌≤◌, length};
+ghost use Rattle.std.specs.Prelude.{◌+◌, ◌*◌, ◌≤◌, length, IfOk};
 ghost use Rattle.circuit.specs.Gate.{gate_size};
 ghost use Rattle.circuit.specs.Accept.{most_gates};
 
 use circuit::{Check, Kind, Round, counting, rounds, shapes};
 use field::Word;
 use gates::reading;
-use libc::STDOUT_FILENO;
+use std::io;
+use std::io::Write;
 
 // The digits of the largest number, and with a space before them.
 const DIGITS: usize = 10;
@@ -29,13 +30,12 @@ pub struct Place {
     pub left: usize,
 }
 
-pub fn print(text: &[u8]) {
-    io::write_all(STDOUT_FILENO, text);
+pub fn print<W: Write>(to: &mut W, text: &[u8]) -> io::Result<()> {
+    to.write_all(text)
 }
 
-pub fn print_number(n: u64) {
-    io::write_all(STDOUT_FILENO, b" ");
-    io::print_decimal(STDOUT_FILENO, n);
+pub fn print_number<W: Write>(to: &mut W, n: u64) -> io::Result<()> {
+    write!(to, " {n}")
 }
 
 // How many digits a number has: ten at most.
@@ -72,42 +72,42 @@ fn put_number(text: &mut [u8], at: usize, n: Word) -> usize
 }
 
 // Prints what a text has so far where there is no room for another number. How much it has then.
-fn with_room(text: &[u8], at: usize) -> usize
+fn with_room<W: Write>(to: &mut W, text: &[u8], at: usize) -> io::Result<usize>
     requires { (at ≤ length text.now) × (11 ≤ length text.now) }
-    ensures { result + 11 ≤ length text.now }
+    ensures { IfOk result (λ n. n + 11 ≤ length text.now) }
 {
     if text.len() - at < WIDTH {
-        print(&text[..at]);
-        return 0;
+        print(to, &text[..at])?;
+        return Ok(0);
     }
-    at
+    Ok(at)
 }
 
 // Prints a list in as few writes as the text has room for.
-fn print_through(words: &[Word], text: &mut [u8])
+fn print_through<W: Write>(to: &mut W, words: &[Word], text: &mut [u8]) -> io::Result<()>
     requires { 11 ≤ length text.old }
 {
     let mut at = 0;
     let mut i = 0;
     while i < words.len() {
-        at = with_room(text, at);
+        at = with_room(to, text, at)?;
         at = put_number(text, at, words[i]);
         i += 1;
     }
-    print(&text[..at]);
+    print(to, &text[..at])
 }
 
 // A list's numbers, each after a space, and the end of the line.
-pub fn print_words(words: &[Word]) {
-    let mut text = io::buffer();
-    print_through(words, &mut text);
-    print(b"\n");
+pub fn print_words<W: Write>(to: &mut W, words: &[Word]) -> io::Result<()> {
+    let mut text = [0; 4096];
+    print_through(to, words, &mut text)?;
+    print(to, b"\n")
 }
 
 // A list on a line that begins with its name.
-pub fn print_list(name: &[u8], words: &[Word]) {
-    print(name);
-    print_words(words);
+pub fn print_list<W: Write>(to: &mut W, name: &[u8], words: &[Word]) -> io::Result<()> {
+    print(to, name)?;
+    print_words(to, words)
 }
 
 // How many words all parties have in a round of a gate of that kind.
@@ -124,7 +124,8 @@ fn has_round(kind: Kind, unchecked: usize, r: Round) -> bool {
 }
 
 // A round of the transcript, where the gate has it.
-fn print_round(
+fn print_round<W: Write>(
+    to: &mut W,
     name: &[u8],
     parties: u32,
     kind: Kind,
@@ -132,83 +133,94 @@ fn print_round(
     r: Round,
     transcript: &[Word],
     place: Place,
-) -> Place
+) -> io::Result<Place>
     requires { place.at ≤ length transcript.now }
-    ensures { result.at ≤ length transcript.now }
+    ensures { IfOk result (λ p. p.at ≤ length transcript.now) }
 {
     let at = place.at;
     let left = place.left;
     let words = words_of(parties, kind, r);
     if !has_round(kind, unchecked, r) {
-        return place;
+        return Ok(place);
     }
     if left == 0 {
-        return place;
+        return Ok(place);
     }
     if transcript.len() - at < words {
-        return place;
+        return Ok(place);
     }
     let end = at + words;
-    print_list(name, &transcript[at..end]);
-    Place {
+    print_list(to, name, &transcript[at..end])?;
+    Ok(Place {
         at: end,
         left: left - 1,
-    }
+    })
 }
 
 // A gate's own round, by the word for its kind. A local kind has none, nor has an output.
-fn print_own(parties: u32, kind: Kind, transcript: &[Word], place: Place) -> Place
+fn print_own<W: Write>(
+    to: &mut W,
+    parties: u32,
+    kind: Kind,
+    transcript: &[Word],
+    place: Place,
+) -> io::Result<Place>
     requires { place.at ≤ length transcript.now }
-    ensures { result.at ≤ length transcript.now }
+    ensures { IfOk result (λ p. p.at ≤ length transcript.now) }
 {
     match kind {
-        Kind::In => print_round(b"in", parties, kind, 0, Round::Own, transcript, place),
-        Kind::Add => place,
-        Kind::Sub => place,
-        Kind::Plus => place,
-        Kind::Times => place,
-        Kind::Mul => print_round(b"mul", parties, kind, 0, Round::Own, transcript, place),
-        Kind::Out => place,
-        Kind::Sq => print_round(b"sq", parties, kind, 0, Round::Own, transcript, place),
-        Kind::Give => place,
-        Kind::Over => place,
+        Kind::In => print_round(to, b"in", parties, kind, 0, Round::Own, transcript, place),
+        Kind::Add => Ok(place),
+        Kind::Sub => Ok(place),
+        Kind::Plus => Ok(place),
+        Kind::Times => Ok(place),
+        Kind::Mul => print_round(to, b"mul", parties, kind, 0, Round::Own, transcript, place),
+        Kind::Out => Ok(place),
+        Kind::Sq => print_round(to, b"sq", parties, kind, 0, Round::Own, transcript, place),
+        Kind::Give => Ok(place),
+        Kind::Over => Ok(place),
     }
 }
 
 // A commitment and its reveal, where the gate has that check.
-fn print_check(
+fn print_check<W: Write>(
+    to: &mut W,
     parties: u32,
     kind: Kind,
     unchecked: usize,
     check: Check,
     transcript: &[Word],
     place: Place,
-) -> Place
+) -> io::Result<Place>
     requires { place.at ≤ length transcript.now }
-    ensures { result.at ≤ length transcript.now }
+    ensures { IfOk result (λ p. p.at ≤ length transcript.now) }
 {
     let commit = Round::Commit(check);
     let reveal = Round::Reveal(check);
-    let next = print_round(b"seal", parties, kind, unchecked, commit, transcript, place);
+    let next = print_round(
+        to, b"seal", parties, kind, unchecked, commit, transcript, place,
+    )?;
     print_round(
-        b"reveal", parties, kind, unchecked, reveal, transcript, next,
+        to, b"reveal", parties, kind, unchecked, reveal, transcript, next,
     )
 }
 
 // The rounds of a gate before which that many entries are unchecked.
-fn print_gate(
+fn print_gate<W: Write>(
+    to: &mut W,
     parties: u32,
     kind: Kind,
     unchecked: usize,
     transcript: &[Word],
     place: Place,
-) -> Place
+) -> io::Result<Place>
     requires { place.at ≤ length transcript.now }
-    ensures { result.at ≤ length transcript.now }
+    ensures { IfOk result (λ p. p.at ≤ length transcript.now) }
 {
-    let own = print_own(parties, kind, transcript, place);
-    let first = print_check(parties, kind, unchecked, Check::First, transcript, own);
+    let own = print_own(to, parties, kind, transcript, place)?;
+    let first = print_check(to, parties, kind, unchecked, Check::First, transcript, own)?;
     let open = print_round(
+        to,
         b"show",
         parties,
         kind,
@@ -216,8 +228,16 @@ fn print_gate(
         Round::Open,
         transcript,
         first,
-    );
-    print_check(parties, kind, unchecked, Check::Second, transcript, open)
+    )?;
+    print_check(
+        to,
+        parties,
+        kind,
+        unchecked,
+        Check::Second,
+        transcript,
+        open,
+    )
 }
 
 // How many gates of a circuit are printed: all, where it is accepted.
@@ -250,8 +270,14 @@ fn outputs_of(kind: Kind) -> usize
 }
 
 // Prints the rounds made, in their order: the word for each, and the words of all parties. How many outputs the circuit has.
-pub fn print_rounds(parties: u32, c: &[Word], rounds: usize, transcript: &[Word]) -> usize
-    ensures { result ≤ length c.now }
+pub fn print_rounds<W: Write>(
+    to: &mut W,
+    parties: u32,
+    c: &[Word],
+    rounds: usize,
+    transcript: &[Word],
+) -> io::Result<usize>
+    ensures { IfOk result (λ n. n ≤ length c.now) }
 {
     let count = gates_of(c);
     let mut unchecked = 0;
@@ -263,10 +289,10 @@ pub fn print_rounds(parties: u32, c: &[Word], rounds: usize, transcript: &[Word]
     let mut j = 0;
     while j < count {
         let kind = reading::kind_at(c, j);
-        place = print_gate(parties, kind, unchecked, transcript, place);
+        place = print_gate(to, parties, kind, unchecked, transcript, place)?;
         unchecked = unchecked_after(kind, unchecked);
         outs += outputs_of(kind);
         j += 1;
     }
-    outs
+    Ok(outs)
 }

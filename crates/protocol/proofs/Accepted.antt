@@ -13,7 +13,7 @@ use Rattle.circuit.specs.Gate.{gate, gates}
 use Rattle.circuit.specs.Kind.{has_value}
 use Rattle.circuit.specs.Count.{prep_size, capacity, input_count, unchecked}
 use Rattle.circuit.specs.Round.{Check, First, Second, Round, Own, Open, Commit, Reveal, reveal_words, rounds, among, checked, opened_in}
-use Rattle.circuit.specs.Accept.{askCircuit}
+use Rattle.circuit.specs.Accept.{ask_circuit}
 use Rattle.circuit.specs.Valid.{Valid}
 use Rattle.circuit.proofs.Tests.{false_no, both_left, both_right}
 use Rattle.circuit.proofs.Verdicts.{ask_true, then_left, then_right, each_below, elements_below}
@@ -27,12 +27,12 @@ use Rattle.protocol.specs.Code.{Sited, layout_of}
 use Rattle.protocol.specs.Ready.{Ready, Sends, Receives, HeardLow}
 use Rattle.protocol.specs.declared.Layout.{Layout}
 use Rattle.protocol.specs.declared.Site.{Site}
-use Rattle.protocol.specs.Ask.{fewest_parties, most_parties, ask_parties, slotQuestion, askSlots, askWorked, askSendRound, askReceiveRound, ask_heard, askLent}
+use Rattle.protocol.specs.Ask.{fewest_parties, most_parties, ask_parties, slot_question, ask_slots, ask_worked, ask_send_round, ask_receive_round, ask_heard, ask_lent}
 
 -- what 1 to 12 make sure of, in a field of q elements
 pub record Lends (q : ℕ) (P : Party) (l : List ℕ) : Type 0 where
   pub parties : ask_parties P.parties ≡ Accepted
-  pub circuit : askCircuit P.parties q P.circuit ≡ Accepted
+  pub circuit : ask_circuit P.parties q P.circuit ≡ Accepted
   pub valid : Valid P.parties q P.circuit
   pub prep_long : length P.prep ≡ prep_size P.circuit
   pub prep_low : Below q P.prep
@@ -40,8 +40,8 @@ pub record Lends (q : ℕ) (P : Party) (l : List ℕ) : Type 0 where
   pub inputs_low : Below q P.inputs
   pub room : scratch_size P.parties P.circuit ≤ length l
 
-pub lends : {q : ℕ} → 0 < q → (P : Party) (l : List ℕ) → askLent q P l ≡ Accepted → Lends q P l
-unfolding askLent
+pub lends : {q : ℕ} → 0 < q → (P : Party) (l : List ℕ) → ask_lent q P l ≡ Accepted → Lends q P l
+unfolding ask_lent
 lends {q} some P l e =
     let after-1 = then_right _ _ e in
     let after-2 = then_right _ _ after-1 in
@@ -61,34 +61,34 @@ lends {q} some P l e =
     }
 
 -- question 1
-pub parties_few : (q : ℕ) (P : Party) (l : List ℕ) → askLent q P l ≡ Accepted → P.parties ≤ most_parties
-unfolding askLent ask_parties
+pub parties_few : (q : ℕ) (P : Party) (l : List ℕ) → ask_lent q P l ≡ Accepted → P.parties ≤ most_parties
+unfolding ask_lent ask_parties
 parties_few q P l e = leb-true _ _ (both_right (leb fewest_parties P.parties) _ (ask_true 1 0 _ (then_left _ _ e)))
 
 -- a wanted slot that passes question 15 is an element
 module _ (q : ℕ) (c l : List ℕ) where
-  slot_low : (wanted : Bool) (s : Slot) → slotQuestion q c l wanted s ≡ Accepted → wanted ≡ true → read (layout c) l s < q
-  unfolding slotQuestion
+  slot_low : (wanted : Bool) (s : Slot) → slot_question q c l wanted s ≡ Accepted → wanted ≡ true → read (layout c) l s < q
+  unfolding slot_question
   slot_low wanted s e w = ltb-true _ _ (go wanted (ask_true 15 _ _ e) w)
     where
       go : (b : Bool) → (not b || ltb (read (layout c) l s) q) ≡ true → b ≡ true → ltb (read (layout c) l s) q ≡ true
       go true h k = h
       go false h k = false_no k
 
-  slots_low : (k : ℕ) (wanted : ℕ → Bool) (slot : ℕ → Slot) → askSlots q c l k wanted slot ≡ Accepted
+  slots_low : (k : ℕ) (wanted : ℕ → Bool) (slot : ℕ → Slot) → ask_slots q c l k wanted slot ≡ Accepted
       → (t : ℕ) → t < k → wanted t ≡ true → read (layout c) l (slot t) < q
-  unfolding askSlots
-  slots_low k wanted slot e t h w = slot_low (wanted t) (slot t) (each_below (λ t. slotQuestion q c l (wanted t) (slot t)) k e t h) w
+  unfolding ask_slots
+  slots_low k wanted slot e t h w = slot_low (wanted t) (slot t) (each_below (λ t. slot_question q c l (wanted t) (slot t)) k e t h) w
 
 -- what question 15 makes sure of
-module _ (q : ℕ) (c l : List ℕ) (j : ℕ) (r : Round) (e : askWorked q c l j r ≡ Accepted) where
-  shares : askSlots q c l j (λ x. has_value (gate c x)) Share ≡ Accepted
-  unfolding askWorked
+module _ (q : ℕ) (c l : List ℕ) (j : ℕ) (r : Round) (e : ask_worked q c l j r ≡ Accepted) where
+  shares : ask_slots q c l j (λ x. has_value (gate c x)) Share ≡ Accepted
+  unfolding ask_worked
   shares = then_left _ _ e
 
-  past_shares : (askSlots q c l j (λ x. has_value (gate c x)) Mac then askSlots q c l (opened_in (unchecked c j) r) (λ t. true) Value then askSlots q c l (opened_in (unchecked c j) r) (λ t. true) ValueMac) ≡ Accepted
-  unfolding askWorked
-  past_shares = then_right (askSlots q c l j (λ x. has_value (gate c x)) Share) _ e
+  past_shares : (ask_slots q c l j (λ x. has_value (gate c x)) Mac then ask_slots q c l (opened_in (unchecked c j) r) (λ t. true) Value then ask_slots q c l (opened_in (unchecked c j) r) (λ t. true) ValueMac) ≡ Accepted
+  unfolding ask_worked
+  past_shares = then_right (ask_slots q c l j (λ x. has_value (gate c x)) Share) _ e
 
   pub worked_low : j ≤ gates c → Worked q c (layout c) l j
   unfolding layout
@@ -135,7 +135,7 @@ module _ (q : ℕ) (c : List ℕ) (at : Position) (e : occurs q c at ≡ true) w
 -- what a step asks
 module _ {q : ℕ} (some : 0 < q) (P : Party) (l : List ℕ) (y : Layout) (at : Site) (r : Round) (lent : Lends q P l) (lay : layout_of y ≡ layout P.circuit) (sited : Sited P.circuit P.me at)
     (occurs : among r (rounds P.circuit at.gate) ≡ true) where
-  pub ready : askWorked q P.circuit l at.gate r ≡ Accepted → Ready q P l y at r
+  pub ready : ask_worked q P.circuit l at.gate r ≡ Accepted → Ready q P l y at r
   ready e =
       record {
         valid = lent.valid;
@@ -151,8 +151,8 @@ module _ {q : ℕ} (some : 0 < q) (P : Party) (l : List ℕ) (y : Layout) (at : 
         opened = opened_low q P.circuit l at.gate r e (entries_fit P.circuit at.gate r sited.within);
       }
 
-  pub sends : (held : ℕ) (coefficients nonce : List ℕ) (room : ℕ) → askSendRound q P.circuit l at.gate coefficients nonce room r ≡ Accepted → Sends q P l y at r held coefficients nonce room
-  unfolding askSendRound
+  pub sends : (held : ℕ) (coefficients nonce : List ℕ) (room : ℕ) → ask_send_round q P.circuit l at.gate coefficients nonce room r ≡ Accepted → Sends q P l y at r held coefficients nonce room
+  unfolding ask_send_round
   sends held coefficients nonce room e =
       let after-15 = then_right _ _ e in
       let after_16 = then_right _ _ after-15 in
@@ -165,8 +165,8 @@ module _ {q : ℕ} (some : 0 < q) (P : Party) (l : List ℕ) (y : Layout) (at : 
         space = leb-true _ _ (ask_true 18 0 _ (then_right _ _ after-17));
       }
 
-  pub receives : (heard : List ℕ) → askReceiveRound q P.circuit P.parties l at.gate heard r ≡ Accepted → Receives q P l y at r heard
-  unfolding askReceiveRound
+  pub receives : (heard : List ℕ) → ask_receive_round q P.circuit P.parties l at.gate heard r ≡ Accepted → Receives q P l y at r heard
+  unfolding ask_receive_round
   receives heard e =
       record {
         ready = ready (then_left _ _ e);

@@ -12,8 +12,8 @@ use Rattle.protocol.specs.Position.{Position, occurs, Stage, Send, Receive, hold
 use Rattle.protocol.specs.Party.{Party}
 use Rattle.protocol.specs.Send.{sent, holds, noted, overwrite}
 use Rattle.protocol.specs.Receive.{finds, left}
-use Rattle.protocol.specs.Ask.{askLent, askSend, askReceive}
-use Rattle.protocol.specs.Entry.{Answer, Refusal, Next, answer, leave, openAnswer, sendAnswer, sendOut, sendScratch, outcome, receiveAnswer, receiveScratch}
+use Rattle.protocol.specs.Ask.{ask_lent, ask_send, ask_receive}
+use Rattle.protocol.specs.Entry.{Answer, Refusal, Next, answer, leave, open_answer, send_answer, send_out, send_scratch, outcome, receive_answer, receive_scratch}
 
 -- a refusal is the answer, and nothing is written
 pub refused_answer : {v : Verdict} {number index : ℕ} (a : Answer) → v ≡ Refused number index → Refusal number index ≡ answer v a
@@ -35,9 +35,9 @@ accepted_leaves later before e = rw e
 -- the three parts of a call's questions: those of all that is lent, the position, and those of its half
 module _ (q : ℕ) (P : Party) (l : List ℕ) (at : Position) (half : Verdict) where
   abbrev pub asked : Verdict
-  asked = askLent q P l then ask 13 0 (occurs q P.circuit at) then half
+  asked = ask_lent q P l then ask 13 0 (occurs q P.circuit at) then half
 
-  pub half_decides : {v : Verdict} → askLent q P l ≡ Accepted → occurs q P.circuit at ≡ true → v ≡ half → v ≡ asked
+  pub half_decides : {v : Verdict} → ask_lent q P l ≡ Accepted → occurs q P.circuit at ≡ true → v ≡ half → v ≡ asked
   unfolding ◌then◌ ask
   half_decides e f g = rw (e, f) g
 
@@ -51,31 +51,31 @@ unfolding when_receiving
 receiving_at_lem s r e other f = rw e
 
 module _ (O : Ops) (P : Party) (l : List ℕ) where
-  pub open_refused : {number index : ℕ} → askLent O.size P l ≡ Refused number index → Refusal number index ≡ openAnswer O P l
-  unfolding openAnswer
+  pub open_refused : {number index : ℕ} → ask_lent O.size P l ≡ Refused number index → Refusal number index ≡ open_answer O P l
+  unfolding open_answer
   open_refused e = refused_answer _ e
 
-  pub open_accepted : {a : Answer} → askLent O.size P l ≡ Accepted → a ≡ Next (holding (start P.circuit) 0) → a ≡ openAnswer O P l
-  unfolding openAnswer
+  pub open_accepted : {a : Answer} → ask_lent O.size P l ≡ Accepted → a ≡ Next (holding (start P.circuit) 0) → a ≡ open_answer O P l
+  unfolding open_answer
   open_accepted e f = f ∙ accepted_answer _ e
 
 -- sending
 module _ (O : Ops) (P : Party) (l : List ℕ) (at : Position) (coefficients nonce out : List ℕ) where
   abbrev pub Sending : Answer → List ℕ → List ℕ → Type 0
   Sending a later scratch =
-      (a ≡ sendAnswer O P l at coefficients nonce (length out))
-      × ((later ≡ sendOut O P l at coefficients nonce out) × (scratch ≡ sendScratch O P l at coefficients nonce (length out)))
+      (a ≡ send_answer O P l at coefficients nonce (length out))
+      × ((later ≡ send_out O P l at coefficients nonce out) × (scratch ≡ send_scratch O P l at coefficients nonce (length out)))
 
-  pub send_refused : {number index : ℕ} → askSend O.size P l at coefficients nonce (length out) ≡ Refused number index → Sending (Refusal number index) out l
-  unfolding sendAnswer sendOut sendScratch
+  pub send_refused : {number index : ℕ} → ask_send O.size P l at coefficients nonce (length out) ≡ Refused number index → Sending (Refusal number index) out l
+  unfolding send_answer send_out send_scratch
   send_refused e = (refused_answer _ e, (refused_leaves _ _ e, refused_leaves _ _ e))
 
-  pub send_done : {a : Answer} {later scratch : List ℕ} (r : Round) → askSend O.size P l at coefficients nonce (length out) ≡ Accepted → at.stage ≡ Send r
+  pub send_done : {a : Answer} {later scratch : List ℕ} (r : Round) → ask_send O.size P l at coefficients nonce (length out) ≡ Accepted → at.stage ≡ Send r
       → a ≡ Next (record { gate = at.gate; stage = Receive r; held = holds O P l at.gate r coefficients })
       → later ≡ overwrite (sent O P l at.gate at.held coefficients nonce r) out
       → scratch ≡ noted O P l r nonce
       → Sending a later scratch
-  unfolding sendAnswer sendOut sendScratch
+  unfolding send_answer send_out send_scratch
   send_done r e g i j k = (
     i ∙ ap Next (sym (picked at (λ r. record { gate = at.gate; stage = Receive r; held = holds O P l at.gate r coefficients }))) ∙ accepted_answer _ e,
     (
@@ -90,17 +90,17 @@ module _ (O : Ops) (P : Party) (l : List ℕ) (at : Position) (coefficients nonc
 -- receiving
 module _ (O : Ops) (P : Party) (l : List ℕ) (at : Position) (heard : List ℕ) where
   abbrev pub Receiving : Answer → List ℕ → Type 0
-  Receiving a later = (a ≡ receiveAnswer O P l at heard) × (later ≡ receiveScratch O P l at heard)
+  Receiving a later = (a ≡ receive_answer O P l at heard) × (later ≡ receive_scratch O P l at heard)
 
-  pub receive_refused : {number index : ℕ} → askReceive O.size P l at heard ≡ Refused number index → Receiving (Refusal number index) l
-  unfolding receiveAnswer receiveScratch
+  pub receive_refused : {number index : ℕ} → ask_receive O.size P l at heard ≡ Refused number index → Receiving (Refusal number index) l
+  unfolding receive_answer receive_scratch
   receive_refused e = (refused_answer _ e, refused_leaves _ _ e)
 
-  pub receive_done : {a : Answer} {later : List ℕ} (r : Round) → askReceive O.size P l at heard ≡ Accepted → at.stage ≡ Receive r
+  pub receive_done : {a : Answer} {later : List ℕ} (r : Round) → ask_receive O.size P l at heard ≡ Accepted → at.stage ≡ Receive r
       → a ≡ outcome O P l at.gate at.held heard r
       → later ≡ left O P (finds O P l r heard) l at.gate r heard
       → Receiving a later
-  unfolding receiveAnswer receiveScratch
+  unfolding receive_answer receive_scratch
   receive_done r e g i j = (
     i ∙ sym (receiving_at_lem at.stage r g (Next at) (outcome O P l at.gate at.held heard)) ∙ accepted_answer _ e,
     j ∙ sym (receiving_at_lem at.stage r g l (λ r. left O P (finds O P l r heard) l at.gate r heard)) ∙ accepted_leaves _ _ e,

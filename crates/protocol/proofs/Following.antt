@@ -19,7 +19,7 @@ use Rattle.circuit.proofs.Counts.{unchecked_valued}
 use Rattle.circuit.proofs.Gates.{gate_zero}
 use Rattle.circuit.proofs.RoundLaws.{Has, after, is_among, class_at_round, after_round}
 use Rattle.protocol.specs.Position.{Send, Point, finished, aborted, begin, reach, enter, resume, start, proceed, follow, stage_occurs, may_hold}
-use Rattle.protocol.specs.Receive.{Nobody, Blames, Ruling, Passed, Stopped, passed, misfit, weighs, heardSum, ruling, next}
+use Rattle.protocol.specs.Receive.{Nobody, Blames, Ruling, Passed, Stopped, passed, misfit, weighs, heard_sum, ruling, next}
 
 -- what follows a check, and each round, that stops no run
 abbrev pub followed_check : List ℕ → ℕ → Check → Point
@@ -68,7 +68,7 @@ module _ (O : Ops) (n : ℕ) (marks heard : List ℕ) where
 
   -- a reveal of which all parties' words fit their marks is decided by the sum alone
   pub ruling_fits : (r : Round) → is_reveal r ≡ true → misfit n marks heard ≡ Nobody
-      → ruling O n r marks heard ≡ weighs Nobody (eqb (heardSum O n reveal_words 0 heard) 0)
+      → ruling O n r marks heard ≡ weighs Nobody (eqb (heard_sum O n reveal_words 0 heard) 0)
   unfolding ruling
   ruling_fits r e m = rw (e, m)
 

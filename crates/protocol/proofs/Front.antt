@@ -25,8 +25,8 @@ use Rattle.circuit.proofs.Tests.{by_cases}
 use Rattle.protocol.specs.Part.{Part}
 use Rattle.protocol.specs.Scratch.{Layout, layout, Slot, Share, Mac, Value, ValueMac, offset, slots_size, read, write, wire, put_wire, put_opened}
 use Rattle.protocol.specs.Party.{Party, key}
-use Rattle.protocol.specs.Send.{masked, shown, checkShare, opening, own_words, showing, sent, holds, noted}
-use Rattle.protocol.specs.Receive.{afterInput, putDifferences, afterOpening, afterOpenOutput, putLinear, afterLinear, settle, Ruling, passed, onward, ownReceived, checkPassed, received, finds, left}
+use Rattle.protocol.specs.Send.{masked, shown, check_share, opening, own_words, showing, sent, holds, noted}
+use Rattle.protocol.specs.Receive.{after_input, put_differences, after_opening, after_open_output, put_linear, after_linear, settle, Ruling, passed, onward, own_received, check_passed, received, finds, left}
 use Rattle.protocol.specs.Holding.{Within, Worked}
 use Rattle.protocol.proofs.Slots.{slot_fits, length_write, length_put, length_opened}
 use Rattle.protocol.proofs.Writing.{OpenedTo}
@@ -95,8 +95,8 @@ module _ (O : Ops) (e : List ℕ) where
   -- a linear gate
   linear_front : {n q : ℕ} {c : List ℕ} → Valid n q c → (i key j : ℕ) (l : List ℕ) → slots_size (layout c) ≤ length l → j < gates c
       → (shape (gate c j)).class ≡ Local
-      → afterLinear O i key (layout c) (l ++ e) j (gate c j) ≡ afterLinear O i key (layout c) l j (gate c j) ++ e
-  unfolding afterLinear putLinear layout
+      → after_linear O i key (layout c) (l ++ e) j (gate c j) ≡ after_linear O i key (layout c) l j (gate c j) ++ e
+  unfolding after_linear put_linear layout
   linear_front {c = c} ok i key j l room h k =
       let y = layout c in
       let g = gate c j in
@@ -125,8 +125,8 @@ module _ (O : Ops) (e : List ℕ) where
       → z < y.gates
       → 1 ≤ k
       → u + k ≤ y.capacity
-      → putDifferences O y (l ++ e) x z m k u v w ≡ putDifferences O y l x z m k u v w ++ e
-  unfolding putDifferences masked
+      → put_differences O y (l ++ e) x z m k u v w ≡ put_differences O y l x z m k u v w ++ e
+  unfolding put_differences masked
   differences_front y l x z m k u v w room hx hz some fits =
       rw (wire_front y e l x room hx, wire_front y e l z room hz)
       (by_cases (eqb k 2)
@@ -142,11 +142,11 @@ module _ (O : Ops) (e : List ℕ) where
       → z < y.gates
       → 1 ≤ k
       → u + k ≤ y.capacity
-      → afterOpening O i key y (l ++ e) j x z m k u v w ≡ afterOpening O i key y l j x z m k u v w ++ e
-  unfolding afterOpening
+      → after_opening O i key y (l ++ e) j x z m k u v w ≡ after_opening O i key y l j x z m k u v w ++ e
+  unfolding after_opening
   opening_front i key y l j x z m k u v w room h hx hz some fits =
       rw (differences_front y l x z m k u v w room hx hz some fits)
-      (put_front y e (putDifferences O y l x z m k u v w) j _ (rw (length_differences O y l x z m k u v w) room) h)
+      (put_front y e (put_differences O y l x z m k u v w) j _ (rw (length_differences O y l x z m k u v w) room) h)
 
 module _ {O : Ops} (F : Field O) (P : Party) (l e : List ℕ) (j : ℕ) where
   -- the circuit's layout, and the gate
@@ -189,7 +189,7 @@ module _ {O : Ops} (F : Field O) (P : Party) (l e : List ℕ) (j : ℕ) where
 
   -- The check share that is held.
   pub holds_front : (r : Round) → Asks r → (coefficients : List ℕ) → holds O P (l ++ e) j r coefficients ≡ holds O P l j r coefficients
-  unfolding holds checkShare
+  unfolding holds check_share
   holds_front r k coefficients =
       ap (λ (x : ℕ). cond (is_commit r) x 0)
       (ap₂ O.sub
@@ -224,8 +224,8 @@ module _ {O : Ops} (F : Field O) (P : Party) (l e : List ℕ) (j : ℕ) where
   onward_front r k l' same = settle_front O e k.valid P.me (key P) _ (suc j) l' (rw same (stood_room k)) (omega (arith, k.within))
 
   own_received_front : Asks Own → (heard : List ℕ) → ((shape g).class ≡ Owned) ⊎ ((shape g).class ≡ Opens)
-      → ownReceived O P (l ++ e) j heard (shape g).class ≡ ownReceived O P l j heard (shape g).class ++ e
-  unfolding ownReceived afterInput
+      → own_received O P (l ++ e) j heard (shape g).class ≡ own_received O P l j heard (shape g).class ++ e
+  unfolding own_received after_input
   own_received_front k heard (inl c) =
       rw c (ap (onward O P j) (put_front y e l j _ (stood_room k) (here k)) ∙ onward_front Own k _ (length_put y l j _))
   own_received_front k heard (inr c) =
@@ -236,12 +236,12 @@ module _ {O : Ops} (F : Field O) (P : Party) (l e : List ℕ) (j : ℕ) where
       (opens_facts g c).some (omega (arith, entries k)))
       ∙ onward_front Own k _ (length_opening _ _ _ _ _ _ _ _ _))
     where
-      length_opening : (i' key' x z : ℕ) (m : List ℕ) (n u v w : ℕ) → length (afterOpening O i' key' y l j x z m n u v w) ≡ length l
-      length_opening i' key' x z m n u v w = unfold afterOpening in length_put y _ j _ ∙ length_differences O y l x z m n u v w
+      length_opening : (i' key' x z : ℕ) (m : List ℕ) (n u v w : ℕ) → length (after_opening O i' key' y l j x z m n u v w) ≡ length l
+      length_opening i' key' x z m n u v w = unfold after_opening in length_put y _ j _ ∙ length_differences O y l x z m n u v w
 
   -- The scratch once a round is received.
   pub received_front : (r : Round) → Asks r → (heard : List ℕ) → length heard ≡ P.parties * words g r → received O P (l ++ e) j r heard ≡ received O P l j r heard ++ e
-  unfolding received checkPassed afterOpenOutput layout
+  unfolding received check_passed after_open_output layout
   received_front Own k heard h = own_received_front k heard (class_at_round P.circuit j Own k.occurs)
   received_front Open k heard h =
       rw (shown_front k) (opened_front y e l 0 _ _ (stood_room k) (omega (arith, unchecked_fits P.circuit j (omega (arith, k.within)))))

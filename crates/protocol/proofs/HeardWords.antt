@@ -17,7 +17,7 @@ use Rattle.circuit.proofs.KindLaws.{is_class_lem, class_is, opens_no_in, opens_n
 use Rattle.circuit.proofs.Gates.{owner_named}
 use Rattle.circuit.proofs.RoundLaws.{RoundClass, class_at_round}
 use Rattle.circuit.proofs.Tests.{false_no}
-use Rattle.protocol.specs.Receive.{heardSum}
+use Rattle.protocol.specs.Receive.{heard_sum}
 use Rattle.protocol.specs.Holding.{Below}
 use Rattle.protocol.specs.Ready.{Hears, heard_first, heard_second}
 use Rattle.protocol.proofs.Summing.{words_fit}
@@ -47,24 +47,24 @@ words_last (Commit k) g h e = opens_no_output e h
 words_last (Reveal k) g h e = opens_no_output e h
 
 -- the owner's word is among the words heard
-pub owner_word : {q : ℕ} (n k : ℕ) {s a : ℕ} (heard : List ℕ) → 0 < k → n * k ≤ length heard → Below q heard → a ≡ s → s < n → (a * k < length heard) × Below q heard
-owner_word n k {s} {a} heard some long low e h = (omega (arith, words_fit n k a (rw e h) long), low)
+pub owner_word_lem : {q : ℕ} (n k : ℕ) {s a : ℕ} (heard : List ℕ) → 0 < k → n * k ≤ length heard → Below q heard → a ≡ s → s < n → (a * k < length heard) × Below q heard
+owner_word_lem n k {s} {a} heard some long low e h = (omega (arith, words_fit n k a (rw e h) long), low)
 
 -- what is found is what the words come to, by the class
 module _ (O : Ops) (n k : ℕ) (h : Class) (heard : List ℕ) where
   pub word_is_lem : (a : ℕ) → is_class Owned h ≡ true → {e : ℕ} → Is O.size (get_or heard (a * k) 0) e
-      → Is O.size (cond (is_class Owned h) (get_or heard (a * k) 0) (heardSum O n k 0 heard)) e
+      → Is O.size (cond (is_class Owned h) (get_or heard (a * k) 0) (heard_sum O n k 0 heard)) e
   word_is_lem a c w = record { is = w.is ∙ rw c; below = w.below }
 
-  pub sum_is : (a : ℕ) → is_class Owned h ≡ false → {e : ℕ} → Is O.size (heardSum O n k 0 heard) e
-      → Is O.size (cond (is_class Owned h) (get_or heard (a * k) 0) (heardSum O n k 0 heard)) e
+  pub sum_is : (a : ℕ) → is_class Owned h ≡ false → {e : ℕ} → Is O.size (heard_sum O n k 0 heard) e
+      → Is O.size (cond (is_class Owned h) (get_or heard (a * k) 0) (heard_sum O n k 0 heard)) e
   sum_is a c w = record { is = w.is ∙ rw c; below = w.below }
 
-  pub second_is : (t : ℕ) → is_class Opens h ≡ true → {d : ℕ} → Is O.size (heardSum O n k t heard) d
-      → Is O.size (cond (is_class Opens h) (heardSum O n k t heard) 0) d
+  pub second_is : (t : ℕ) → is_class Opens h ≡ true → {d : ℕ} → Is O.size (heard_sum O n k t heard) d
+      → Is O.size (cond (is_class Opens h) (heard_sum O n k t heard) 0) d
   second_is t c w = record { is = w.is ∙ rw c; below = w.below }
 
-  pub no_second : (t : ℕ) → 0 < O.size → is_class Opens h ≡ false → Is O.size (cond (is_class Opens h) (heardSum O n k t heard) 0) 0
+  pub no_second : (t : ℕ) → 0 < O.size → is_class Opens h ≡ false → Is O.size (cond (is_class Opens h) (heard_sum O n k t heard) 0) 0
   no_second t some c = record { is = rw c; below = some }
 
 -- what finding it asks, at a round of gate j of which the code knows the class and how many words each party sent
@@ -94,12 +94,12 @@ module _ {q n : ℕ} {c : List ℕ} {j : ℕ} {r : Round} {heard : List ℕ} (s 
 
   -- and what is then found
   module _ (O : Ops) where
-    pub first_found : {a e : ℕ} → a ≡ (gate c j).first → Is O.size (cond (is_class Owned h) (get_or heard (a * k) 0) (heardSum O n k 0 heard)) e
+    pub first_found : {a e : ℕ} → a ≡ (gate c j).first → Is O.size (cond (is_class Owned h) (get_or heard (a * k) 0) (heard_sum O n k 0 heard)) e
         → Is O.size (heard_first O n (gate c j) r heard) e
     unfolding heard_first
     first_found ea w = record { is = w.is ∙ rw (ea, ek, eh); below = w.below }
 
-    pub second_found : {o d : ℕ} → o ≡ (shape (gate c j)).openings → Is O.size (cond (is_class Opens h) (heardSum O n k (o - 1) heard) 0) d
+    pub second_found : {o d : ℕ} → o ≡ (shape (gate c j)).openings → Is O.size (cond (is_class Opens h) (heard_sum O n k (o - 1) heard) 0) d
         → Is O.size (heard_second O n (gate c j) r heard) d
     unfolding heard_second
     second_found eo w = record { is = w.is ∙ rw (eo, ek, eh); below = w.below }
@@ -110,14 +110,14 @@ module _ (O : Ops) (n : ℕ) (heard : List ℕ) (r : Round) (g : Gate) where
   unfolding heard_first
   owner_heard e = rw (class_is e)
 
-  pub first_heard : (shape g).class ≡ Opens → heard_first O n g r heard ≡ heardSum O n (words g r) 0 heard
+  pub first_heard : (shape g).class ≡ Opens → heard_first O n g r heard ≡ heard_sum O n (words g r) 0 heard
   unfolding heard_first
   first_heard e = rw (opens_no_in e)
 
-  pub second_heard : (shape g).class ≡ Opens → heard_second O n g r heard ≡ heardSum O n (words g r) ((shape g).openings - 1) heard
+  pub second_heard : (shape g).class ≡ Opens → heard_second O n g r heard ≡ heard_sum O n (words g r) ((shape g).openings - 1) heard
   unfolding heard_second
   second_heard e = rw (class_is e)
 
-  pub output_heard : (shape g).class ≡ Output → heard_first O n g r heard ≡ heardSum O n (words g r) 0 heard
+  pub output_heard : (shape g).class ≡ Output → heard_first O n g r heard ≡ heard_sum O n (words g r) 0 heard
   unfolding heard_first
   output_heard e = rw (output_no_in e)

@@ -27,7 +27,7 @@ use Rattle.sha256.proofs.Bytes.{length_words}
 use Rattle.protocol.specs.Send.{masked, shown, showing, noted}
 use Rattle.protocol.specs.Position.{Stage, stage_occurs, Send, Receive, Finished, Aborted, Point, finished, aborted, begin, reach, enter, resume}
 use Rattle.protocol.specs.Party.{Party, key}
-use Rattle.protocol.specs.Receive.{Ruling, passed, heardSum, next, onward, ownReceived, checkPassed, received, left}
+use Rattle.protocol.specs.Receive.{Ruling, passed, heard_sum, next, onward, own_received, check_passed, received, left}
 use Rattle.protocol.specs.declared.Layout.{Layout}
 use Rattle.protocol.specs.declared.Site.{Site}
 use Rattle.protocol.specs.Holding.{Held, Worked}
@@ -129,8 +129,8 @@ module _ {n q : ℕ} {c l : List ℕ} {j : ℕ} where
 module _ {O : Ops} (F : Field O) where
   open O use {size}
 
-  pub heard_low : (n k t : ℕ) (heard : List ℕ) → heardSum O n k t heard < size
-  unfolding heardSum
+  pub heard_low : (n k t : ℕ) (heard : List ℕ) → heard_sum O n k t heard < size
+  unfolding heard_sum
   heard_low n k t heard = sum_lt F n _
 
   module _ (P : Party) (l : List ℕ) (j : ℕ) (room : slots_size (layout P.circuit) ≤ length l) (within : j < gates P.circuit) where
@@ -154,8 +154,8 @@ module _ {O : Ops} (F : Field O) where
     -- a gate's own round, by its class
     owned_stands : Stood P.parties size P.circuit l j Own
         → (shape (gate P.circuit j)).class ≡ Owned
-        → Standing size P.circuit l (ownReceived O P l j heard Owned) (resume P.circuit (suc j))
-    unfolding ownReceived layout
+        → Standing size P.circuit l (own_received O P l j heard Owned) (resume P.circuit (suc j))
+    unfolding own_received layout
     owned_stands k e =
         onward_stands P l j (stood_room k) k.within (unchecked P.circuit j) _
         (input_keeps F P.circuit (layout P.circuit) l j (stood_room k) k.worked (unchecked P.circuit j) _ _ _ _ k.within k.opened)
@@ -163,8 +163,8 @@ module _ {O : Ops} (F : Field O) where
 
     opens_stands : Stood P.parties size P.circuit l j Own
         → (shape (gate P.circuit j)).class ≡ Opens
-        → Standing size P.circuit l (ownReceived O P l j heard Opens) (resume P.circuit (suc j))
-    unfolding ownReceived layout
+        → Standing size P.circuit l (own_received O P l j heard Opens) (resume P.circuit (suc j))
+    unfolding own_received layout
     opens_stands k e =
         let f = opens_facts (gate P.circuit j) e in
         onward_stands P l j (stood_room k) k.within (unchecked P.circuit j + (shape (gate P.circuit j)).openings) _
@@ -184,7 +184,7 @@ module _ {O : Ops} (F : Field O) where
         → Stood P.parties size P.circuit l j r
         → length heard ≡ P.parties * words (gate P.circuit j) r
         → Standing size P.circuit l (received O P l j r heard) (followed P.circuit j r)
-    unfolding received checkPassed layout
+    unfolding received check_passed layout
     followed_stands Own k e = own_stands k (class_at_round P.circuit j Own k.occurs)
     followed_stands Open k e =
         let s =

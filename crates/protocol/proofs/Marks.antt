@@ -20,7 +20,7 @@ use Rattle.circuit.proofs.Tests.{by_cases, false_no}
 use Rattle.protocol.specs.Scratch.{layout, scratch_size, nonce_of, marks_of, put_nonce, put_marks}
 use Rattle.protocol.specs.Send.{mark, revealed, sent, holds, noted}
 use Rattle.protocol.specs.Position.{keep}
-use Rattle.protocol.specs.Receive.{Blame, Nobody, Blames, Ruling, Passed, Stopped, passed, first_blame, fits, misfit, weighs, heardSum, received, finds, left}
+use Rattle.protocol.specs.Receive.{Blame, Nobody, Blames, Ruling, Passed, Stopped, passed, first_blame, fits, misfit, weighs, heard_sum, received, finds, left}
 use Rattle.protocol.specs.Joint.{Joint, joined, party, nonce_for}
 use Rattle.protocol.specs.Run.{State, first_ruling, lowest, taken, said, notes, ends, step}
 use Rattle.protocol.proofs.Tails.{nonce_put, marks_put, nonce_marks, nonce_length, marks_length, length_nonce, marks_room, nonce_room}
@@ -124,12 +124,12 @@ module _ (O : Ops) (J : Joint) where
     -- so for every party the sum alone decides ..
     pub sealed_finds : (i : ℕ) → i < n
         → finds O (party J i) (notes O J s (Reveal k) i) (Reveal k) (said O J s (Reveal k))
-        ≡ weighs Nobody (eqb (heardSum O n reveal_words 0 (said O J s (Reveal k))) 0)
+        ≡ weighs Nobody (eqb (heard_sum O n reveal_words 0 (said O J s (Reveal k))) 0)
     unfolding finds notes noted party
     sealed_finds i l = ruling_fits O n _ (said O J s (Reveal k)) (Reveal k) refl (all_fit n _ _ (reveals_fit i l))
 
     -- .. and for all together
-    pub sealed_ends : 0 < n → ends O J s (Reveal k) ≡ weighs Nobody (eqb (heardSum O n reveal_words 0 (said O J s (Reveal k))) 0)
+    pub sealed_ends : 0 < n → ends O J s (Reveal k) ≡ weighs Nobody (eqb (heard_sum O n reveal_words 0 (said O J s (Reveal k))) 0)
     unfolding ends
     sealed_ends some = lowest_alike n _ _ some sealed_finds
 

@@ -11,21 +11,21 @@ use Rattle.circuit.specs.Gate.{Over, Gate}
 use Rattle.circuit.specs.Kind.{kind_shape}
 use Rattle.protocol.specs.Part.{Part, scale}
 use Rattle.protocol.specs.Scratch.{Layout}
-use Rattle.protocol.specs.Receive.{operand, linear, putLinear, afterLinear}
-use Rattle.protocol.specs.Plain.{kindValue, value_of}
-use Rattle.protocol.specs.Over.{over, afterOver, Undoes}
+use Rattle.protocol.specs.Receive.{operand, linear, put_linear, after_linear}
+use Rattle.protocol.specs.Plain.{kind_value, value_of}
+use Rattle.protocol.specs.Over.{over, after_over, Undoes}
 use Rattle.protocol.proofs.Writing.{Elements}
 
 -- what a party works out
 pub over_after : (O : Ops) (i key : ℕ) (y : Layout) (l : List ℕ) (j : ℕ) (g : Gate) → g.kind ≡ Over
-    → afterLinear O i key y l j g ≡ afterOver O y l j g.first g.constant
-unfolding afterLinear putLinear linear operand kind_shape scale over afterOver
+    → after_linear O i key y l j g ≡ after_over O y l j g.first g.constant
+unfolding after_linear put_linear linear operand kind_shape scale over after_over
 over_after O i key y l j g e = rw e
 
 -- and on plain inputs
 pub over_value : (O : Ops) (input : ℕ) (vs : List ℕ) (g : Gate) → g.kind ≡ Over
     → value_of O input vs g ≡ O.mul (get_or vs g.first 0) (O.inv g.constant)
-unfolding value_of kindValue operand kind_shape
+unfolding value_of kind_value operand kind_shape
 over_value O input vs g e = rw e
 
 -- a part by its share and its MAC share

@@ -11,7 +11,7 @@ use Rattle.circuit.specs.Verdict.{Accepted}
 use Rattle.circuit.specs.Gate.{gate, gates}
 use Rattle.circuit.specs.Count.{prep_size, input_count, unchecked}
 use Rattle.circuit.specs.Round.{Round, Own, Open, Commit, Reveal, is_commit, is_reveal, reveal_words, rounds, among, words, opened_in, coefficients_in, nonce_in}
-use Rattle.circuit.specs.Accept.{askCircuit}
+use Rattle.circuit.specs.Accept.{ask_circuit}
 use Rattle.circuit.proofs.Verdicts.{ask_yes, then_both, each_all, elements_all}
 use Rattle.protocol.specs.Scratch.{Slot, Share, Mac, Value, ValueMac, layout, scratch_size, read}
 use Rattle.protocol.specs.Position.{Stage, Send, Receive, stage_occurs, may_hold, occurs, when_sending, when_receiving}
@@ -19,24 +19,24 @@ use Rattle.protocol.specs.Party.{Party}
 use Rattle.protocol.specs.Ready.{HeardLow}
 use Rattle.protocol.specs.Holding.{Below, Worked}
 use Rattle.protocol.proofs.Writing.{OpenedTo}
-use Rattle.protocol.specs.Ask.{ask_parties, slotQuestion, askSlots, askWorked, ask_heard, askSendRound, askReceiveRound, askLent, askSend, askReceive}
+use Rattle.protocol.specs.Ask.{ask_parties, slot_question, ask_slots, ask_worked, ask_heard, ask_send_round, ask_receive_round, ask_lent, ask_send, ask_receive}
 
 -- Questions 1 to 12 look at the length of the scratch alone.
-pub lent_alike : (q : ℕ) (P : Party) (l l' : List ℕ) → length l' ≡ length l → askLent q P l' ≡ askLent q P l
-unfolding askLent
+pub lent_alike : (q : ℕ) (P : Party) (l l' : List ℕ) → length l' ≡ length l → ask_lent q P l' ≡ ask_lent q P l
+unfolding ask_lent
 lent_alike q P l l' e = rw e
 
 -- They pass where the setting is accepted, and the lists have their lengths and are of elements.
 pub lent_passes : {q : ℕ} (P : Party) (l : List ℕ) → ask_parties P.parties ≡ Accepted
     → P.me < P.parties
-    → askCircuit P.parties q P.circuit ≡ Accepted
+    → ask_circuit P.parties q P.circuit ≡ Accepted
     → length P.prep ≡ prep_size P.circuit
     → Below q P.prep
     → length P.inputs ≡ input_count P.circuit P.me
     → Below q P.inputs
     → scratch_size P.parties P.circuit ≤ length l
-    → askLent q P l ≡ Accepted
-unfolding askLent
+    → ask_lent q P l ≡ Accepted
+unfolding ask_lent
 lent_passes {q} P l parties me circuit prep_long prep_low inputs_long inputs_low room =
     then_both parties
     (then_both (ask_yes 2 0 (lt-ltb _ _ me))
@@ -48,8 +48,8 @@ lent_passes {q} P l parties me circuit prep_long prep_low inputs_long inputs_low
 
 module _ {q : ℕ} (c l : List ℕ) (j : ℕ) (r : Round) where
   slots_pass : (k : ℕ) (wanted : ℕ → Bool) (slot : ℕ → Slot) → ((t : ℕ) → t < k → wanted t ≡ true → read (layout c) l (slot t) < q)
-      → askSlots q c l k wanted slot ≡ Accepted
-  unfolding askSlots slotQuestion
+      → ask_slots q c l k wanted slot ≡ Accepted
+  unfolding ask_slots slot_question
   slots_pass k wanted slot h = each_all _ k (λ t lt. ask_yes 15 _ (go (wanted t) refl (h t lt)))
     where
       go : {t : ℕ} (b : Bool) → wanted t ≡ b → (wanted t ≡ true → read (layout c) l (slot t) < q)
@@ -58,8 +58,8 @@ module _ {q : ℕ} (c l : List ℕ) (j : ℕ) (r : Round) where
       go false e low = refl
 
   -- Question 15 passes where the wires and the unchecked entries are elements.
-  pub worked_passes : Worked q c (layout c) l j → OpenedTo q (layout c) l (opened_in (unchecked c j) r) → askWorked q c l j r ≡ Accepted
-  unfolding askWorked
+  pub worked_passes : Worked q c (layout c) l j → OpenedTo q (layout c) l (opened_in (unchecked c j) r) → ask_worked q c l j r ≡ Accepted
+  unfolding ask_worked
   worked_passes w o =
       then_both (slots_pass j _ Share (λ x lx v. (w x lx v).share))
       (then_both (slots_pass j _ Mac (λ x lx v. (w x lx v).mac))
@@ -77,7 +77,7 @@ module _ (q : ℕ) (c : List ℕ) (j : ℕ) (held : ℕ) (within : j < gates c) 
       go false e = eq-eqb held 0 (none e)
 
 module _ {q : ℕ} (P : Party) (l : List ℕ) (j held : ℕ) (r : Round)
-    (lent : askLent q P l ≡ Accepted)
+    (lent : ask_lent q P l ≡ Accepted)
     (within : j < gates P.circuit)
     (has : among r (rounds P.circuit j) ≡ true)
     (worked : Worked q P.circuit (layout P.circuit) l j)
@@ -89,8 +89,8 @@ module _ {q : ℕ} (P : Party) (l : List ℕ) (j held : ℕ) (r : Round)
       → Below q coefficients
       → length nonce ≡ nonce_in r
       → words (gate P.circuit j) r ≤ room
-      → askSend q P l (record { gate = j; stage = Send r; held = held }) coefficients nonce room ≡ Accepted
-  unfolding askSend askSendRound when_sending stage_occurs may_hold
+      → ask_send q P l (record { gate = j; stage = Send r; held = held }) coefficients nonce room ≡ Accepted
+  unfolding ask_send ask_send_round when_sending stage_occurs may_hold
   send_passes none coefficients nonce room count below long space =
       then_both lent
       (then_both (ask_yes 13 0 (passes_13 q P.circuit j held within (Send r) has low none))
@@ -103,8 +103,8 @@ module _ {q : ℕ} (P : Party) (l : List ℕ) (j held : ℕ) (r : Round)
   pub receive_passes : (is_commit r ≡ false → held ≡ 0) → (heard : List ℕ)
       → length heard ≡ P.parties * words (gate P.circuit j) r
       → HeardLow q P.parties r heard
-      → askReceive q P l (record { gate = j; stage = Receive r; held = held }) heard ≡ Accepted
-  unfolding askReceive askReceiveRound when_receiving stage_occurs may_hold
+      → ask_receive q P l (record { gate = j; stage = Receive r; held = held }) heard ≡ Accepted
+  unfolding ask_receive ask_receive_round when_receiving stage_occurs may_hold
   receive_passes none heard count below =
       then_both lent
       (then_both (ask_yes 13 0 (passes_13 q P.circuit j held within (Receive r) has low none))

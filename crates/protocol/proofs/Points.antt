@@ -79,26 +79,26 @@ module _ (c : List ℕ) where
   Fits p = FitsStage p.gate p.stage
 
   -- the sum of f over the rounds that lie behind a point
-  unfoldable pub spentStage : (ℕ → Round → ℕ) → ℕ → Stage → ℕ
-  spentStage f j (Send r) = over_run f c j + over_rounds (f j) (preceding r (rounds c j))
-  spentStage f j (Receive r) = 0
-  spentStage f j Finished = over_run f c (gates c)
-  spentStage f j Aborted = 0
+  unfoldable pub spent_stage : (ℕ → Round → ℕ) → ℕ → Stage → ℕ
+  spent_stage f j (Send r) = over_run f c j + over_rounds (f j) (preceding r (rounds c j))
+  spent_stage f j (Receive r) = 0
+  spent_stage f j Finished = over_run f c (gates c)
+  spent_stage f j Aborted = 0
 
   -- the same of a point
   abbrev pub spent : (ℕ → Round → ℕ) → Point → ℕ
-  spent f p = spentStage f p.gate p.stage
+  spent f p = spent_stage f p.gate p.stage
 
   -- the gates that are done at a point
-  unfoldable pub doneStage : ℕ → Stage → ℕ
-  doneStage j (Send r) = j
-  doneStage j (Receive r) = j
-  doneStage j Finished = gates c
-  doneStage j Aborted = j
+  unfoldable pub done_stage : ℕ → Stage → ℕ
+  done_stage j (Send r) = j
+  done_stage j (Receive r) = j
+  done_stage j Finished = gates c
+  done_stage j Aborted = j
 
   -- the same of a point
   abbrev pub done : Point → ℕ
-  done p = doneStage p.gate p.stage
+  done p = done_stage p.gate p.stage
 
   -- a point where the gates before j, and linear gates, are done
   pub record Goes (j : ℕ) (p : Point) : Type 1 where
@@ -115,7 +115,7 @@ module _ (c : List ℕ) where
 
   -- A gate that a run enters is where it goes.
   pub goes_entered : (k : ℕ) (p : Point) → Entered k p → Goes k p
-  unfolding spentStage doneStage
+  unfolding spent_stage done_stage
   goes_entered k p (ended e q) =
       subst (Goes k) (sym q)
       (unfold finished in record { fits = refl; spent_is = λ f. ap (over_run f c) (sym e); done_is = λ f h. ap f (sym e) })
@@ -188,12 +188,12 @@ module _ (c : List ℕ) where
       last e = rw e (unfold over_rounds in refl)
 
       whole : following r (rounds c j) ≡ [] → over_run f c (suc j) ≡ spent f (sending j r) + f j r
-      whole e = unfold spentStage over_run in omega (arith, over_rounds_split (f j) r (rounds c j) h.1, last e)
+      whole e = unfold spent_stage over_run in omega (arith, over_rounds_split (f j) r (rounds c j) h.1, last e)
 
       go : (p : Point) → Followed j r p → spent f p ≡ spent f (sending j r) + f j r
       go p (stays r' rest e q) =
           let n = follows (f j) r r' rest (rounds c j) (distinct j) h.1 e in
-          rw q (unfold spentStage in omega (arith, n.before))
+          rw q (unfold spent_stage in omega (arith, n.before))
       go p (leaves e q) = rw q ((goes_resume (suc j) h.0).spent_is f ∙ whole e)
 
   -- A sum over the rounds of more gates is no less.
@@ -203,7 +203,7 @@ module _ (c : List ℕ) where
 
   -- What lies behind a round, and the round itself, are a part of the whole.
   pub spent_le : (f : ℕ → Round → ℕ) (j : ℕ) (r : Round) → FitsStage j (Send r) → spent f (sending j r) + f j r ≤ over_run f c (gates c)
-  unfolding spentStage over_run
+  unfolding spent_stage over_run
   spent_le f j r h = omega (arith, over_rounds_split (f j) r (rounds c j) h.1, over_run_rises f (suc j) (gates c) h.0)
 
   -- A run starts at the first round of gate 0: an accepted circuit's gate 0 is an input.

@@ -23,7 +23,7 @@ use Rattle.circuit.proofs.Tests.{false_no}
 use Rattle.protocol.specs.Scratch as S
 use Rattle.protocol.specs.Position.{reach}
 use Rattle.protocol.specs.Party.{Party}
-use Rattle.protocol.specs.Receive.{afterInput, afterOpening}
+use Rattle.protocol.specs.Receive.{after_input, after_opening}
 use Rattle.protocol.specs.declared.Layout.{Layout}
 use Rattle.protocol.specs.declared.Site.{Site}
 use Rattle.protocol.specs.Holding.{Below, Held, Worked}
@@ -199,7 +199,7 @@ module _ {q : ℕ} (P : Party) (l : List ℕ) (y : Layout) (at : Site) where
 -- what the linear gates ask after an input, and after a gate that opens values
 module _ {O : Ops} (F : Field O) (P : Party) (l : List ℕ) (y : Layout) (at : Site) (k : Ready O.size P l y at Own) where
   pub input_settles : (i : ℕ) (m : List ℕ) (e : ℕ) {l' : List ℕ}
-      → l' ≡ afterInput O i (get_or P.prep 0 0) (layout_of y) l at.gate m e
+      → l' ≡ after_input O i (get_or P.prep 0 0) (layout_of y) l at.gate m e
       → Settles O.size P.circuit (layout_of y) (get_or P.prep 0 0) l' (at.gate + 1)
   unfolding layout_of
   input_settles i m e d =
@@ -210,7 +210,7 @@ module _ {O : Ops} (F : Field O) (P : Party) (l : List ℕ) (y : Layout) (at : S
 
   pub opening_settles : (i x z : ℕ) (m : List ℕ) (o e d : ℕ) {l' : List ℕ}
       → Opening O.size (get_or P.prep 0 0) (layout_of y) l at.gate x z m o at.unchecked e d
-      → l' ≡ afterOpening O i (get_or P.prep 0 0) (layout_of y) l at.gate x z m o at.unchecked e d
+      → l' ≡ after_opening O i (get_or P.prep 0 0) (layout_of y) l at.gate x z m o at.unchecked e d
       → Settles O.size P.circuit (layout_of y) (get_or P.prep 0 0) l' (at.gate + 1)
   opening_settles i x z m o e d a f =
       let s =

@@ -16,7 +16,7 @@ use Rattle.protocol.specs.Scratch as S
 use Rattle.protocol.specs.Party.{Party, key, record_in, record_of}
 use Rattle.protocol.specs.Position.{reach}
 use Rattle.protocol.specs.Send.{shown, showing}
-use Rattle.protocol.specs.Receive.{afterInput, afterOpening, afterOpenOutput, Ruling, passed, settle, onward, ownReceived, checkPassed, received, left}
+use Rattle.protocol.specs.Receive.{after_input, after_opening, after_open_output, Ruling, passed, settle, onward, own_received, check_passed, received, left}
 use Rattle.protocol.specs.declared.Layout.{Layout}
 use Rattle.protocol.specs.declared.Site.{Site}
 use Rattle.protocol.specs.Holding.{Below, Held}
@@ -84,10 +84,10 @@ module _ (O : Ops) (P : Party) (l : List ℕ) (y : Layout) (at : Site) (heard : 
       → {e : ℕ}
       → e ≡ heard_first O P.parties (gate P.circuit at.gate) Own heard
       → {l₁ l₂ : List ℕ}
-      → l₁ ≡ afterInput O P.me (get_or P.prep 0 0) (layout_of y) l at.gate m e
+      → l₁ ≡ after_input O P.me (get_or P.prep 0 0) (layout_of y) l at.gate m e
       → l₂ ≡ settle O P.me (get_or P.prep 0 0) P.circuit (layout_of y) (y.gates - (at.gate + 1)) (at.gate + 1) l₁
       → l₂ ≡ received O P l at.gate Own heard
-  unfolding received ownReceived record_of record_in key
+  unfolding received own_received record_of record_in key
   input_made k c em ee e₁ e₂ =
       rw c
       (onward_is Own k _ e₂
@@ -101,10 +101,10 @@ module _ (O : Ops) (P : Party) (l : List ℕ) (y : Layout) (at : Site) (heard : 
       → Named (gate P.circuit at.gate) x z o
       → Summed O P.parties (gate P.circuit at.gate) Own heard e d
       → {l₁ l₂ : List ℕ}
-      → l₁ ≡ afterOpening O P.me (get_or P.prep 0 0) (layout_of y) l at.gate x z m o at.unchecked e d
+      → l₁ ≡ after_opening O P.me (get_or P.prep 0 0) (layout_of y) l at.gate x z m o at.unchecked e d
       → l₂ ≡ settle O P.me (get_or P.prep 0 0) P.circuit (layout_of y) (y.gates - (at.gate + 1)) (at.gate + 1) l₁
       → l₂ ≡ received O P l at.gate Own heard
-  unfolding received ownReceived record_of record_in key
+  unfolding received own_received record_of record_in key
   opening_received k c em n w e₁ e₂ =
       let g = gate P.circuit at.gate in
       rw c
@@ -119,7 +119,7 @@ module _ (O : Ops) (P : Party) (l : List ℕ) (y : Layout) (at : Site) (heard : 
       → m ≡ drop at.prep P.prep
       → e ≡ heard_first O P.parties (gate P.circuit at.gate) Open heard
       → {l₁ : List ℕ}
-      → l₁ ≡ afterOpenOutput O (layout_of y) l (shown O (layout_of y) l give x m) e
+      → l₁ ≡ after_open_output O (layout_of y) l (shown O (layout_of y) l give x m) e
       → l₁ ≡ received O P l at.gate Open heard
   unfolding received showing record_of record_in
   output_received k ex eg em ee e =
@@ -129,7 +129,7 @@ module _ (O : Ops) (P : Party) (l : List ℕ) (y : Layout) (at : Site) (heard : 
       → {l₁ : List ℕ}
       → l₁ ≡ settle O P.me (get_or P.prep 0 0) P.circuit (layout_of y) (y.gates - (at.gate + 1)) (at.gate + 1) l
       → l₁ ≡ received O P l at.gate (Reveal Second) heard
-  unfolding received checkPassed
+  unfolding received check_passed
   reveal_received k e = onward_is (Reveal Second) k l e
 
   -- a commitment's marks
@@ -143,7 +143,7 @@ module _ (O : Ops) (P : Party) (l : List ℕ) (y : Layout) (at : Site) (heard : 
 -- the reveal of what was opened, a stop, and the own round of a class that has none write nothing
 module _ (O : Ops) (P : Party) (l : List ℕ) (j : ℕ) (heard : List ℕ) where
   pub first_received : l ≡ received O P l j (Reveal First) heard
-  unfolding received checkPassed
+  unfolding received check_passed
   first_received = refl
 
   pub left_passed : (v : Ruling) (r : Round) → passed v ≡ true → {l₁ : List ℕ} → l₁ ≡ received O P l j r heard → l₁ ≡ left O P v l j r heard

@@ -19,15 +19,15 @@ use Rattle.circuit.proofs.Verdicts.{refused_no, then_left, then_right, ask_true}
 use Rattle.protocol.specs.Scratch.{layout, marks_of}
 use Rattle.protocol.specs.Position.{Position, Stage, Send, Receive, Finished, Aborted, holding, keep, occurs, stage_occurs, may_hold, when_sending, when_receiving}
 use Rattle.protocol.specs.Party.{Party}
-use Rattle.protocol.specs.Send.{checkShare, holds}
+use Rattle.protocol.specs.Send.{check_share, holds}
 use Rattle.protocol.specs.Receive.{Ruling, Passed, Stopped, passed, ruling, scored, finds}
-use Rattle.protocol.specs.Ask.{askSend, askReceive}
-use Rattle.protocol.specs.Entry.{Answer, Refusal, Next, Output, Abort, answer, releases, sendAnswer, receiveAnswer, nextPosition, concludes, outcome}
+use Rattle.protocol.specs.Ask.{ask_send, ask_receive}
+use Rattle.protocol.specs.Entry.{Answer, Refusal, Next, Output, Abort, answer, releases, send_answer, receive_answer, next_position, concludes, outcome}
 use Rattle.protocol.proofs.Following.{ruling_reveals, next_possible, next_holds}
 use Rattle.protocol.proofs.Occurring.{held_some, held_none}
 use Rattle.protocol.proofs.Accepted.{gate_occurs, stage_occurs_lem}
 use Rattle.protocol.proofs.Entries.{sending_at_lem, receiving_at_lem}
-use Rattle.protocol.proofs.Answers.{answered, receives-at}
+use Rattle.protocol.proofs.Answers.{answered, receives_at}
 
 -- a position can occur where its gate and its stage do, and its check share is an element where one is held and else 0
 can_occur : (q : ℕ) (c : List ℕ) (at : Position) → at.gate < gates c → stage_occurs c at.gate at.stage ≡ true
@@ -52,11 +52,11 @@ Yields x (Next y) = y ≡ x
 Yields x (Output v y) = y ≡ x
 Yields x (Abort b y) = y ≡ x
 
-yielded : (O : Ops) (P : Party) (w j held : ℕ) (r : Round) (v : Ruling) (x : Position) → Yields x (concludes O P w j held r v) → nextPosition O P j held r v ≡ x
+yielded : (O : Ops) (P : Party) (w j held : ℕ) (r : Round) (v : Ruling) (x : Position) → Yields x (concludes O P w j held r v) → next_position O P j held r v ≡ x
 unfolding concludes
 yielded O P w j held r Passed x y = go (releases r && seen_by (alone P.me) (gate P.circuit j)) y
   where
-    go : (b : Bool) → Yields x (cond b (Output w (nextPosition O P j held r Passed)) (Next (nextPosition O P j held r Passed))) → nextPosition O P j held r Passed ≡ x
+    go : (b : Bool) → Yields x (cond b (Output w (next_position O P j held r Passed)) (Next (next_position O P j held r Passed))) → next_position O P j held r Passed ≡ x
     go true y = y
     go false y = y
 yielded O P w j held r (Stopped b) x y = y
@@ -66,7 +66,7 @@ module _ {O : Ops} (F : Field O) (P : Party) (l : List ℕ) (at : Position) wher
 
   -- what is held is an element after a commitment, and else 0
   holds_low : (r : Round) (coefficients : List ℕ) → holds O P l at.gate r coefficients < size
-  unfolding holds checkShare
+  unfolding holds check_share
   holds_low r coefficients = go (is_commit r) _ _
     where
       go : (b : Bool) (x y : ℕ) → cond b (O.sub x y) 0 < size
@@ -85,8 +85,8 @@ module _ {O : Ops} (F : Field O) (P : Party) (l : List ℕ) (at : Position) wher
   sends_at Finished f e = refused_no e
   sends_at Aborted f e = refused_no e
 
-  pub sent_position_occurs : (coefficients nonce : List ℕ) (room : ℕ) {x : Position} → sendAnswer O P l at coefficients nonce room ≡ Next x → occurs size P.circuit x ≡ true
-  unfolding sendAnswer askSend
+  pub sent_position_occurs : (coefficients nonce : List ℕ) (room : ℕ) {x : Position} → send_answer O P l at coefficients nonce room ≡ Next x → occurs size P.circuit x ≡ true
+  unfolding send_answer ask_send
   sent_position_occurs coefficients nonce room {x} e =
       let (ok, is) = answered _ _ _ e (not_refusal x) in
       let here : occurs size P.circuit at ≡ true = ask_true 13 0 _ (then_left _ _ (then_right _ _ ok)) in
@@ -103,8 +103,8 @@ module _ {O : Ops} (F : Field O) (P : Party) (l : List ℕ) (at : Position) wher
       occurs_too r e h = unfold stage_occurs in (rw e at h)
 
   -- the position that follows a round of the circuit
-  next_occurs : (r : Round) (v : Ruling) → (passed v ≡ false → is_reveal r ≡ true) → occurs size P.circuit at ≡ true → at.stage ≡ Receive r → occurs size P.circuit (nextPosition O P at.gate at.held r v) ≡ true
-  unfolding nextPosition holding
+  next_occurs : (r : Round) (v : Ruling) → (passed v ≡ false → is_reveal r ≡ true) → occurs size P.circuit at ≡ true → at.stage ≡ Receive r → occurs size P.circuit (next_position O P at.gate at.held r v) ≡ true
+  unfolding next_position holding
   next_occurs r v lawful here e =
       let l : at.gate < gates P.circuit = gate_occurs size P.circuit at here in
       let has : among r (rounds P.circuit at.gate) ≡ true = among_of (stage_occurs_lem size P.circuit at here) in
@@ -122,9 +122,9 @@ module _ {O : Ops} (F : Field O) (P : Party) (l : List ℕ) (at : Position) wher
       kept_none : is_commit r ≡ false → keep r at.held ≡ 0
       kept_none c = unfold keep in (rw c)
 
-  pub received_position_occurs : (heard : List ℕ) (x : Position) → Yields x (receiveAnswer O P l at heard) → occurs size P.circuit x ≡ true
-  unfolding receiveAnswer askReceive answer outcome finds
-  received_position_occurs heard x y = go (askReceive size P l at heard) refl y
+  pub received_position_occurs : (heard : List ℕ) (x : Position) → Yields x (receive_answer O P l at heard) → occurs size P.circuit x ≡ true
+  unfolding receive_answer ask_receive answer outcome finds
+  received_position_occurs heard x y = go (ask_receive size P l at heard) refl y
     where
       at_round : (r : Round) → at.stage ≡ Receive r → occurs size P.circuit at ≡ true → Yields x (outcome O P l at.gate at.held heard r) → occurs size P.circuit x ≡ true
       at_round r e here y =
@@ -133,10 +133,10 @@ module _ {O : Ops} (F : Field O) (P : Party) (l : List ℕ) (at : Position) wher
           (yielded O P (scored O P l at.gate) at.gate at.held r (ruling O P.parties r marks heard) x y)
           (next_occurs r (ruling O P.parties r marks heard) (ruling_reveals O P.parties marks heard r) here e)
 
-      go : (v : Verdict) → askReceive size P l at heard ≡ v → Yields x (answer v (when_receiving at.stage (Next at) (outcome O P l at.gate at.held heard))) → occurs size P.circuit x ≡ true
+      go : (v : Verdict) → ask_receive size P l at heard ≡ v → Yields x (answer v (when_receiving at.stage (Next at) (outcome O P l at.gate at.held heard))) → occurs size P.circuit x ≡ true
       go Accepted e y =
           let parts = then_right _ _ e in
           let here : occurs size P.circuit at ≡ true = ask_true 13 0 _ (then_left _ _ parts) in
-          let (r, is) = receives-at at.stage _ (then_right _ _ parts) in
+          let (r, is) = receives_at at.stage _ (then_right _ _ parts) in
           at_round r is here (subst (Yields x) (receiving_at_lem at.stage r is (Next at) (outcome O P l at.gate at.held heard)) y)
       go (Refused number index) e y = absurd y

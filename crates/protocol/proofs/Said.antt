@@ -24,7 +24,7 @@ use Rattle.circuit.proofs.Tests.{by_cases}
 use Rattle.sha256.specs.Digest.Laws.{digest_long}
 use Rattle.protocol.specs.Scratch.{layout, marks_at}
 use Rattle.protocol.specs.Party.{Party, whole_mask_at}
-use Rattle.protocol.specs.Send.{inputWord, masked, opening, own_words, mark, sent}
+use Rattle.protocol.specs.Send.{input_word, masked, opening, own_words, mark, sent}
 use Rattle.protocol.specs.Holding.{Below}
 use Rattle.protocol.specs.Ready.{HeardLow}
 use Rattle.protocol.proofs.Writing.{minus_elements}
@@ -109,8 +109,8 @@ below_two h g (suc k) = below_one g k
 module _ {O : Ops} (F : Field O) where
   open O use {size}
 
-  input_low : (i owner : ℕ) (m : List ℕ) (input : ℕ) → inputWord O i owner m input < size
-  unfolding inputWord
+  input_low : (i owner : ℕ) (m : List ℕ) (input : ℕ) → input_word O i owner m input < size
+  unfolding input_word
   input_low i owner m input = go (eqb i owner)
     where
       go : (b : Bool) → cond b (O.sub input (get_or m whole_mask_at 0)) 0 < size

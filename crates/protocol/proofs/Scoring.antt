@@ -22,14 +22,14 @@ use Rattle.protocol.proofs.Readiness.{gate_there, mask_there, room_there, opened
 
 module _ {q : ℕ} (P : Party) (l : List ℕ) (y : Layout) (at : Site) (k : Ready q P l y at (Reveal Second)) where
   -- what reading the score of a gate asks
-  pub score-asks :
+  pub score_asks :
       (gate_size * at.gate + gate_size ≤ length P.circuit)
       × (at.prep ≤ length P.prep)
       × (is_give (gate P.circuit at.gate) ≡ true → at.prep + 2 < length P.prep)
       × Below q P.prep
       × (S.slots_size (layout_of y) ≤ length l)
       × Opened q (layout_of y) l 0
-  score-asks =
+  score_asks =
       let record_there = mask_there P l y at (Reveal Second) k in (
         gate_there P l y at (Reveal Second) k,
         record_there.0,

@@ -16,7 +16,7 @@ use Rattle.circuit.specs.Round.{Round, Own, Open, is_commit, words, opened_in, c
 use Rattle.circuit.proofs.KindLaws.{owned_facts, opens_facts}
 use Rattle.protocol.specs.Scratch as S
 use Rattle.protocol.specs.Party.{Party, key, record_in, record_of, input_of, a_at, b_at}
-use Rattle.protocol.specs.Send.{inputWord, masked, shown, checkShare, opening, own_words, showing, sent, holds, overwrite, openingWords}
+use Rattle.protocol.specs.Send.{input_word, masked, shown, check_share, opening, own_words, showing, sent, holds, overwrite, words_of_opening}
 use Rattle.protocol.specs.declared.Layout.{Layout}
 use Rattle.protocol.specs.declared.Site.{Site}
 use Rattle.protocol.specs.Holding.{Below, Held}
@@ -38,10 +38,10 @@ overwrite_two v w (x ∷ y ∷ xs) h = refl
 
 -- the words of an opening, of two values or of one, from the parts that the calls made
 module _ (O : Ops) (y : S.Layout) (l : List ℕ) (x z : ℕ) (m : List ℕ) (k : ℕ) (out : List ℕ) {e : ℕ} (ee : e ≡ (masked O y l x m a_at).share) where
-  pub opening_one : (k ≡ 2 → ⊥) → 0 < length out → set out 0 e ≡ overwrite (openingWords O y l x z m k) out
+  pub opening_one : (k ≡ 2 → ⊥) → 0 < length out → set out 0 e ≡ overwrite (words_of_opening O y l x z m k) out
   opening_one ek h = rw (ne_eqb k 2 ek, ← ee) (overwrite_one e out h)
 
-  pub opening_two : {d : ℕ} → k ≡ 2 → d ≡ (masked O y l z m (b_at k)).share → 1 < length out → set (set out 0 e) 1 d ≡ overwrite (openingWords O y l x z m k) out
+  pub opening_two : {d : ℕ} → k ≡ 2 → d ≡ (masked O y l z m (b_at k)).share → 1 < length out → set (set out 0 e) 1 d ≡ overwrite (words_of_opening O y l x z m k) out
   opening_two {d} ek ed h = rw (eq-eqb k 2 ek, ← ee, ← ed) (overwrite_two e d out h)
 
 -- a gate's own round takes neither coefficients nor a nonce
@@ -117,7 +117,7 @@ module _ (O : Ops) (P : Party) (l : List ℕ) (y : Layout) (at : Site) (r : Roun
   pub holds_check : {n h : ℕ}
       → is_commit r ≡ true
       → n ≡ opened_in (unchecked P.circuit at.gate) r
-      → Is O.size (checkShare O (layout_of y) l n (get_or P.prep 0 0) coefficients) h
+      → Is O.size (check_share O (layout_of y) l n (get_or P.prep 0 0) coefficients) h
       → Is O.size (holds O P l at.gate r coefficients) h
   unfolding holds key
   holds_check c e h = record { is = h.is ∙ rw (c, e, k.lay); below = h.below }
@@ -130,7 +130,7 @@ module _ (O : Ops) (P : Party) (l : List ℕ) (y : Layout) (at : Site) (r : Roun
 module _ (O : Ops) (P : Party) (l : List ℕ) (y : Layout) (at : Site) (held : ℕ) (coefficients nonce out : List ℕ) {ws : List ℕ} where
   pub sent_input : Ready O.size P l y at Own
       → (shape (gate P.circuit at.gate)).class ≡ Owned
-      → ws ≡ overwrite (inputWord O P.me (gate P.circuit at.gate).first (drop at.prep P.prep) (get_or P.inputs at.input 0) ∷ []) out
+      → ws ≡ overwrite (input_word O P.me (gate P.circuit at.gate).first (drop at.prep P.prep) (get_or P.inputs at.input 0) ∷ []) out
       → ws ≡ overwrite (sent O P l at.gate held coefficients nonce Own) out
   unfolding sent own_words record_of record_in input_of
   sent_input k c e = e ∙ rw (c, k.sited.prep, k.sited.input)
@@ -139,7 +139,7 @@ module _ (O : Ops) (P : Party) (l : List ℕ) (y : Layout) (at : Site) (held : �
       → (shape (gate P.circuit at.gate)).class ≡ Opens
       → {x z o : ℕ}
       → Named (gate P.circuit at.gate) x z o
-      → ws ≡ overwrite (openingWords O (layout_of y) l x z (drop at.prep P.prep) o) out
+      → ws ≡ overwrite (words_of_opening O (layout_of y) l x z (drop at.prep P.prep) o) out
       → ws ≡ overwrite (sent O P l at.gate held coefficients nonce Own) out
   unfolding sent own_words opening record_of record_in
   sent_opening k c n e = e ∙ rw (c, n.first, n.second, n.openings, k.sited.prep, k.lay)

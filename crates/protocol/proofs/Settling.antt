@@ -17,7 +17,7 @@ use Rattle.circuit.proofs.Tests.{false_no}
 use Rattle.protocol.specs.Part.{Part, plus, minus}
 use Rattle.protocol.specs.Scratch.{Layout, slots_size, put_wire}
 use Rattle.protocol.specs.Position.{reach}
-use Rattle.protocol.specs.Receive.{operand, operandOf, linear, putLinear, afterLinear, settle}
+use Rattle.protocol.specs.Receive.{operand, operand_of, linear, put_linear, after_linear, settle}
 use Rattle.protocol.specs.Holding.{Worked, Read, Reads}
 use Rattle.protocol.specs.Ready.{Settles}
 use Rattle.protocol.proofs.Slots.{length_put}
@@ -63,19 +63,19 @@ linear_second O i key Over x z z' a h = refl
 
 -- a gate with what it is worked out with in the place of its constant
 abbrev pub operated : Ops → Gate → Gate
-operated O g = gate_of g.kind g.first g.second (operandOf O g)
+operated O g = gate_of g.kind g.first g.second (operand_of O g)
 
 -- what is written of its numbers is what a gate leaves
 pub put_operated : (O : Ops) (i key : ℕ) (y : Layout) (l : List ℕ) (j : ℕ) (g : Gate) {h : Gate} → h ≡ operated O g
-    → putLinear O i key y l j h.kind h.first h.second h.constant ≡ afterLinear O i key y l j g
-unfolding afterLinear
+    → put_linear O i key y l j h.kind h.first h.second h.constant ≡ after_linear O i key y l j g
+unfolding after_linear
 put_operated O i key y l j g e = rw e
 
 -- what a linear gate leaves
 pub linear_written : {O : Ops} (F : Field O) (i key : ℕ) (y : Layout) (l : List ℕ) (j : ℕ) (g : Gate)
     → is_linear g ≡ true
-    → Written O.size y l j (afterLinear O i key y l j g)
-unfolding afterLinear putLinear
+    → Written O.size y l j (after_linear O i key y l j g)
+unfolding after_linear put_linear
 linear_written F i key y l j g e = record { part = _; low = linear_elements F i key g.kind _ _ _ e; is = refl }
 
 module _ (n q : ℕ) (c : List ℕ) (j : ℕ) (y : Layout) (l : List ℕ) where
@@ -202,10 +202,10 @@ pub settle_keeps : {O : Ops} (F : Field O) (c : List ℕ) (y : Layout) (i key u 
 unfolding settle reach
 settle_keeps F c y i key u zero j l e room w o = record { len = refl; worked = w; opened = o }
 settle_keeps {O} F c y i key u (suc left) j l e room w o =
-    go (is_linear (gate c j)) refl (settle_keeps F c y i key u left (suc j) (afterLinear O i key y l j (gate c j)))
+    go (is_linear (gate c j)) refl (settle_keeps F c y i key u left (suc j) (after_linear O i key y l j (gate c j)))
   where
     l' : List ℕ
-    l' = afterLinear O i key y l j (gate c j)
+    l' = after_linear O i key y l j (gate c j)
 
     go : (b : Bool)
         → is_linear (gate c j) ≡ b
@@ -233,7 +233,7 @@ unfolding settle reach
 settle_none O c y i key zero j l h = refl
 settle_none O c y i key (suc left) j l h = go (is_linear (gate c j)) h
   where
-    go : (b : Bool) → cond b (reach c left (suc j)) j ≤ j → cond b (settle O i key c y left (suc j) (afterLinear O i key y l j (gate c j))) l ≡ l
+    go : (b : Bool) → cond b (reach c left (suc j)) j ≤ j → cond b (settle O i key c y left (suc j) (after_linear O i key y l j (gate c j))) l ≡ l
     go true h = absurd (omega (arith, h, at_stop c left (suc j)))
     go false h = refl
 
@@ -269,7 +269,7 @@ module _ {O : Ops} (c : List ℕ) (y : Layout) (i key b : ℕ) (l₀ : List ℕ)
         → j < y.gates
         → is_linear (gate c j) ≡ true
         → {l' : List ℕ}
-        → l' ≡ afterLinear O i key y l j (gate c j)
+        → l' ≡ after_linear O i key y l j (gate c j)
         → Settling O c y i key b l₀ (j + 1) l'
     unfolding settle
     settling_again F room h e f =

@@ -13,46 +13,46 @@ use Rattle.circuit.specs.Round.{Own, shape_words}
 use Rattle.protocol.specs.Part.{plus, scale, known, shift, product}
 use Rattle.protocol.specs.Scratch.{layout}
 use Rattle.protocol.specs.Party.{Party, key, record_of}
-use Rattle.protocol.specs.Send.{openingWords, opening, own_words, sent}
-use Rattle.protocol.specs.Receive.{heardSum, putDifferences, afterOpening, onward, ownReceived, received}
+use Rattle.protocol.specs.Send.{words_of_opening, opening, own_words, sent}
+use Rattle.protocol.specs.Receive.{heard_sum, put_differences, after_opening, onward, own_received, received}
 use Rattle.protocol.specs.Good.{GoodRecord, GoodTriple}
-use Rattle.protocol.specs.Square.{squareWords, square, afterSquare, GoodSquare}
+use Rattle.protocol.specs.Square.{square_words, square, after_square, GoodSquare}
 
 module _ (O : Ops) (P : Party) (l : List ℕ) (j : ℕ) (e : (gate P.circuit j).kind ≡ Sq) where
-  abbrev theGate : Gate
-  theGate = gate P.circuit j
+  abbrev the_gate : Gate
+  the_gate = gate P.circuit j
 
   -- the second factor of a gate of kind k
-  abbrev factorOf : Kind → ℕ
-  factorOf k = cond (eqb (kind_shape k).openings 2) theGate.second theGate.first
+  abbrev factor_of : Kind → ℕ
+  factor_of k = cond (eqb (kind_shape k).openings 2) the_gate.second the_gate.first
 
   -- what a party sends
-  pub square_sent : (held : ℕ) (coefficients nonce : List ℕ) → sent O P l j held coefficients nonce Own ≡ squareWords O (layout P.circuit) l theGate.first (record_of P j)
-  unfolding sent own_words opening factor kind_shape squareWords
+  pub square_sent : (held : ℕ) (coefficients nonce : List ℕ) → sent O P l j held coefficients nonce Own ≡ square_words O (layout P.circuit) l the_gate.first (record_of P j)
+  unfolding sent own_words opening factor kind_shape square_words
   square_sent held coefficients nonce =
       rw e
       (subst
       (λ (k : Kind).
       own_words O P l j Opens
-      ≡ openingWords O (layout P.circuit) l theGate.first (factorOf k) (record_of P j) (kind_shape k).openings) e refl)
+      ≡ words_of_opening O (layout P.circuit) l the_gate.first (factor_of k) (record_of P j) (kind_shape k).openings) e refl)
 
   -- and what it works out of the words of all, one of each party
   pub square_received : (heard : List ℕ)
       → received O P l j Own heard
       ≡ onward O P j
-      (afterSquare O P.me (key P) (layout P.circuit) l j theGate.first (record_of P j) (unchecked P.circuit j)
-      (heardSum O P.parties 1 0 heard))
-  unfolding received ownReceived afterOpening putDifferences product plus scale known shift factor kind_shape shape_words afterSquare square
+      (after_square O P.me (key P) (layout P.circuit) l j the_gate.first (record_of P j) (unchecked P.circuit j)
+      (heard_sum O P.parties 1 0 heard))
+  unfolding received own_received after_opening put_differences product plus scale known shift factor kind_shape shape_words after_square square
   square_received heard =
       rw e
       (subst
       (λ (k : Kind).
-      ownReceived O P l j heard Opens
+      own_received O P l j heard Opens
       ≡ onward O P j
-      (afterOpening O P.me (key P) (layout P.circuit) l j theGate.first (factorOf k) (record_of P j) (kind_shape k).openings
+      (after_opening O P.me (key P) (layout P.circuit) l j the_gate.first (factor_of k) (record_of P j) (kind_shape k).openings
       (unchecked P.circuit j)
-      (heardSum O P.parties (shape_words (kind_shape k) Own) 0 heard)
-      (heardSum O P.parties (shape_words (kind_shape k) Own) ((kind_shape k).openings - 1) heard))) e refl)
+      (heard_sum O P.parties (shape_words (kind_shape k) Own) 0 heard)
+      (heard_sum O P.parties (shape_words (kind_shape k) Own) ((kind_shape k).openings - 1) heard))) e refl)
 
 -- which records are good
 module _ (O : Ops) (n : ℕ) (c preps : List ℕ) (j : ℕ) (e : (gate c j).kind ≡ Sq) where

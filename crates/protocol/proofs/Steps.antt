@@ -16,7 +16,7 @@ use Rattle.protocol.specs.Part.{Part, part_at, minus, product}
 use Rattle.protocol.specs.Scratch.{Layout, slots_size, wire, put_wire, put_opened}
 use Rattle.protocol.specs.Party.{a_at, b_at, c_at}
 use Rattle.protocol.specs.Send.{masked}
-use Rattle.protocol.specs.Receive.{afterInput, putDifferences, afterOpening, afterOpenOutput}
+use Rattle.protocol.specs.Receive.{after_input, put_differences, after_opening, after_open_output}
 use Rattle.protocol.specs.Holding.{Worked}
 use Rattle.protocol.proofs.Slots.{length_opened, length_put, opened_twice, opened_either}
 use Rattle.protocol.proofs.Writing.{OpenedTo, Elements, worked_put, opened_put, worked_opened, opened_more, minus_elements, shift_elements, product_elements}
@@ -29,8 +29,8 @@ module _ {O : Ops} (F : Field O) (c : List ℕ) (y : Layout) (l : List ℕ) (j :
   pub input_keeps : (u i key : ℕ) (m : List ℕ) (e : ℕ)
       → j < y.gates
       → OpenedTo size y l u
-      → Keeps size c y u l (suc j) (afterInput O i key y l j m e)
-  unfolding afterInput
+      → Keeps size c y u l (suc j) (after_input O i key y l j m e)
+  unfolding after_input
   input_keeps u i key m e h o =
       written_keeps c y u l j _ (record { part = _; low = shift_elements F _ _ _ _; is = refl }) room h worked o
 
@@ -42,8 +42,8 @@ module _ {O : Ops} (F : Field O) (c : List ℕ) (y : Layout) (l : List ℕ) (j :
       → e < size
       → d < size
       → OpenedTo size y l u
-      → Keeps size c y (u + k) l j (putDifferences O y l x z m k u e d)
-  unfolding putDifferences masked
+      → Keeps size c y (u + k) l j (put_differences O y l x z m k u e d)
+  unfolding put_differences masked
   differences_keep x z m k u e d some few f le ld o =
       by_cases (eqb k 2)
       (λ h.
@@ -81,8 +81,8 @@ module _ {O : Ops} (F : Field O) (c : List ℕ) (y : Layout) (l : List ℕ) (j :
       → e < size
       → d < size
       → OpenedTo size y l u
-      → Keeps size c y (u + k) l (suc j) (afterOpening O i key y l j x z m k u e d)
-  unfolding afterOpening
+      → Keeps size c y (u + k) l (suc j) (after_opening O i key y l j x z m k u e d)
+  unfolding after_opening
   opening_keeps i key x z m k u e d some few h f le ld o =
       let s = differences_keep x z m k u e d some few f le ld o in
       record {
@@ -92,8 +92,8 @@ module _ {O : Ops} (F : Field O) (c : List ℕ) (y : Layout) (l : List ℕ) (j :
       }
 
   -- the shown value is the only entry
-  pub open_output_keeps : (x : Part) (s : ℕ) → 0 < y.capacity → s < size → Elements size x → Keeps size c y 1 l j (afterOpenOutput O y l x s)
-  unfolding afterOpenOutput
+  pub open_output_keeps : (x : Part) (s : ℕ) → 0 < y.capacity → s < size → Elements size x → Keeps size c y 1 l j (after_open_output O y l x s)
+  unfolding after_open_output
   open_output_keeps x s h ls k =
       record {
         len = length_opened y l 0 s _;
@@ -110,8 +110,8 @@ pub differences_made : (O : Ops) (y : Layout) (l : List ℕ) (x z : ℕ) (m : Li
     → t ≡ masked O y l z m (b_at k)
     → l₁ ≡ put_opened y l (u + (k - 1)) d t.mac
     → l₂ ≡ put_opened y l₁ u e s.mac
-    → l₂ ≡ putDifferences O y l x z m k u e d
-unfolding putDifferences
+    → l₂ ≡ put_differences O y l x z m k u e d
+unfolding put_differences
 differences_made O y l x z m k u e d some few o es et e₁ e₂ =
     by_cases (eqb k 2)
     (λ h.
@@ -126,8 +126,8 @@ differences_made O y l x z m k u e d some few o es et e₁ e₂ =
 -- what opening values leaves, from what the calls made: the entries and then the product
 pub opening_made : (O : Ops) (i key : ℕ) (y : Layout) (l : List ℕ) (j x z : ℕ) (m : List ℕ) (k u e d : ℕ) {r : Part} {l₁ l₂ : List ℕ}
     → r ≡ product O i key (part_at m a_at) (part_at m (b_at k)) (part_at m (c_at k)) e d
-    → l₁ ≡ putDifferences O y l x z m k u e d
+    → l₁ ≡ put_differences O y l x z m k u e d
     → l₂ ≡ put_wire y l₁ j r
-    → l₂ ≡ afterOpening O i key y l j x z m k u e d
-unfolding afterOpening
+    → l₂ ≡ after_opening O i key y l j x z m k u e d
+unfolding after_opening
 opening_made O i key y l j x z m k u e d er e₁ e₂ = rw (e₂, e₁, er)

@@ -15,8 +15,8 @@ use Rattle.algebra.proofs.Sums.{sum_ext}
 use Rattle.algebra.specs.Sum.{sum}
 use Rattle.protocol.specs.Scratch.{Layout, Value, ValueMac, offset, slots_size, read}
 use Rattle.protocol.specs.Holding.{Opened}
-use Rattle.protocol.specs.Send.{checkShare}
-use Rattle.protocol.specs.Receive.{heardSum}
+use Rattle.protocol.specs.Send.{check_share}
+use Rattle.protocol.specs.Receive.{heard_sum}
 
 -- i terms of a row are added up
 pub record Added (O : Ops) (f : ℕ → ℕ) (i acc : ℕ) : Type 0 where
@@ -83,8 +83,8 @@ pub check_made : (O : Ops) (y : Layout) (l : List ℕ) (k key : ℕ) (coefficien
     → v ≡ sum O k (λ t. O.mul (get_or coefficients t 0) (read y l (Value t)))
     → w ≡ O.mul key v
     → r ≡ O.sub m w
-    → r ≡ checkShare O y l k key coefficients
-unfolding checkShare
+    → r ≡ check_share O y l k key coefficients
+unfolding check_share
 check_made O y l k key coefficients g h d f = rw (f, d, g, h)
 
 -- n parties sent k words each: those of party i end before the list does
@@ -122,8 +122,8 @@ module _ {O : Ops} (F : Field O) (n k t : ℕ) (heard : List ℕ) where
             let g : (i + 1) * k ≡ suc i * k = ap (λ (z : ℕ). z * k) (add-one i) in
             omega arith
 
-    pub hearing_done : n ≤ i → Is O.size (heardSum O n k t heard) acc
-    unfolding heardSum
+    pub hearing_done : n ≤ i → Is O.size (heard_sum O n k t heard) acc
+    unfolding heard_sum
     hearing_done h =
         let e : i ≡ n = omega (arith, inv.upto) in
         record { is = rw (← e) inv.added.is; below = inv.added.below }

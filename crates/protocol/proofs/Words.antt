@@ -12,7 +12,7 @@ use Rattle.algebra.specs.Ops.{Ops}
 use Rattle.algebra.specs.Field.{Field}
 use Rattle.algebra.specs.Sum.{sum}
 use Rattle.algebra.proofs.Sums.{sum_ext}
-use Rattle.protocol.specs.Receive.{heardSum}
+use Rattle.protocol.specs.Receive.{heard_sum}
 use Rattle.protocol.specs.Scratch.{band}
 use Rattle.protocol.specs.Joint.{joined}
 
@@ -55,7 +55,7 @@ get_d_joined (suc n) k f e i t li lt = go (ℕ_discrete i n) (λ l. get_d_joined
         ∙ earlier (omega arith)
 
 -- What is heard of word t, where each party sent k, is the sum of the words t.
-pub heard_sum : {O : Ops} (F : Field O) (n k t : ℕ) (f : ℕ → List ℕ) → ((i : ℕ) → i < n → length (f i) ≡ k) → t < k
-    → heardSum O n k t (joined n f) ≡ sum O n (λ i. get_or (f i) t 0)
-unfolding heardSum
-heard_sum F n k t f e l = sum_ext F n _ _ (λ i li. get_d_joined n k f e i t li l)
+pub heard_sum_lem : {O : Ops} (F : Field O) (n k t : ℕ) (f : ℕ → List ℕ) → ((i : ℕ) → i < n → length (f i) ≡ k) → t < k
+    → heard_sum O n k t (joined n f) ≡ sum O n (λ i. get_or (f i) t 0)
+unfolding heard_sum
+heard_sum_lem F n k t f e l = sum_ext F n _ _ (λ i li. get_d_joined n k f e i t li l)

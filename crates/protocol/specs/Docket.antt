@@ -4,19 +4,19 @@ use Rattle.std.specs.Prelude.{ℕ, zero, suc, ◌-◌, ◌≡◌, List, [], ◌�
 use Rattle.algebra.specs.Ops.{Ops}
 use Rattle.circuit.specs.Verdict.{Accepted, Refused}
 use Rattle.circuit.specs.Round.{Check, First, Second, Round, Own, Open, Commit, Reveal}
-use Rattle.circuit.specs.Accept.{askCircuit}
+use Rattle.circuit.specs.Accept.{ask_circuit}
 use Rattle.protocol.specs.Part.{Part}
 use Rattle.protocol.specs.Scratch.{layout, wire, read, Value, ValueMac, band}
 use Rattle.protocol.specs.Position.{Position, Send, Receive, Aborted}
 use Rattle.protocol.specs.Party.{Party}
 use Rattle.protocol.specs.Send.{revealed, mark}
 use Rattle.protocol.specs.Receive.{Nobody, Blames}
-use Rattle.protocol.specs.Entry.{Answer, Refusal, Next, Abort, openAnswer, sendAnswer, sendOut, sendScratch, receiveAnswer, receiveScratch}
+use Rattle.protocol.specs.Entry.{Answer, Refusal, Next, Abort, open_answer, send_answer, send_out, send_scratch, receive_answer, receive_scratch}
 use Rattle.protocol.specs.Joint.{Joint}
 use Rattle.protocol.specs.Run.{State, begun, step}
-use Rattle.protocol.specs.JointEntry.{Done, jointAnswer, jointScratch, jointTranscript, jointOutputs}
+use Rattle.protocol.specs.JointEntry.{Done, joint_answer, joint_scratch, joint_transcript, joint_outputs}
 use Rattle.protocol.specs.Plain.{scores}
-use Rattle.protocol.specs.Good.{Good, wholeKey}
+use Rattle.protocol.specs.Good.{Good, whole_key}
 use Rattle.protocol.specs.Formula.{round_formula}
 
 -- "Two seats: `1 0 0 0`, `1 1 0 0`, `6 0 1 0`, `7 2 0 0`."
@@ -149,40 +149,40 @@ module _ (O : Ops) where
 
   -- "Seat 1's show word 14 heard": the scratch of each seat afterwards
   unfoldable pub misheard : Party → ℕ → List ℕ
-  misheard P i = receiveScratch O P (after₅.scratch i) (receiving Open 0) (17 ∷ 14 ∷ [])
+  misheard P i = receive_scratch O P (after₅.scratch i) (receiving Open 0) (17 ∷ 14 ∷ [])
 
   -- a seat's scratch once it has sent a commitment of check k, with these coefficients and from scratch l, and has heard these marks; it holds
   -- the check share held
   unfoldable pub sealed : Party → List ℕ → Check → List ℕ → ℕ → List ℕ → List ℕ
   sealed P l k coefficients held marks =
-      receiveScratch O P (sendScratch O P l (sending (Commit k) 0) coefficients nonce 8) (receiving (Commit k) held) marks
+      receive_scratch O P (send_scratch O P l (sending (Commit k) 0) coefficients nonce 8) (receiving (Commit k) held) marks
 
   -- the words of both seats at the second seal, once seat 1's show word was heard as 14
-  unfoldable pub misheardMarks : List ℕ
-  misheardMarks =
-      sendOut O party₀ (misheard party₀ 0) (sending (Commit Second) 0) (5 ∷ []) nonce (replicate 8 0)
-      ++ sendOut O party₁ (misheard party₁ 1) (sending (Commit Second) 0) (5 ∷ []) nonce (replicate 8 0)
+  unfoldable pub misheard_marks : List ℕ
+  misheard_marks =
+      send_out O party₀ (misheard party₀ 0) (sending (Commit Second) 0) (5 ∷ []) nonce (replicate 8 0)
+      ++ send_out O party₁ (misheard party₁ 1) (sending (Commit Second) 0) (5 ∷ []) nonce (replicate 8 0)
 
   -- what seat 0 is answered at the first reveal, where it heard these marks and these words
-  unfoldable pub firstReveal : List ℕ → List ℕ → Answer
-  firstReveal marks heard =
-      receiveAnswer O party₀ (sealed party₀ (after₃.scratch 0) First (1 ∷ 2 ∷ []) 10 marks) (receiving (Reveal First) 0) heard
+  unfoldable pub first_reveal : List ℕ → List ℕ → Answer
+  first_reveal marks heard =
+      receive_answer O party₀ (sealed party₀ (after₃.scratch 0) First (1 ∷ 2 ∷ []) 10 marks) (receiving (Reveal First) 0) heard
 
   -- the cases of document 01 that are marked *, and the docket's lines
   pub record Table : Type 0 where
-    pub transcript : jointTranscript O docket rooms (replicate 78 0) (0 ∷ []) ≡ docket_words
-    pub output : jointOutputs O docket rooms (replicate 78 0) (0 ∷ []) ≡ 30 ∷ []
+    pub transcript : joint_transcript O docket rooms (replicate 78 0) (0 ∷ []) ≡ docket_words
+    pub output : joint_outputs O docket rooms (replicate 78 0) (0 ∷ []) ≡ 30 ∷ []
     -- "This run takes 8 rounds."
-    pub rounds : jointAnswer O docket rooms (replicate 78 0) (0 ∷ []) ≡ Done 8
+    pub rounds : joint_answer O docket rooms (replicate 78 0) (0 ∷ []) ≡ Done 8
     pub formula : round_formula circuit ≡ 8
     -- seat 0's band after it, where it began with zeros: shares, MAC shares, opened values and their MAC shares, the nonce and the marks
-    pub band-after :
-        band 38 (jointScratch O docket (replicate 76 0) (replicate 78 0) (0 ∷ [])) 0
+    pub band_after :
+        band 38 (joint_scratch O docket (replicate 76 0) (replicate 78 0) (0 ∷ [])) 0
         ≡ (4 ∷ 0 ∷ 17 ∷ 0 ∷ []) ++ (19 ∷ 18 ∷ 94 ∷ 0 ∷ []) ++ (30 ∷ 2 ∷ 0 ∷ []) ++ (94 ∷ 10 ∷ 0 ∷ []) ++ replicate 8 0 ++ marks₂
     -- on plain inputs
     pub plain : scores O docket 4 ≡ 30 ∷ []
     -- "The key is 7."
-    pub key_is : wholeKey O 2 circuit (prep₀ ++ prep₁) ≡ 7
+    pub key_is : whole_key O 2 circuit (prep₀ ++ prep₁) ≡ 7
     pub good : Good O 2 circuit (prep₀ ++ prep₁)
     -- "Value 0: shares 4, 1; MAC shares 19, 16."
     pub value_0 : (parts 0 0 ≡ part 4 19) × (parts 1 0 ≡ part 1 16)
@@ -192,7 +192,7 @@ module _ (O : Ops) where
     pub opened_E :
         (read (layout circuit) (after₃.scratch 0) (Value 0) ≡ 2) × (read (layout circuit) (after₃.scratch 1) (Value 0) ≡ 2)
         × (read (layout circuit) (after₃.scratch 0) (ValueMac 0) ≡ 8) × (read (layout circuit) (after₃.scratch 1) (ValueMac 0) ≡ 6)
-    pub opened-D :
+    pub opened_D :
         (read (layout circuit) (after₃.scratch 0) (Value 1) ≡ 2) × (read (layout circuit) (after₃.scratch 1) (Value 1) ≡ 2)
         × (read (layout circuit) (after₃.scratch 0) (ValueMac 1) ≡ 10) × (read (layout circuit) (after₃.scratch 1) (ValueMac 1) ≡ 4)
     -- "Value 2: shares 17, 13; MAC shares 94, 116."
@@ -200,41 +200,41 @@ module _ (O : Ops) where
     -- "Check words 10 and p − 10."
     pub check_words : (after₄.held 0 ≡ 10) × (after₄.held 1 ≡ size - 10)
     -- "Seat 1's show word 14 heard: check words 5 and p − 40, stopped.": the marks fit, and no seat is named
-    pub misheard-check :
-        (sendAnswer O party₀ (misheard party₀ 0) (sending (Commit Second) 0) (5 ∷ []) nonce 8 ≡ Next (receiving (Commit Second) 5))
-        × (sendAnswer O party₁ (misheard party₁ 1) (sending (Commit Second) 0) (5 ∷ []) nonce 8 ≡ Next (receiving (Commit Second) (size - 40)))
-    pub misheard-stops :
-        (receiveAnswer O party₀ (sealed party₀ (misheard party₀ 0) Second (5 ∷ []) 5 misheardMarks) (receiving (Reveal Second) 0)
+    pub misheard_check :
+        (send_answer O party₀ (misheard party₀ 0) (sending (Commit Second) 0) (5 ∷ []) nonce 8 ≡ Next (receiving (Commit Second) 5))
+        × (send_answer O party₁ (misheard party₁ 1) (sending (Commit Second) 0) (5 ∷ []) nonce 8 ≡ Next (receiving (Commit Second) (size - 40)))
+    pub misheard_stops :
+        (receive_answer O party₀ (sealed party₀ (misheard party₀ 0) Second (5 ∷ []) 5 misheard_marks) (receiving (Reveal Second) 0)
         (shows 5 ++ shows (size - 40))
         ≡ Abort Nobody stopped)
-        × (receiveAnswer O party₁ (sealed party₁ (misheard party₁ 1) Second (5 ∷ []) (size - 40) misheardMarks) (receiving (Reveal Second) 0)
+        × (receive_answer O party₁ (sealed party₁ (misheard party₁ 1) Second (5 ∷ []) (size - 40) misheard_marks) (receiving (Reveal Second) 0)
         (shows 5 ++ shows (size - 40))
         ≡ Abort Nobody stopped)
     -- the marks as they are sent, and the reveal as it is sent: the check passes
-    pub unaltered : firstReveal marks₁ (shows 10 ++ shows (size - 10)) ≡ Next (sending Open 0)
+    pub unaltered : first_reveal marks₁ (shows 10 ++ shows (size - 10)) ≡ Next (sending Open 0)
     -- one bit of seat 0's mark heard otherwise
-    pub other_mark : firstReveal (set marks₁ 0 272533301) (shows 10 ++ shows (size - 10)) ≡ Abort (Blames 0) stopped
+    pub other_mark : first_reveal (set marks₁ 0 272533301) (shows 10 ++ shows (size - 10)) ≡ Abort (Blames 0) stopped
     -- seat 1's first nonce word heard as 1
-    pub other_nonce : firstReveal marks₁ (shows 10 ++ set (shows (size - 10)) 1 1) ≡ Abort (Blames 1) stopped
+    pub other_nonce : first_reveal marks₁ (shows 10 ++ set (shows (size - 10)) 1 1) ≡ Abort (Blames 1) stopped
     -- "The last dock to speak can cancel the other check words": seat 1 committed to 77, and cancels seat 0's 10; and it reveals 77
-    pub cancels : firstReveal (mark₁₀ ++ mark (shows 77)) (shows 10 ++ shows (size - 10)) ≡ Abort (Blames 1) stopped
-    pub keeps_to_it : firstReveal (mark₁₀ ++ mark (shows 77)) (shows 10 ++ shows 77) ≡ Abort Nobody stopped
+    pub cancels : first_reveal (mark₁₀ ++ mark (shows 77)) (shows 10 ++ shows (size - 10)) ≡ Abort (Blames 1) stopped
+    pub keeps_to_it : first_reveal (mark₁₀ ++ mark (shows 77)) (shows 10 ++ shows 77) ≡ Abort Nobody stopped
     -- "Two draws at the first seal accepted; one or three, 16."
-    pub two_coefficients : sendAnswer O party₀ (after₃.scratch 0) (sending (Commit First) 0) (1 ∷ 2 ∷ []) nonce 8 ≡ Next (receiving (Commit First) 10)
-    pub one_coefficient : sendAnswer O party₀ (after₃.scratch 0) (sending (Commit First) 0) (1 ∷ []) nonce 8 ≡ Refusal 16 0
-    pub three_coefficients : sendAnswer O party₀ (after₃.scratch 0) (sending (Commit First) 0) (1 ∷ 2 ∷ 5 ∷ []) nonce 8 ≡ Refusal 16 0
+    pub two_coefficients : send_answer O party₀ (after₃.scratch 0) (sending (Commit First) 0) (1 ∷ 2 ∷ []) nonce 8 ≡ Next (receiving (Commit First) 10)
+    pub one_coefficient : send_answer O party₀ (after₃.scratch 0) (sending (Commit First) 0) (1 ∷ []) nonce 8 ≡ Refusal 16 0
+    pub three_coefficients : send_answer O party₀ (after₃.scratch 0) (sending (Commit First) 0) (1 ∷ 2 ∷ 5 ∷ []) nonce 8 ≡ Refusal 16 0
     -- "a nonce list of any length but 32 at a spoken seal, 0 in any other speaking .. is 25"
-    pub short_nonce : sendAnswer O party₀ (after₃.scratch 0) (sending (Commit First) 0) (1 ∷ 2 ∷ []) (replicate 31 0) 8 ≡ Refusal 25 0
-    pub idle_nonce : sendAnswer O party₀ (after₃.scratch 0) (sending Open 0) [] nonce 8 ≡ Refusal 25 0
+    pub short_nonce : send_answer O party₀ (after₃.scratch 0) (sending (Commit First) 0) (1 ∷ 2 ∷ []) (replicate 31 0) 8 ≡ Refusal 25 0
+    pub idle_nonce : send_answer O party₀ (after₃.scratch 0) (sending Open 0) [] nonce 8 ≡ Refusal 25 0
     -- "8 seats accepted, 9 gives 1."
-    pub eight : openAnswer O (among 8) (replicate 86 9) ≡ Next (record { gate = 0; stage = Send Own; held = 0 })
-    pub nine : openAnswer O (among 9) (replicate 94 9) ≡ Refusal 1 0
+    pub eight : open_answer O (among 8) (replicate 86 9) ≡ Next (record { gate = 0; stage = Send Own; held = 0 })
+    pub nine : open_answer O (among 9) (replicate 94 9) ≡ Refusal 1 0
     -- "An element p − 1 accepted, p gives 9."
-    pub largest : openAnswer O (keyed (size - 1)) room ≡ Next (record { gate = 0; stage = Send Own; held = 0 })
-    pub too_large : openAnswer O (keyed size) room ≡ Refusal 9 0
+    pub largest : open_answer O (keyed (size - 1)) room ≡ Next (record { gate = 0; stage = Send Own; held = 0 })
+    pub too_large : open_answer O (keyed size) room ≡ Refusal 9 0
     -- "Line 1 naming line 1 gives 5; naming line 0 is accepted."
-    pub names_itself : askCircuit 2 size (naming 1) ≡ Refused 5 1
-    pub names_earlier : askCircuit 2 size (naming 0) ≡ Accepted
+    pub names_itself : ask_circuit 2 size (naming 1) ≡ Refused 5 1
+    pub names_earlier : ask_circuit 2 size (naming 0) ≡ Accepted
     -- "256 lines accepted, 257 gives 3."
-    pub longest : askCircuit 2 size (long 254) ≡ Accepted
-    pub too_long : askCircuit 2 size (long 255) ≡ Refused 3 0
+    pub longest : ask_circuit 2 size (long 254) ≡ Accepted
+    pub too_long : ask_circuit 2 size (long 255) ≡ Refused 3 0

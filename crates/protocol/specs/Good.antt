@@ -15,35 +15,35 @@ module _ (O : Ops) (n : ℕ) (c preps : List ℕ) where
   open O use {size, mul}
 
   -- what starts at party i's record of gate j
-  unfoldable pub recordAt : ℕ → ℕ → List ℕ
-  recordAt i j = record_in c (band (prep_size c) preps i) j
+  unfoldable pub record_at : ℕ → ℕ → List ℕ
+  record_at i j = record_in c (band (prep_size c) preps i) j
 
   -- "the key is the sum of key shares"; "The key may be 0."
-  unfoldable pub wholeKey : ℕ
-  wholeKey = sum O n (λ i. get_or (band (prep_size c) preps i) 0 0)
+  unfoldable pub whole_key : ℕ
+  whole_key = sum O n (λ i. get_or (band (prep_size c) preps i) 0 0)
 
   -- the sums of the shares and of the MAC shares that stand at k in the records of gate j
-  unfoldable pub shareSum : ℕ → ℕ → ℕ
-  shareSum j k = sum O n (λ i. (part_at (recordAt i j) k).share)
+  unfoldable pub share_sum : ℕ → ℕ → ℕ
+  share_sum j k = sum O n (λ i. (part_at (record_at i j) k).share)
 
-  unfoldable pub macSum : ℕ → ℕ → ℕ
-  macSum j k = sum O n (λ i. (part_at (recordAt i j) k).mac)
+  unfoldable pub mac_sum : ℕ → ℕ → ℕ
+  mac_sum j k = sum O n (λ i. (part_at (record_at i j) k).mac)
 
   -- "for each mask, a, b and c the MAC shares sum to the key times the sum of shares"
   abbrev pub Authentic : ℕ → ℕ → Type 0
-  Authentic j k = macSum j k ≡ mul wholeKey (shareSum j k)
+  Authentic j k = mac_sum j k ≡ mul whole_key (share_sum j k)
 
   -- "the owner's whole mask is the mask's sum"; of a give the receiver's: a "mask record whose whole mask the receiver knows"
   pub record GoodMask (j owner : ℕ) : Type 0 where
     pub mask : Authentic j mask_at
-    pub whole : get_or (recordAt owner j) whole_mask_at 0 ≡ shareSum j mask_at
+    pub whole : get_or (record_at owner j) whole_mask_at 0 ≡ share_sum j mask_at
 
   -- "c is a times b", in a record of k openings. Where one value is opened b is a: "when good, c is a times a"
   pub record GoodTriple (j k : ℕ) : Type 0 where
     pub mac_a : Authentic j a_at
     pub mac_b : Authentic j (b_at k)
     pub mac_c : Authentic j (c_at k)
-    pub product : shareSum j (c_at k) ≡ mul (shareSum j a_at) (shareSum j (b_at k))
+    pub product : share_sum j (c_at k) ≡ mul (share_sum j a_at) (share_sum j (b_at k))
 
   abbrev pub GoodRecord : ℕ → Gate → Class → Type 0
   GoodRecord j g Local = Unit {0}

@@ -4,7 +4,7 @@ use Rattle.std.specs.Prelude.{ℕ, ◌*◌, ◌&&◌, List, length, leb, eqb}
 use Rattle.circuit.specs.Verdict.{Verdict, ask, ◌then◌, elements}
 use Rattle.circuit.specs.Count.{prep_size, in_count, out_count}
 use Rattle.circuit.specs.Round.{nonce_size, word_count, coefficient_count, check_count}
-use Rattle.circuit.specs.Accept.{askCircuit}
+use Rattle.circuit.specs.Accept.{ask_circuit}
 use Rattle.protocol.specs.Scratch.{scratch_size}
 use Rattle.protocol.specs.Ask.{ask_parties}
 use Rattle.protocol.specs.Joint.{Joint}
@@ -13,9 +13,9 @@ use Rattle.protocol.specs.Joint.{Joint}
 -- nonces 25 "asked after 17": a nonce for each check and party
 -- q is the size of the field
 unfoldable pub ask_joint : ℕ → Joint → List ℕ → ℕ → ℕ → Verdict
-ask_joint q J scratch transcriptRoom outputRoom =
+ask_joint q J scratch transcript_room output_room =
     ask_parties J.parties
-    then askCircuit J.parties q J.circuit
+    then ask_circuit J.parties q J.circuit
     then ask 8 0 (eqb (length J.preps) (J.parties * prep_size J.circuit))
     then elements 9 q J.preps
     then ask 10 0 (eqb (length J.inputs) (in_count J.circuit))
@@ -24,4 +24,4 @@ ask_joint q J scratch transcriptRoom outputRoom =
     then ask 16 0 (eqb (length J.coefficients) (coefficient_count J.circuit))
     then elements 17 q J.coefficients
     then ask 25 0 (eqb (length J.nonces) (nonce_size * (J.parties * check_count J.circuit)))
-    then ask 18 0 (leb (J.parties * word_count J.circuit) transcriptRoom && leb (out_count J.circuit) outputRoom)
+    then ask 18 0 (leb (J.parties * word_count J.circuit) transcript_room && leb (out_count J.circuit) output_room)

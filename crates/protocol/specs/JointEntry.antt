@@ -35,22 +35,22 @@ module _ (O : Ops) (J : Joint) (scratch transcript outputs : List ℕ) where
   unfoldable pub verdict : Verdict
   verdict = ask_joint O.size J scratch (length transcript) (length outputs)
 
-  unfoldable pub jointAnswer : JointAnswer
-  jointAnswer =
+  unfoldable pub joint_answer : JointAnswer
+  joint_answer =
       jointly verdict
       (ended (whole O J scratch).last.point.stage (whole O J scratch).last.point.gate (whole O J scratch).last.blame
       (whole O J scratch).rounds)
 
   -- the bands in party order, and the excess as it was
-  unfoldable pub jointScratch : List ℕ
-  jointScratch =
+  unfoldable pub joint_scratch : List ℕ
+  joint_scratch =
       leave verdict
       (joined J.parties (whole O J scratch).last.scratch
       ++ drop (J.parties * scratch_size J.parties J.circuit) scratch) scratch
 
   -- "It writes a transcript (rounds in order, seats in order within) and a list of scores": what lies beyond is untouched
-  unfoldable pub jointTranscript : List ℕ
-  jointTranscript = leave verdict (overwrite (whole O J scratch).transcript transcript) transcript
+  unfoldable pub joint_transcript : List ℕ
+  joint_transcript = leave verdict (overwrite (whole O J scratch).transcript transcript) transcript
 
-  unfoldable pub jointOutputs : List ℕ
-  jointOutputs = leave verdict (overwrite (whole O J scratch).outputs outputs) outputs
+  unfoldable pub joint_outputs : List ℕ
+  joint_outputs = leave verdict (overwrite (whole O J scratch).outputs outputs) outputs

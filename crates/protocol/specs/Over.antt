@@ -14,8 +14,8 @@ module _ (O : Ops) where
   over k x = record { share = mul (inv k) x.share; mac = mul (inv k) x.mac }
 
   -- what is written for gate j, which divides gate x by k
-  unfoldable pub afterOver : Layout → List ℕ → ℕ → ℕ → ℕ → List ℕ
-  afterOver y l j x k = put_wire y l j (over k (wire y l x))
+  unfoldable pub after_over : Layout → List ℕ → ℕ → ℕ → ℕ → List ℕ
+  after_over y l j x k = put_wire y l j (over k (wire y l x))
 
   -- "undoes times by a constant from 1 to p − 1: the two in either order give the line's value again", at a party's share and MAC share
   pub record Undoes (k : ℕ) (x : Part) : Type 0 where

@@ -12,7 +12,7 @@ use Rattle.circuit.specs.Valid.{Valid}
 use Rattle.protocol.specs.Scratch as S
 use Rattle.protocol.specs.Position as P
 use Rattle.protocol.specs.Party.{Party}
-use Rattle.protocol.specs.Receive.{heardSum}
+use Rattle.protocol.specs.Receive.{heard_sum}
 use Rattle.protocol.specs.Holding.{Below, Held, Worked, Opened}
 use Rattle.protocol.specs.Code.{layout_of, Sited}
 use Rattle.protocol.specs.declared.Layout.{Layout}
@@ -104,11 +104,11 @@ pub record Hears (q n : ℕ) (c : List ℕ) (j : ℕ) (r : Round) (heard : List 
 
 -- what the words of n parties come to in round r of gate g: the owner's word of an in gate, else the sum of the first words
 unfoldable pub heard_first : Ops → ℕ → Gate → Round → List ℕ → ℕ
-heard_first O n g r heard = cond (is_in g) (get_or heard (g.first * words g r) 0) (heardSum O n (words g r) 0 heard)
+heard_first O n g r heard = cond (is_in g) (get_or heard (g.first * words g r) 0) (heard_sum O n (words g r) 0 heard)
 
 -- and the sum of the last words of a gate that opens values
 unfoldable pub heard_second : Ops → ℕ → Gate → Round → List ℕ → ℕ
-heard_second O n g r heard = cond (opens g) (heardSum O n (words g r) ((shape g).openings - 1) heard) 0
+heard_second O n g r heard = cond (opens g) (heard_sum O n (words g r) ((shape g).openings - 1) heard) 0
 
 pub record Summed (O : Ops) (n : ℕ) (g : Gate) (r : Round) (heard : List ℕ) (e d : ℕ) : Type 0 where
   pub first : Is O.size (heard_first O n g r heard) e

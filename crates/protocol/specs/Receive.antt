@@ -43,7 +43,7 @@ misfit (suc n) marks heard = first_blame (misfit n marks heard) (cond (fits mark
 
 -- "stops the run before the sum is asked ..; else the sum alone decides"
 abbrev pub weighs : Blame → Bool → Ruling
-weighs (Blames i) zeroSum = Stopped (Blames i)
+weighs (Blames i) zero_sum = Stopped (Blames i)
 weighs Nobody true = Passed
 weighs Nobody false = Stopped Nobody
 
@@ -55,17 +55,17 @@ module _ (O : Ops) where
   open O use {add, inv}
 
   -- the sum over n parties of the word t of each, where each sent k
-  unfoldable pub heardSum : ℕ → ℕ → ℕ → List ℕ → ℕ
-  heardSum n k t heard = sum O n (λ i. get_or heard (i * k + t) 0)
+  unfoldable pub heard_sum : ℕ → ℕ → ℕ → List ℕ → ℕ
+  heard_sum n k t heard = sum O n (λ i. get_or heard (i * k + t) 0)
 
   -- "With e the owner's word: seat 0 adds e to its mask share, each seat adds key share × e to its MAC share."
-  unfoldable pub afterInput : ℕ → ℕ → Layout → List ℕ → ℕ → List ℕ → ℕ → List ℕ
-  afterInput i key y l j m e = put_wire y l j (shift O i key (part_at m mask_at) e)
+  unfoldable pub after_input : ℕ → ℕ → Layout → List ℕ → ℕ → List ℕ → ℕ → List ℕ
+  after_input i key y l j m e = put_wire y l j (shift O i key (part_at m mask_at) e)
 
   -- "Hearing sums them, and appends E then D with the seat's MAC shares of them to the opened list." The gate names x and z, its record starts
   -- m, u entries are unchecked before it, and k values are opened, one or two
-  unfoldable pub putDifferences : Layout → List ℕ → ℕ → ℕ → List ℕ → ℕ → ℕ → ℕ → ℕ → List ℕ
-  putDifferences y l x z m k u e d =
+  unfoldable pub put_differences : Layout → List ℕ → ℕ → ℕ → List ℕ → ℕ → ℕ → ℕ → ℕ → List ℕ
+  put_differences y l x z m k u e d =
       cond (eqb k 2)
       (put_opened y
       (put_opened y l u e (masked O y l x m a_at).mac)
@@ -73,14 +73,14 @@ module _ (O : Ops) where
       (put_opened y l u e (masked O y l x m a_at).mac)
 
   -- and the product, which gate j is
-  unfoldable pub afterOpening : ℕ → ℕ → Layout → List ℕ → ℕ → ℕ → ℕ → List ℕ → ℕ → ℕ → ℕ → ℕ → List ℕ
-  afterOpening i key y l j x z m k u e d =
-      put_wire y (putDifferences y l x z m k u e d) j
+  unfoldable pub after_opening : ℕ → ℕ → Layout → List ℕ → ℕ → ℕ → ℕ → List ℕ → ℕ → ℕ → ℕ → ℕ → List ℕ
+  after_opening i key y l j x z m k u e d =
+      put_wire y (put_differences y l x z m k u e d) j
       (product O i key (part_at m a_at) (part_at m (b_at k)) (part_at m (c_at k)) e d)
 
   -- "hearing makes the sum and its MAC share the only opened entry, at index 0": x is the party's part of what is shown
-  unfoldable pub afterOpenOutput : Layout → List ℕ → Part → ℕ → List ℕ
-  afterOpenOutput y l x s = put_opened y l 0 s x.mac
+  unfoldable pub after_open_output : Layout → List ℕ → Part → ℕ → List ℕ
+  after_open_output y l x s = put_opened y l 0 s x.mac
 
   -- "Passing the second check releases the sum as the score"; of a give, whose record starts m, "The receiver's answer is the shown sum plus the
   -- whole mask"
@@ -91,8 +91,8 @@ module _ (O : Ops) where
   unfoldable pub operand : Role → ℕ → ℕ
   operand r k = cond (is_divisor r) (inv k) k
 
-  abbrev pub operandOf : Gate → ℕ
-  operandOf g = operand (shape g).constant g.constant
+  abbrev pub operand_of : Gate → ℕ
+  operand_of g = operand (shape g).constant g.constant
 
   -- a gate that needs no round, of gates x and z and an operand k. "add; sub: first and second name earlier lines"; "plus; times: .. the
   -- constant is added or multiplied"; over "multiplies share and MAC share alike by the constant's inverse"
@@ -109,24 +109,24 @@ module _ (O : Ops) where
   linear i key Over x z k = scale O k x
 
   -- what is written for gate j, of such a kind
-  unfoldable pub putLinear : ℕ → ℕ → Layout → List ℕ → ℕ → Kind → ℕ → ℕ → ℕ → List ℕ
-  putLinear i key y l j kind x z k = put_wire y l j (linear i key kind (wire y l x) (wire y l z) k)
+  unfoldable pub put_linear : ℕ → ℕ → Layout → List ℕ → ℕ → Kind → ℕ → ℕ → ℕ → List ℕ
+  put_linear i key y l j kind x z k = put_wire y l j (linear i key kind (wire y l x) (wire y l z) k)
 
   -- and for gate j, which is g
-  unfoldable pub afterLinear : ℕ → ℕ → Layout → List ℕ → ℕ → Gate → List ℕ
-  afterLinear i key y l j g =
-      putLinear i key y l j g.kind g.first g.second (operandOf g)
+  unfoldable pub after_linear : ℕ → ℕ → Layout → List ℕ → ℕ → Gate → List ℕ
+  after_linear i key y l j g =
+      put_linear i key y l j g.kind g.first g.second (operand_of g)
 
   -- "hearing does all such lines up to the next stop": from gate j on, where left gates are left
   unfoldable pub settle : ℕ → ℕ → List ℕ → Layout → ℕ → ℕ → List ℕ → List ℕ
   settle i key c y zero j l = l
   settle i key c y (suc left) j l =
-      cond (is_linear (gate c j)) (settle i key c y left (suc j) (afterLinear i key y l j (gate c j))) l
+      cond (is_linear (gate c j)) (settle i key c y left (suc j) (after_linear i key y l j (gate c j))) l
 
   -- how the hearing of round r by one of n parties ends, in whose scratch these marks stand. Only a reveal stops a run
   unfoldable pub ruling : ℕ → Round → List ℕ → List ℕ → Ruling
   ruling n r marks heard =
-      cond (is_reveal r) (weighs (misfit n marks heard) (eqb (heardSum n reveal_words 0 heard) 0)) Passed
+      cond (is_reveal r) (weighs (misfit n marks heard) (eqb (heard_sum n reveal_words 0 heard) 0)) Passed
 
   module _ (P : Party) where
     -- the scratch once the gates after j are done up to the next stop
@@ -135,35 +135,35 @@ module _ (O : Ops) where
         settle P.me (key P) P.circuit (layout P.circuit) (gates P.circuit - suc j) (suc j) l
 
     -- the scratch after gate j's own round, by its class. "With e the owner's word"; "Hearing sums them"
-    unfoldable pub ownReceived : List ℕ → ℕ → List ℕ → Class → List ℕ
-    ownReceived l j heard Local = l
-    ownReceived l j heard Owned =
+    unfoldable pub own_received : List ℕ → ℕ → List ℕ → Class → List ℕ
+    own_received l j heard Local = l
+    own_received l j heard Owned =
         onward j
-        (afterInput P.me (key P) (layout P.circuit) l j (record_of P j)
+        (after_input P.me (key P) (layout P.circuit) l j (record_of P j)
         (get_or heard ((gate P.circuit j).first * words (gate P.circuit j) Own) 0))
-    ownReceived l j heard Opens =
+    own_received l j heard Opens =
         let g = gate P.circuit j in
         let k = (shape g).openings in
         onward j
-        (afterOpening P.me (key P) (layout P.circuit) l j g.first (factor g) (record_of P j) k
+        (after_opening P.me (key P) (layout P.circuit) l j g.first (factor g) (record_of P j) k
         (unchecked P.circuit j)
-        (heardSum P.parties (words g Own) 0 heard)
-        (heardSum P.parties (words g Own) (k - 1) heard))
-    ownReceived l j heard Output = l
+        (heard_sum P.parties (words g Own) 0 heard)
+        (heard_sum P.parties (words g Own) (k - 1) heard))
+    own_received l j heard Output = l
 
     -- the scratch after a check that passes
-    unfoldable pub checkPassed : List ℕ → ℕ → Check → List ℕ
-    checkPassed l j First = l
-    checkPassed l j Second = onward j l
+    unfoldable pub check_passed : List ℕ → ℕ → Check → List ℕ
+    check_passed l j First = l
+    check_passed l j Second = onward j l
 
     -- the scratch after round r of gate j, where it stops no run. A commitment's marks are "written at hearing"
     unfoldable pub received : List ℕ → ℕ → Round → List ℕ → List ℕ
-    received l j Own heard = ownReceived l j heard (shape (gate P.circuit j)).class
+    received l j Own heard = own_received l j heard (shape (gate P.circuit j)).class
     received l j Open heard =
-        afterOpenOutput (layout P.circuit) l (showing O P l j)
-        (heardSum P.parties (words (gate P.circuit j) Open) 0 heard)
+        after_open_output (layout P.circuit) l (showing O P l j)
+        (heard_sum P.parties (words (gate P.circuit j) Open) 0 heard)
     received l j (Commit k) heard = put_marks (layout P.circuit) l heard
-    received l j (Reveal k) heard = checkPassed l j k
+    received l j (Reveal k) heard = check_passed l j k
 
     -- the score of gate j, an output
     unfoldable pub scored : List ℕ → ℕ → ℕ

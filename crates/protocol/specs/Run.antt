@@ -120,8 +120,8 @@ module _ (O : Ops) (J : Joint) where
   run (suc k) s = when_sending s.point.stage (still s) (λ r. ahead s r (run k (step s r)))
 
   -- no gate has more rounds than an output with two checks
-  abbrev pub mostRounds : ℕ
-  mostRounds = 5
+  abbrev pub most_rounds : ℕ
+  most_rounds = 5
 
   unfoldable pub whole : List ℕ → Run
-  whole scratch = run (mostRounds * gates J.circuit) (begun scratch)
+  whole scratch = run (most_rounds * gates J.circuit) (begun scratch)

@@ -30,16 +30,16 @@ module _ (O : Ops) where
   open O use {sub, mul}
 
   -- "the owner posts input − whole mask; others post 0": the word of party i, m starting at the gate's record
-  unfoldable pub inputWord : ℕ → ℕ → List ℕ → ℕ → ℕ
-  inputWord i owner m input = cond (eqb i owner) (sub input (get_or m whole_mask_at 0)) 0
+  unfoldable pub input_word : ℕ → ℕ → List ℕ → ℕ → ℕ
+  input_word i owner m input = cond (eqb i owner) (sub input (get_or m whole_mask_at 0)) 0
 
   -- the party's part of the difference of gate x and the mask that stands at k in the record m: of E = first − a, and of D = second − b
   unfoldable pub masked : Layout → List ℕ → ℕ → List ℕ → ℕ → Part
   masked y l x m k = minus O (wire y l x) (part_at m k)
 
   -- "the seat's shares of E = first − a and D = second − b", of D only where k is 2: of a gate that names x and z, m starting at its record
-  abbrev pub openingWords : Layout → List ℕ → ℕ → ℕ → List ℕ → ℕ → List ℕ
-  openingWords y l x z m k =
+  abbrev pub words_of_opening : Layout → List ℕ → ℕ → ℕ → List ℕ → ℕ → List ℕ
+  words_of_opening y l x z m k =
       cond (eqb k 2)
       ((masked y l x m a_at).share ∷ (masked y l z m (b_at k)).share ∷ [])
       ((masked y l x m a_at).share ∷ [])
@@ -50,8 +50,8 @@ module _ (O : Ops) where
   shown y l give x m = cond give (masked y l x m mask_at) (wire y l x)
 
   -- "v is the sum of draw × opened value; the check word is the sum of draw × MAC share, less key share × v", over the first k entries
-  unfoldable pub checkShare : Layout → List ℕ → ℕ → ℕ → List ℕ → ℕ
-  checkShare y l k key coefficients =
+  unfoldable pub check_share : Layout → List ℕ → ℕ → ℕ → List ℕ → ℕ
+  check_share y l k key coefficients =
       sub (sum O k (λ t. mul (get_or coefficients t 0) (read y l (ValueMac t))))
       (mul key (sum O k (λ t. mul (get_or coefficients t 0) (read y l (Value t)))))
 
@@ -59,12 +59,12 @@ module _ (O : Ops) where
     -- of gate j, which opens k values
     unfoldable pub opening : List ℕ → ℕ → ℕ → List ℕ
     opening l j k =
-        openingWords (layout P.circuit) l (gate P.circuit j).first (factor (gate P.circuit j)) (record_of P j) k
+        words_of_opening (layout P.circuit) l (gate P.circuit j).first (factor (gate P.circuit j)) (record_of P j) k
 
     -- the words of gate j's own round, by its class
     unfoldable pub own_words : List ℕ → ℕ → Class → List ℕ
     own_words l j Local = []
-    own_words l j Owned = inputWord P.me (gate P.circuit j).first (record_of P j) (input_of P j) ∷ []
+    own_words l j Owned = input_word P.me (gate P.circuit j).first (record_of P j) (input_of P j) ∷ []
     own_words l j Opens = opening l j (shape (gate P.circuit j)).openings
     own_words l j Output = []
 
@@ -78,7 +78,7 @@ module _ (O : Ops) where
     unfoldable pub holds : List ℕ → ℕ → Round → List ℕ → ℕ
     holds l j r coefficients =
         cond (is_commit r)
-        (checkShare (layout P.circuit) l (opened_in (unchecked P.circuit j) r) (key P) coefficients) 0
+        (check_share (layout P.circuit) l (opened_in (unchecked P.circuit j) r) (key P) coefficients) 0
 
     -- the words of round r of gate j, where l is the scratch, held the check share held, and coefficients and nonce are handed over. A reveal posts
     -- the nonce that stands in the scratch

@@ -7,7 +7,7 @@ use Rattle.protocol.specs.Part.{Part, part_at}
 use Rattle.protocol.specs.Scratch.{Layout, put_wire, put_opened}
 use Rattle.protocol.specs.Party.{a_at}
 use Rattle.protocol.specs.Send.{masked}
-use Rattle.protocol.specs.Good.{Authentic, shareSum}
+use Rattle.protocol.specs.Good.{Authentic, share_sum}
 
 -- "Its record is a, MAC of a, c, MAC of c": a is first, as in a triple, and c stands here
 abbrev pub square_at : ℕ
@@ -17,8 +17,8 @@ module _ (O : Ops) where
   open O use {add, mul}
 
   -- "One round of one word opens E = first − a": the party's share of it. The gate names x, and m starts at its record
-  unfoldable pub squareWords : Layout → List ℕ → ℕ → List ℕ → List ℕ
-  squareWords y l x m = (masked O y l x m a_at).share ∷ []
+  unfoldable pub square_words : Layout → List ℕ → ℕ → List ℕ → List ℕ
+  square_words y l x m = (masked O y l x m a_at).share ∷ []
 
   -- "The share becomes c + E × a + E × a, with E × E more at seat 0; the MAC share follows likewise, with key share × E × E at every seat."
   unfoldable pub square : ℕ → ℕ → Part → Part → ℕ → Part
@@ -29,12 +29,12 @@ module _ (O : Ops) where
       }
 
   -- "as one entry", behind the u that are unchecked; and the square, which gate j is
-  unfoldable pub afterSquare : ℕ → ℕ → Layout → List ℕ → ℕ → ℕ → List ℕ → ℕ → ℕ → List ℕ
-  afterSquare i key y l j x m u e =
+  unfoldable pub after_square : ℕ → ℕ → Layout → List ℕ → ℕ → ℕ → List ℕ → ℕ → ℕ → List ℕ
+  after_square i key y l j x m u e =
       put_wire y (put_opened y l u e (masked O y l x m a_at).mac) j (square i key (part_at m a_at) (part_at m square_at) e)
 
   -- "when good, c is a times a", and both are authentic
   pub record GoodSquare (n : ℕ) (c preps : List ℕ) (j : ℕ) : Type 0 where
     pub mac_a : Authentic O n c preps j a_at
     pub mac_c : Authentic O n c preps j square_at
-    pub product : shareSum O n c preps j square_at ≡ mul (shareSum O n c preps j a_at) (shareSum O n c preps j a_at)
+    pub product : share_sum O n c preps j square_at ≡ mul (share_sum O n c preps j a_at) (share_sum O n c preps j a_at)

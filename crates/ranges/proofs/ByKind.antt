@@ -13,7 +13,7 @@ use Rattle.circuit.specs.Gate.{Kind, In, Add, Sub, Plus, Times, Mul, Out, Sq, Gi
 use Rattle.circuit.specs.Kind.{Owned, Wire, kind_shape}
 use Rattle.circuit.proofs.Tests.{by_cases, false_no}
 use Rattle.protocol.specs.Receive.{operand}
-use Rattle.protocol.specs.Plain.{kindValue}
+use Rattle.protocol.specs.Plain.{kind_value}
 use Rattle.ranges.specs.Interval.{Interval, stays, up_to, kind_reach}
 use Rattle.ranges.specs.Move.{kind_move, capped}
 use Rattle.ranges.specs.Whole.{whole_numbers, Counting, Within, Near}
@@ -21,7 +21,7 @@ use Rattle.ranges.proofs.Reaching.{told, up_is, up_low}
 
 -- the whole number of a gate of kind k
 abbrev pub whole_of : Kind → ℕ → ℕ → ℕ → ℕ → ℕ
-whole_of k input u v a = kindValue whole_numbers k input u v (operand whole_numbers (kind_shape k).constant a)
+whole_of k input u v a = kind_value whole_numbers k input u v (operand whole_numbers (kind_shape k).constant a)
 
 -- what is known of the numbers that a gate of kind k is worked out of: an input is in its range, a number named in its interval
 pub record Sound (k : Kind) (r x z : Interval) (input u v : ℕ) : Type 0 where
@@ -31,7 +31,7 @@ pub record Sound (k : Kind) (r x z : Interval) (input u v : ℕ) : Type 0 where
 
 -- the number that it makes
 pub record Fine (O : Ops) (k : Kind) (i : Interval) (input u v a : ℕ) : Type 0 where
-  pub same : kindValue O k input u v (operand O (kind_shape k).constant a) ≡ whole_of k input u v a
+  pub same : kind_value O k input u v (operand O (kind_shape k).constant a) ≡ whole_of k input u v a
   pub within : Within i (whole_of k input u v a)
   pub low : i.highest < O.size
 
@@ -61,7 +61,7 @@ module _ {O : Ops} (W : Counting O) where
 
   -- ends that stay
   fine : (k : Kind) (lowest highest input u v a : ℕ) → stays (up_to size lowest highest) ≡ true
-      → (highest < size → kindValue O k input u v (operand O (kind_shape k).constant a) ≡ whole_of k input u v a)
+      → (highest < size → kind_value O k input u v (operand O (kind_shape k).constant a) ≡ whole_of k input u v a)
       → lowest ≤ whole_of k input u v a → whole_of k input u v a ≤ highest
       → Fine O k (told (up_to size lowest highest)) input u v a
   fine k lowest highest input u v a e same l h =
@@ -70,7 +70,7 @@ module _ {O : Ops} (W : Counting O) where
 
   pub kind_fine : (k : Kind) (r x z : Interval) (a input u v : ℕ) → stays (kind_reach size k r x z a) ≡ true → Sound k r x z input u v
       → Fine O k (told (kind_reach size k r x z a)) input u v a
-  unfolding kind_reach kindValue operand kind_shape
+  unfolding kind_reach kind_value operand kind_shape
   kind_fine In r x z a input u v e s = let i = s.own refl in fine In _ _ input u v a e (λ h. refl) i.low i.high
   kind_fine Add r x z a input u v e s =
       let m = s.first refl in let n = s.second refl in
@@ -136,7 +136,7 @@ close_swap n = record { own = λ e. near_swap (n.own e); first = λ e. near_swap
 kind_up : (q : ℕ) (k : Kind) (r x z : Interval) (a m mx mz input input' u w v t : ℕ) → stays (kind_reach q k r x z a) ≡ true → Sound k r x z input u v
     → Sound k r x z input' w t → Close k m mx mz input input' u w v t
     → whole_of k input u v a ≤ whole_of k input' w t a + kind_move k m x z mx mz a
-unfolding kindValue operand kind_shape kind_move
+unfolding kind_value operand kind_shape kind_move
 kind_up q In r x z a m mx mz input input' u w v t e s s' n = (n.own refl).up
 kind_up q Add r x z a m mx mz input input' u w v t e s s' n = omega (arith, (n.first refl).up, (n.second refl).up)
 kind_up q Sub r x z a m mx mz input input' u w v t e s s' n =

@@ -14,8 +14,8 @@ use Rattle.circuit.specs.Kind.{is_in}
 use Rattle.circuit.specs.Valid.{Valid}
 use Rattle.circuit.proofs.KindLaws.{class_is}
 use Rattle.circuit.proofs.Gates.{first_fits, second_fits}
-use Rattle.ranges.specs.Interval.{range_at, reach, intervals, gateStays}
-use Rattle.ranges.specs.Move.{Change, change_at, gateMove, moves, scoreMoves}
+use Rattle.ranges.specs.Interval.{range_at, reach, intervals, gate_stays}
+use Rattle.ranges.specs.Move.{Change, change_at, gate_move, moves, score_moves}
 use Rattle.ranges.specs.Whole.{Counting, Within, Near}
 use Rattle.ranges.proofs.Growing.{one_length, one_earlier, one_last}
 use Rattle.ranges.proofs.ByKind.{Close, kind_near, near_capped}
@@ -26,7 +26,7 @@ use Rattle.ranges.proofs.Listed.{Listed}
 module _ (q : ℕ) (c ranges : List ℕ) (change : Change) where
   pub moves_more : (j : ℕ)
       → moves q c ranges change (suc j)
-      ≡ moves q c ranges change j ++ (gateMove q c ranges change (intervals q c ranges j) (moves q c ranges change j) j ∷ [])
+      ≡ moves q c ranges change j ++ (gate_move q c ranges change (intervals q c ranges j) (moves q c ranges change j) j ∷ [])
   unfolding moves
   moves_more j = refl
 
@@ -36,7 +36,7 @@ module _ (q : ℕ) (c ranges : List ℕ) (change : Change) where
   moves_length (suc j) = one_length (moves q c ranges change j) _ (moves_length j)
 
   pub move_last : (j : ℕ)
-      → get_or (moves q c ranges change (suc j)) j 0 ≡ gateMove q c ranges change (intervals q c ranges j) (moves q c ranges change j) j
+      → get_or (moves q c ranges change (suc j)) j 0 ≡ gate_move q c ranges change (intervals q c ranges j) (moves q c ranges change j) j
   move_last j = rw moves_more (one_last (moves q c ranges change j) _ (moves_length j))
 
   pub move_earlier : (j x : ℕ) → x < j → get_or (moves q c ranges change (suc j)) x 0 ≡ get_or (moves q c ranges change j) x 0
@@ -47,12 +47,12 @@ module _ (q : ℕ) (c ranges : List ℕ) (change : Change) where
   move_kept (suc m) j x h l =
       ⊎_elim (λ e. rw e) (λ g. move_earlier m x (omega arith) ∙ move_kept m j x h (le_of_suc-le-suc g)) (eq-or-lt_of_le l)
 
-  pub score_moves_listed : Listed c (λ j. get_or (moves q c ranges change (gates c)) (gate c j).first 0) (scoreMoves q c ranges change)
-  unfolding scoreMoves
+  pub score_moves_listed : Listed c (λ j. get_or (moves q c ranges change (gates c)) (gate c j).first 0) (score_moves q c ranges change)
+  unfolding score_moves
   score_moves_listed = record { none = refl; more = λ j. refl }
 
 module _ {O : Ops} (W : Counting O) {n : ℕ} {c : List ℕ} (ranges : List ℕ) (ok : Valid n O.size c)
-    (all : (j : ℕ) → j < gates c → gateStays O.size c ranges j ≡ true) (change : Change)
+    (all : (j : ℕ) → j < gates c → gate_stays O.size c ranges j ≡ true) (change : Change)
     {input input' : ℕ → ℕ} {vs ws : ℕ → List ℕ} (ev : Evaluates c input vs) (ew : Evaluates c input' ws)
     (inside : (j : ℕ) → j < gates c → is_in (gate c j) ≡ true → Within (range_at c ranges j) (input j))
     (inside' : (j : ℕ) → j < gates c → is_in (gate c j) ≡ true → Within (range_at c ranges j) (input' j))
@@ -82,8 +82,8 @@ module _ {O : Ops} (W : Counting O) {n : ℕ} {c : List ℕ} (ranges : List ℕ)
           second = λ e. near _ (second_fits ok j h e).earlier;
         }
 
-    near_here : Near (gateMove size c ranges change (intervals size c ranges j) (moves size c ranges change j) j) (whole_at c input (vs j) j) (whole_at c input' (ws j) j)
-    unfolding gateMove reach gateStays
+    near_here : Near (gate_move size c ranges change (intervals size c ranges j) (moves size c ranges change j) j) (whole_at c input (vs j) j) (whole_at c input' (ws j) j)
+    unfolding gate_move reach gate_stays
     near_here =
         let mine = made W ranges ok all ev inside j h (one j low) in
         let theirs = made W ranges ok all ew inside' j h (other j low) in

@@ -18,11 +18,11 @@ use Rattle.circuit.proofs.KindLaws.{is_class_lem, everyone_sees}
 use Rattle.circuit.proofs.Gates.{first_fits, second_fits, output_named}
 use Rattle.protocol.specs.Send.{overwrite}
 use Rattle.protocol.specs.Joint.{Joint}
-use Rattle.protocol.specs.Plain.{plainInput, values, value, scoreOf, scoresSeen, scores}
-use Rattle.ranges.specs.Interval.{interval, interval_size, interval_at, range_at, kind_reach, reach, stays, intervals, gateStays}
-use Rattle.ranges.specs.Move.{Change, Of, change_at, moves, scoreMoves}
-use Rattle.ranges.specs.Entry.{moves_told, fitIntervals, fitMoves}
-use Rattle.ranges.specs.Whole.{whole_numbers, Counting, Within, InRange, asking, ItFits, intervalTold, Whole, FitsWhole, Near, Changed, moveTold, Moved, MovesBound}
+use Rattle.protocol.specs.Plain.{plain_input, values, value, score_of, scores_seen, scores}
+use Rattle.ranges.specs.Interval.{interval, interval_size, interval_at, range_at, kind_reach, reach, stays, intervals, gate_stays}
+use Rattle.ranges.specs.Move.{Change, Of, change_at, moves, score_moves}
+use Rattle.ranges.specs.Entry.{moves_told, fit_intervals, fit_moves}
+use Rattle.ranges.specs.Whole.{whole_numbers, Counting, Within, InRange, asking, ItFits, interval_told, Whole, FitsWhole, Near, Changed, move_told, Moved, MovesBound}
 use Rattle.ranges.proofs.Reaching.{intervals_length, interval_kept}
 use Rattle.ranges.proofs.ByKind.{sub_exact, no_over, near_same}
 use Rattle.ranges.proofs.Asked.{fitted_valid, fitted_stays}
@@ -55,15 +55,15 @@ subtracts e = (ap (λ (k : Kind). (kind_shape k).first) e, ap (λ (k : Kind). (k
 -- the scores of a run, in whatever numbers
 module _ (O : Ops) (J : Joint) where
   pub scores_listed : {c : List ℕ} → J.circuit ≡ c → Listed c (λ j. value O J (gate c j).first) (scores O J)
-  unfolding scoresSeen scoreOf
+  unfolding scores_seen score_of
   scores_listed e = record { none = refl; more = λ j. rw (← e, everyone_sees (gate J.circuit j)) (ap (λ (b : Bool). scores O J j ++ cond b (value O J (gate J.circuit j).first ∷ []) []) (and_true (is_out (gate J.circuit j)))) }
     where
       and_true : (b : Bool) → (b && true) ≡ b
       and_true b = by_cases b (λ h. rw h) (λ h. rw h)
 
 scores_same : (O : Ops) (J : Joint) (A : ℕ → Bool) → ((x : ℕ) → value O J x ≡ value whole_numbers J x) → (j : ℕ)
-    → scoresSeen O J A j ≡ scoresSeen whole_numbers J A j
-unfolding scoresSeen scoreOf
+    → scores_seen O J A j ≡ scores_seen whole_numbers J A j
+unfolding scores_seen score_of
 scores_same O J A same zero = refl
 scores_same O J A same (suc j) = rw (scores_same O J A same j, same (gate J.circuit j).first)
 
@@ -73,13 +73,13 @@ module _ {O : Ops} (W : Counting O) (J : Joint) (ranges : List ℕ) (change : Ch
   ok : Valid J.parties size J.circuit
   ok = fitted_valid size (asking J ranges change) (length es) (length ms) fits
 
-  all : (j : ℕ) → j < gates J.circuit → gateStays size J.circuit ranges j ≡ true
+  all : (j : ℕ) → j < gates J.circuit → gate_stays size J.circuit ranges j ≡ true
   all = fitted_stays size (asking J ranges change) (length es) (length ms) fits
 
   -- the interval that is told is that of the definition
-  interval_told : (j : ℕ) → j < gates J.circuit → intervalTold O J ranges change es ms j ≡ interval_at (intervals size J.circuit ranges (gates J.circuit)) j
-  unfolding fitIntervals
-  interval_told j h = rw fits (interval_written _ es j (omega (arith, intervals_length size J.circuit ranges (gates J.circuit))))
+  interval_told_lem : (j : ℕ) → j < gates J.circuit → interval_told O J ranges change es ms j ≡ interval_at (intervals size J.circuit ranges (gates J.circuit)) j
+  unfolding fit_intervals
+  interval_told_lem j h = rw fits (interval_written _ es j (omega (arith, intervals_length size J.circuit ranges (gates J.circuit))))
 
   module _ (inside : InRange J ranges) where
     within_whole : (j : ℕ) → j < gates J.circuit → Within (interval_at (intervals size J.circuit ranges (gates J.circuit)) j) (value whole_numbers J j)
@@ -95,10 +95,10 @@ module _ {O : Ops} (W : Counting O) (J : Joint) (ranges : List ℕ) (change : Ch
     named_within j x h l = rw (interval_kept size J.circuit ranges (gates J.circuit) j x l (omega arith)) at (within_whole x (omega arith))
 
     pub fit_whole : Whole O J ranges change es ms
-    unfolding gateStays
+    unfolding gate_stays
     fit_whole =
         record {
-          within = λ j h. rw (interval_told j h) (within_whole j h);
+          within = λ j h. rw (interval_told_lem j h) (within_whole j h);
           exact = λ j h e.
               let exact = sub_exact size _ _ _ _ (kind_stays size J.circuit ranges (intervals size J.circuit ranges j) j e (all j h)) in
               let one = named_within j (gate J.circuit j).first h (first_fits ok j h (subtracts e).0).earlier in
@@ -115,7 +115,7 @@ fits_whole W J ranges change es ms fits inside = fit_whole W J ranges change es 
 -- the inputs of two runs are as near as the change says
 module _ (J K : Joint) (line amount : ℕ) (changed : Changed J K line amount) where
   inputs_near : (j : ℕ) → j < gates J.circuit → is_in (gate J.circuit j) ≡ true
-      → Near (change_at (Of line amount) j) (plainInput whole_numbers J j) (plainInput whole_numbers K j)
+      → Near (change_at (Of line amount) j) (plain_input whole_numbers J j) (plain_input whole_numbers K j)
   inputs_near j h own =
       by_cases (eqb j line) (λ e. rw (e, eqb-true j line e) changed.there)
       (λ e. rw e (near_same 0 (sym (changed.others j h own (eqb-false j line e)))))
@@ -125,12 +125,12 @@ module _ {O : Ops} (W : Counting O) (J K : Joint) (ranges : List ℕ) (line amou
   open O use {size}
 
   -- the second run's inputs, by the circuit of the first
-  there : (j : ℕ) → j < gates J.circuit → is_in (gate J.circuit j) ≡ true → Within (range_at J.circuit ranges j) (plainInput whole_numbers K j)
-  there = subst (λ (c : List ℕ). (j : ℕ) → j < gates c → is_in (gate c j) ≡ true → Within (range_at c ranges j) (plainInput whole_numbers K j)) changed.circuit inside'
+  there : (j : ℕ) → j < gates J.circuit → is_in (gate J.circuit j) ≡ true → Within (range_at J.circuit ranges j) (plain_input whole_numbers K j)
+  there = subst (λ (c : List ℕ). (j : ℕ) → j < gates c → is_in (gate c j) ≡ true → Within (range_at c ranges j) (plain_input whole_numbers K j)) changed.circuit inside'
 
   told : (s : ℕ) → s < out_count J.circuit
-      → moveTold O J ranges (Of line amount) es ms s ≡ get_or (scoreMoves size J.circuit ranges (Of line amount) (gates J.circuit)) s 0
-  unfolding fitMoves moves_told out_count
+      → move_told O J ranges (Of line amount) es ms s ≡ get_or (score_moves size J.circuit ranges (Of line amount) (gates J.circuit)) s 0
+  unfolding fit_moves moves_told out_count
   told s h =
       rw fits (written _ ms s (omega (arith, listed_length (score_moves_listed size J.circuit ranges (Of line amount)) (gates J.circuit))))
 

@@ -15,8 +15,8 @@ use Rattle.circuit.specs.Valid.{Valid}
 use Rattle.circuit.proofs.KindLaws.{class_is}
 use Rattle.circuit.proofs.Gates.{first_fits, second_fits}
 use Rattle.protocol.specs.Joint.{Joint}
-use Rattle.protocol.specs.Plain.{value_of, plainInput, values}
-use Rattle.ranges.specs.Interval.{interval_at, range_at, reach, intervals, gateStays}
+use Rattle.protocol.specs.Plain.{value_of, plain_input, values}
+use Rattle.ranges.specs.Interval.{interval_at, range_at, reach, intervals, gate_stays}
 use Rattle.ranges.specs.Whole.{whole_numbers, Counting, Within}
 use Rattle.ranges.proofs.Growing.{one_length, one_earlier, one_last}
 use Rattle.ranges.proofs.Reaching.{told, interval_last, interval_earlier}
@@ -31,13 +31,13 @@ pub record Evaluates (c : List ℕ) (input : ℕ → ℕ) (vs : ℕ → List ℕ
   pub none : vs 0 ≡ []
   pub more : (j : ℕ) → vs (suc j) ≡ vs j ++ (whole_at c input (vs j) j ∷ [])
 
-pub evaluates : (J : Joint) {c : List ℕ} → J.circuit ≡ c → Evaluates c (plainInput whole_numbers J) (values whole_numbers J)
+pub evaluates : (J : Joint) {c : List ℕ} → J.circuit ≡ c → Evaluates c (plain_input whole_numbers J) (values whole_numbers J)
 unfolding values value_of
 evaluates J e = record { none = refl; more = λ j. rw (← e) }
 
 -- every gate of an accepted circuit stays, and the inputs are in range
 module _ {O : Ops} (W : Counting O) {n : ℕ} {c : List ℕ} (ranges : List ℕ) (ok : Valid n O.size c)
-    (all : (j : ℕ) → j < gates c → gateStays O.size c ranges j ≡ true) {input : ℕ → ℕ} {vs : ℕ → List ℕ} (ev : Evaluates c input vs)
+    (all : (j : ℕ) → j < gates c → gate_stays O.size c ranges j ≡ true) {input : ℕ → ℕ} {vs : ℕ → List ℕ} (ev : Evaluates c input vs)
     (inside : (j : ℕ) → j < gates c → is_in (gate c j) ≡ true → Within (range_at c ranges j) (input j)) where
   open O use {size}
 
@@ -59,7 +59,7 @@ module _ {O : Ops} (W : Counting O) {n : ℕ} {c : List ℕ} (ranges : List ℕ)
 
     pub made : Fine O (gate c j).kind (told (reach size c ranges (intervals size c ranges j) j)) (input j) (get_or (vs j) (gate c j).first 0) (get_or (vs j) (gate c j).second 0)
         (gate c j).constant
-    unfolding reach gateStays
+    unfolding reach gate_stays
     made = kind_fine W _ _ _ _ _ _ _ _ (all j h) sound
 
     worked_more : Worked (suc j)
@@ -82,10 +82,10 @@ module _ {O : Ops} (W : Counting O) {n : ℕ} {c : List ℕ} (ranges : List ℕ)
 
 -- the values of the field
 module _ {O : Ops} (W : Counting O) (J : Joint) {n : ℕ} (ranges : List ℕ) (ok : Valid n O.size J.circuit)
-    (all : (j : ℕ) → j < gates J.circuit → gateStays O.size J.circuit ranges j ≡ true)
-    (inside : (j : ℕ) → j < gates J.circuit → is_in (gate J.circuit j) ≡ true → Within (range_at J.circuit ranges j) (plainInput whole_numbers J j)) where
+    (all : (j : ℕ) → j < gates J.circuit → gate_stays O.size J.circuit ranges j ≡ true)
+    (inside : (j : ℕ) → j < gates J.circuit → is_in (gate J.circuit j) ≡ true → Within (range_at J.circuit ranges j) (plain_input whole_numbers J j)) where
   pub values_whole : (j : ℕ) → j ≤ gates J.circuit → values O J j ≡ values whole_numbers J j
-  unfolding values value_of plainInput
+  unfolding values value_of plain_input
   values_whole zero h = refl
   values_whole (suc j) h =
       let e = values_whole j (omega arith) in

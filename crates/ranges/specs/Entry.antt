@@ -5,11 +5,11 @@ use Rattle.circuit.specs.Verdict.{Verdict, Accepted, Refused, ask, ◌then◌, e
 use Rattle.circuit.specs.Gate.{gate, gates}
 use Rattle.circuit.specs.Kind.{is_in}
 use Rattle.circuit.specs.Count.{in_count, out_count}
-use Rattle.circuit.specs.Accept.{askCircuit}
+use Rattle.circuit.specs.Accept.{ask_circuit}
 use Rattle.protocol.specs.Ask.{ask_parties}
 use Rattle.protocol.specs.Send.{overwrite}
-use Rattle.ranges.specs.Interval.{Interval, interval_size, interval_at, intervals, gateStays}
-use Rattle.ranges.specs.Move.{Change, Nothing, Of, scoreMoves}
+use Rattle.ranges.specs.Interval.{Interval, interval_size, interval_at, intervals, gate_stays}
+use Rattle.ranges.specs.Move.{Change, Nothing, Of, score_moves}
 
 -- what the tool is lent, beside the lists that it writes: "From a list giving each in line .. its lowest then its highest number"; "Given also one in
 -- line and its largest change"
@@ -74,31 +74,31 @@ ask_rooms c change room move_room = ask 18 0 (leb (interval_size * gates c) room
 -- "It names the first line that is an over or leaves 0 to p − 1", of the gates before j
 unfoldable pub finding : ℕ → List ℕ → List ℕ → ℕ → Answer
 finding q c ranges zero = Fits
-finding q c ranges (suc j) = onward (finding q c ranges j) (cond (gateStays q c ranges j) Fits (Leaves j))
+finding q c ranges (suc j) = onward (finding q c ranges j) (cond (gate_stays q c ranges j) Fits (Leaves j))
 
 -- "each score's move", if a change is given
 unfoldable pub moves_told : ℕ → List ℕ → List ℕ → Change → List ℕ
 moves_told q c ranges Nothing = []
-moves_told q c ranges (Of line amount) = scoreMoves q c ranges (Of line amount) (gates c)
+moves_told q c ranges (Of line amount) = score_moves q c ranges (Of line amount) (gates c)
 
 -- all questions, the answer and the lists, over a field of q elements
 module _ (q : ℕ) (Q : Query) where
   -- 1, 3 to 7, then 26 and 27 "in turn after 7", and 18 last
-  unfoldable pub askFit : ℕ → ℕ → Verdict
-  askFit room move_room =
+  unfoldable pub ask_fit : ℕ → ℕ → Verdict
+  ask_fit room move_room =
       ask_parties Q.parties
-      then askCircuit Q.parties q Q.circuit
+      then ask_circuit Q.parties q Q.circuit
       then ask_ranges q Q.circuit Q.ranges
       then ask_change Q.circuit Q.change
       then ask_rooms Q.circuit Q.change room move_room
 
-  unfoldable pub fitAnswer : ℕ → ℕ → Answer
-  fitAnswer room move_room = answer (askFit room move_room) (finding q Q.circuit Q.ranges (gates Q.circuit))
+  unfoldable pub fit_answer : ℕ → ℕ → Answer
+  fit_answer room move_room = answer (ask_fit room move_room) (finding q Q.circuit Q.ranges (gates Q.circuit))
 
   -- "Written are each line's interval .. and, if a change is given, each score's move in a second list.": the two lists afterwards
-  unfoldable pub fitIntervals : List ℕ → ℕ → List ℕ
-  fitIntervals list move_room =
-      where_fits (fitAnswer (length list) move_room) (overwrite (intervals q Q.circuit Q.ranges (gates Q.circuit)) list) list
+  unfoldable pub fit_intervals : List ℕ → ℕ → List ℕ
+  fit_intervals list move_room =
+      where_fits (fit_answer (length list) move_room) (overwrite (intervals q Q.circuit Q.ranges (gates Q.circuit)) list) list
 
-  unfoldable pub fitMoves : ℕ → List ℕ → List ℕ
-  fitMoves room list = where_fits (fitAnswer room (length list)) (overwrite (moves_told q Q.circuit Q.ranges Q.change) list) list
+  unfoldable pub fit_moves : ℕ → List ℕ → List ℕ
+  fit_moves room list = where_fits (fit_answer room (length list)) (overwrite (moves_told q Q.circuit Q.ranges Q.change) list) list

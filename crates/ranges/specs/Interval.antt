@@ -73,5 +73,5 @@ module _ (q : ℕ) (c ranges : List ℕ) where
   intervals (suc j) = let es = intervals j in es ++ ends (reach es j)
 
   -- does gate j stay within 0 to p − 1? It is asked where all gates before it do
-  unfoldable pub gateStays : ℕ → Bool
-  gateStays j = stays (reach (intervals j) j)
+  unfoldable pub gate_stays : ℕ → Bool
+  gate_stays j = stays (reach (intervals j) j)

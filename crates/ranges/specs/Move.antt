@@ -36,8 +36,8 @@ capped q m = cond (ltb m q) m (q - 1)
 
 module _ (q : ℕ) (c ranges : List ℕ) (change : Change) where
   -- the move of gate j, where the gates before it have the intervals es and the moves ms
-  unfoldable pub gateMove : List ℕ → List ℕ → ℕ → ℕ
-  gateMove es ms j =
+  unfoldable pub gate_move : List ℕ → List ℕ → ℕ → ℕ
+  gate_move es ms j =
       capped q
       (kind_move (gate c j).kind (change_at change j) (interval_at es (gate c j).first) (interval_at es (gate c j).second)
       (get_or ms (gate c j).first 0) (get_or ms (gate c j).second 0) (gate c j).constant)
@@ -45,10 +45,10 @@ module _ (q : ℕ) (c ranges : List ℕ) (change : Change) where
   -- the moves of the gates before j
   unfoldable pub moves : ℕ → List ℕ
   moves zero = []
-  moves (suc j) = let ms = moves j in ms ++ (gateMove (intervals q c ranges j) ms j ∷ [])
+  moves (suc j) = let ms = moves j in ms ++ (gate_move (intervals q c ranges j) ms j ∷ [])
 
   -- "each score's move": of each output before j that of the gate that it names, in the order in which the joint run lists the scores
-  unfoldable pub scoreMoves : ℕ → List ℕ
-  scoreMoves zero = []
-  scoreMoves (suc j) =
-      scoreMoves j ++ cond (is_out (gate c j)) (get_or (moves (gates c)) (gate c j).first 0 ∷ []) []
+  unfoldable pub score_moves : ℕ → List ℕ
+  score_moves zero = []
+  score_moves (suc j) =
+      score_moves j ++ cond (is_out (gate c j)) (get_or (moves (gates c)) (gate c j).first 0 ∷ []) []

@@ -6,10 +6,10 @@ use Rattle.circuit.specs.Gate.{Sub, Over, gate, gates}
 use Rattle.circuit.specs.Kind.{is_in}
 use Rattle.circuit.specs.Count.{out_count}
 use Rattle.protocol.specs.Joint.{Joint}
-use Rattle.protocol.specs.Plain.{plainInput, value, scoresSeen, scores}
+use Rattle.protocol.specs.Plain.{plain_input, value, scores_seen, scores}
 use Rattle.ranges.specs.Interval.{Interval, interval_at, range_at}
 use Rattle.ranges.specs.Move.{Change, Of}
-use Rattle.ranges.specs.Entry.{Query, query_of, Fits, fitAnswer, fitIntervals, fitMoves}
+use Rattle.ranges.specs.Entry.{Query, query_of, Fits, fit_answer, fit_intervals, fit_moves}
 
 -- "the whole-number result": the circuit's value on plain inputs, by its own definition, at sums, differences and products of whole numbers, of which none
 -- is reduced. Two things that whole numbers from 0 on do not have stand in for themselves: a difference below 0 is 0, and an inverse is 0. Where it
@@ -32,7 +32,7 @@ pub record Within (i : Interval) (v : ℕ) : Type 0 where
 -- "all inputs in range": that of each in gate
 abbrev pub InRange : Joint → List ℕ → Type 0
 InRange J ranges =
-    (j : ℕ) → j < gates J.circuit → is_in (gate J.circuit j) ≡ true → Within (range_at J.circuit ranges j) (plainInput whole_numbers J j)
+    (j : ℕ) → j < gates J.circuit → is_in (gate J.circuit j) ≡ true → Within (range_at J.circuit ranges j) (plain_input whole_numbers J j)
 
 -- what a run's parties and circuit are asked
 abbrev pub asking : Joint → List ℕ → Change → Query
@@ -44,19 +44,19 @@ module _ (O : Ops) (J : Joint) (ranges : List ℕ) (change : Change) (es ms : Li
 
   -- the tool answers that it fits
   abbrev pub ItFits : Type 0
-  ItFits = fitAnswer size (asking J ranges change) (length es) (length ms) ≡ Fits
+  ItFits = fit_answer size (asking J ranges change) (length es) (length ms) ≡ Fits
 
   -- the intervals and the moves that stand in the two lists afterwards
-  abbrev pub intervalTold : ℕ → Interval
-  intervalTold j = interval_at (fitIntervals size (asking J ranges change) es (length ms)) j
+  abbrev pub interval_told : ℕ → Interval
+  interval_told j = interval_at (fit_intervals size (asking J ranges change) es (length ms)) j
 
-  abbrev pub moveTold : ℕ → ℕ
-  moveTold s = get_or (fitMoves size (asking J ranges change) (length es) ms) s 0
+  abbrev pub move_told : ℕ → ℕ
+  move_told s = get_or (fit_moves size (asking J ranges change) (length es) ms) s 0
 
   -- "otherwise every score equals the whole-number result for all inputs in range"
   pub record Whole : Type 0 where
     -- the whole number of each gate lies in the interval that is told of it; of an output, which has no value, 0 keeps the place
-    pub within : (j : ℕ) → j < gates J.circuit → Within (intervalTold j) (value whole_numbers J j)
+    pub within : (j : ℕ) → j < gates J.circuit → Within (interval_told j) (value whole_numbers J j)
     -- no difference falls below 0
     pub exact : (j : ℕ)
         → j < gates J.circuit
@@ -66,7 +66,7 @@ module _ (O : Ops) (J : Joint) (ranges : List ℕ) (change : Change) (es ms : Li
     -- "every line with a value" has its whole number, modulo p or not
     pub values : (j : ℕ) → j < gates J.circuit → value O J j ≡ value whole_numbers J j
     -- and so has every score, of an out or a give, whoever sees it
-    pub same_scores : (A : ℕ → Bool) → scoresSeen O J A (gates J.circuit) ≡ scoresSeen whole_numbers J A (gates J.circuit)
+    pub same_scores : (A : ℕ → Bool) → scores_seen O J A (gates J.circuit) ≡ scores_seen whole_numbers J A (gates J.circuit)
 
 -- that promise, for all circuits, ranges, inputs in range, and whatever change and lists are lent
 abbrev pub FitsWhole : Ops → Type 0
@@ -89,15 +89,15 @@ pub record Changed (J K : Joint) (line amount : ℕ) : Type 0 where
       → j < gates J.circuit
       → is_in (gate J.circuit j) ≡ true
       → (j ≡ line → ⊥)
-      → plainInput whole_numbers K j ≡ plainInput whole_numbers J j
-  pub there : Near amount (plainInput whole_numbers J line) (plainInput whole_numbers K line)
+      → plain_input whole_numbers K j ≡ plain_input whole_numbers J j
+  pub there : Near amount (plain_input whole_numbers J line) (plain_input whole_numbers K line)
 
 -- "it bounds each score's move": the whole numbers of score s differ by at most the move that is told of it
 pub record Moved (O : Ops) (J K : Joint) (ranges : List ℕ) (line amount : ℕ) (es ms : List ℕ) : Type 0 where
   pub as_many : length (scores whole_numbers J (gates J.circuit)) ≡ out_count J.circuit
   pub near : (s : ℕ)
       → s < out_count J.circuit
-      → Near (moveTold O J ranges (Of line amount) es ms s) (get_or (scores whole_numbers J (gates J.circuit)) s 0)
+      → Near (move_told O J ranges (Of line amount) es ms s) (get_or (scores whole_numbers J (gates J.circuit)) s 0)
       (get_or (scores whole_numbers K (gates K.circuit)) s 0)
 
 abbrev pub MovesBound : Ops → Type 0

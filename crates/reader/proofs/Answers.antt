@@ -23,36 +23,36 @@ module _ {text table : List ℕ} {naming : Bool} {from : ℕ} {r : Number} (e : 
   unfolding NumberRead
   number_is q = rw q at e
 
-  pub number-dies : {index : ℕ} → r ≡ N.Dies index → NumberDies text table naming from index
+  pub number_dies : {index : ℕ} → r ≡ N.Dies index → NumberDies text table naming from index
   unfolding NumberRead
-  number-dies q = rw q at e
+  number_dies q = rw q at e
 
 module _ {text : List ℕ} {any o : Bool} {from : ℕ} {r : Spelt} (e : WordRead text any o from r) where
   pub word_is_lem : {h : Head} {to : ℕ} → r ≡ S.Is h to → WordIs text any o from h to
   unfolding WordRead
   word_is_lem q = rw q at e
 
-  pub word-dies : {index : ℕ} → r ≡ S.Dies index → WordDies text any o from index
+  pub word_dies : {index : ℕ} → r ≡ S.Dies index → WordDies text any o from index
   unfolding WordRead
-  word-dies q = rw q at e
+  word_dies q = rw q at e
 
-pub form-done : {place : Place} {text table before later : List ℕ} {from left count : ℕ} {r : Outcome}
+pub form_done : {place : Place} {text table before later : List ℕ} {from left count : ℕ} {r : Outcome}
     → Told place text table before later from left count r
     → {to total wire : ℕ} {mark : Bool} → r ≡ O.Done to total wire mark → Made place text table before later from left count to total wire mark
 unfolding Told
-form-done e q = rw q at e
+form_done e q = rw q at e
 
-pub form-refused : {place : Place} {text table : List ℕ} (before later : List ℕ) {from left count : ℕ} {r : Outcome}
+pub form_refused : {place : Place} {text table : List ℕ} (before later : List ℕ) {from left count : ℕ} {r : Outcome}
     → Told place text table before later from left count r
     → {number index : ℕ} → r ≡ O.Refused number index → Stopped place text table from left count number index
 unfolding Told
-form-refused before later e q = rw q at e
+form_refused before later e q = rw q at e
 
-pub rows-done : {text later : List ℕ} {r : Reading} → RowsTold text later r → {count : ℕ} → r ≡ R.Done count → RowsRead text later count
+pub rows_done : {text later : List ℕ} {r : Reading} → RowsTold text later r → {count : ℕ} → r ≡ R.Done count → RowsRead text later count
 unfolding RowsTold
-rows-done e q = rw q at e
+rows_done e q = rw q at e
 
-pub rows-refused : (text later : List ℕ) {r : Reading} → RowsTold text later r
+pub rows_refused : (text later : List ℕ) {r : Reading} → RowsTold text later r
     → {number index : ℕ} → r ≡ R.Refused number index → reading largest text ≡ No number index
 unfolding RowsTold
-rows-refused text later e q = rw q at e
+rows_refused text later e q = rw q at e

@@ -3,7 +3,7 @@
 use Rattle.std.specs.Prelude.{ℕ, ◌+◌, ◌*◌, ◌^◌, ◌<◌, ◌≤◌, ◌≡◌, Bool, true, List, [], ◌∷◌, ◌++◌, length, take, drop, leb}
 use Rattle.circuit.specs.Verdict.{Verdict, ask, ◌then◌}
 use Rattle.circuit.specs.Gate.{gate_size, gates}
-use Rattle.circuit.specs.Accept.{most_gates, askCircuit}
+use Rattle.circuit.specs.Accept.{most_gates, ask_circuit}
 use Rattle.protocol.specs.Send.{overwrite}
 use Rattle.protocol.specs.Entry.{leave}
 use Rattle.field.specs.Words.{size, largest}
@@ -118,7 +118,7 @@ RowsTold text later (R.Refused number index) = reading largest text ≡ No numbe
 
 -- questions 3 to 7, then 18
 unfoldable pub ask_settled : ℕ → List ℕ → ℕ → Verdict
-ask_settled n c room = askCircuit n size c then ask 18 0 (leb (length c) room)
+ask_settled n c room = ask_circuit n size c then ask 18 0 (leb (length c) room)
 
 pub record Settled (n : ℕ) (c before later : List ℕ) (r : Answer) : Type 0 where
   pub answers : answer_of r ≡ E.answer (ask_settled n c (length before)) (gates c)

@@ -6,7 +6,7 @@ pub mod rows;
 
 ghost use Rattle.std.specs.Prelude.{◌≡◌, length};
 ghost use Rattle.field.specs.Words.{size, largest};
-ghost use Rattle.forms.specs.Entry.{readAnswer, readCircuit};
+ghost use Rattle.forms.specs.Entry.{read_answer, read_circuit};
 ghost use Rattle.forms.specs.Code.{answer_of};
 ghost use Rattle.reader.specs.Code.{Settled};
 
@@ -78,8 +78,8 @@ fn settle(parties: usize, read: &[Word], circuit: &mut [Word]) -> Answer
 
 // The entry. The text is read into a list of the reader's own, so that nothing is written on a refusal.
 pub fn read_sheet(parties: usize, text: &[u8], circuit: &mut [Word]) -> Answer
-    ensures { (answer_of result ≡ readAnswer parties size largest text.now (length circuit.old))
-        × (circuit.new ≡ readCircuit parties size largest text.now circuit.old) }
+    ensures { (answer_of result ≡ read_answer parties size largest text.now (length circuit.old))
+        × (circuit.new ≡ read_circuit parties size largest text.now circuit.old) }
 {
     match asking::ask_parties(parties) {
         Verdict::Refused { number, index } => {

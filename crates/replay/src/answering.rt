@@ -15,27 +15,30 @@ use requests::naming::{
 use requests::request::{
     CIRCUIT_ROOM, INPUTS_ROOM, NONCES_ROOM, PREP_ROOM, ROOM, Request, WORDS_ROOM, part, within,
 };
+use std::io;
+use std::io::Write;
 
-fn print_joint(answer: JointAnswer) {
+fn print_joint<W: Write>(to: &mut W, answer: JointAnswer) -> io::Result<()> {
     match answer {
-        JointAnswer::Refusal { number, index } => print_refusal(number, index),
+        JointAnswer::Refusal { number, index } => print_refusal(to, number, index),
         JointAnswer::Done(rounds) => {
-            print_named(b"done", rounds);
-            printing::print(b"\n");
+            print_named(to, b"done", rounds)?;
+            printing::print(to, b"\n")
         }
         JointAnswer::Aborted {
             gate,
             blame,
             rounds,
         } => {
-            print_named(b"stopped", gate);
-            printing::print_number(rounds as u64);
-            print_blame(blame);
+            print_named(to, b"stopped", gate)?;
+            printing::print_number(to, rounds as u64)?;
+            print_blame(to, blame)
         }
     }
 }
 
-pub fn answer_joint(
+pub fn answer_joint<W: Write>(
+    to: &mut W,
     request: Request,
     c: &[Word],
     preps: &[Word],
@@ -45,7 +48,7 @@ pub fn answer_joint(
     nonces: &[u8],
     transcript: &mut [Word],
     outputs: &mut [Word],
-) {
+) -> io::Result<()> {
     let read = request.read;
     let parties = read[PARTIES];
     let answer = joint::joint_run(
@@ -59,53 +62,61 @@ pub fn answer_joint(
         transcript,
         outputs,
     );
-    print_joint(answer);
+    print_joint(to, answer)?;
     if request.entry == JOINT {
-        print_lists(scratch, transcript, outputs);
+        print_lists(to, scratch, transcript, outputs)
     } else {
-        print_shown(parties, c, answer, transcript, outputs);
+        print_shown(to, parties, c, answer, transcript, outputs)
     }
 }
 
 // The lists that a joint run may write.
-fn print_lists(scratch: &[Word], transcript: &[Word], outputs: &[Word]) {
-    printing::print_list(b"scratch", scratch);
-    printing::print_list(b"transcript", transcript);
-    printing::print_list(b"outputs", outputs);
+fn print_lists<W: Write>(
+    to: &mut W,
+    scratch: &[Word],
+    transcript: &[Word],
+    outputs: &[Word],
+) -> io::Result<()> {
+    printing::print_list(to, b"scratch", scratch)?;
+    printing::print_list(to, b"transcript", transcript)?;
+    printing::print_list(to, b"outputs", outputs)
 }
 
 // A joint run for a reader: the rounds made, and the outputs of a finished run.
-fn print_shown(
+fn print_shown<W: Write>(
+    to: &mut W,
     parties: u32,
     c: &[Word],
     answer: JointAnswer,
     transcript: &[Word],
     outputs: &[Word],
-) {
+) -> io::Result<()> {
     match answer {
         JointAnswer::Refusal {
             number: _,
             index: _,
-        } => {}
+        } => Ok(()),
         JointAnswer::Done(rounds) => {
             let outs = part(
-                printing::print_rounds(parties, c, rounds, transcript),
+                printing::print_rounds(to, parties, c, rounds, transcript)?,
                 outputs,
             );
-            printing::print_list(b"out", &outputs[..outs]);
+            printing::print_list(to, b"out", &outputs[..outs])
         }
         JointAnswer::Aborted {
             gate: _,
             blame: _,
             rounds,
         } => {
-            printing::print_rounds(parties, c, rounds, transcript);
+            printing::print_rounds(to, parties, c, rounds, transcript)?;
+            Ok(())
         }
     }
 }
 
 // Calls the entry of a request on what it is lent.
-fn call(
+fn call<W: Write>(
+    to: &mut W,
     request: Request,
     c: &[Word],
     prep: &[Word],
@@ -115,30 +126,31 @@ fn call(
     nonces: &[u8],
     out: &mut [Word],
     outputs: &mut [Word],
-) {
+) -> io::Result<()> {
     let entry = request.entry;
     match entry {
-        OPEN => answer_open(request, c, prep, inputs, scratch),
-        SEND => answer_send(request, c, prep, inputs, scratch, words, nonces, out),
-        RECEIVE => answer_receive(request, c, prep, inputs, scratch, words),
+        OPEN => answer_open(to, request, c, prep, inputs, scratch),
+        SEND => answer_send(to, request, c, prep, inputs, scratch, words, nonces, out),
+        RECEIVE => answer_receive(to, request, c, prep, inputs, scratch, words),
         JOINT | SHOW => {
             answer_joint(
-                request, c, prep, inputs, scratch, words, nonces, out, outputs,
+                to, request, c, prep, inputs, scratch, words, nonces, out, outputs,
             )
         }
-        READ => answer_read(request, c, out),
-        WRITE => answer_write(request, c, out),
+        READ => answer_read(to, request, c, out),
+        WRITE => answer_write(to, request, c, out),
         SCORE => {
             answer_score(
-                request, c, prep, inputs, scratch, words, nonces, out, outputs,
+                to, request, c, prep, inputs, scratch, words, nonces, out, outputs,
             )
         }
-        _ => {}
+        _ => Ok(()),
     }
 }
 
 // Calls the entry on nonces, whose bytes are put into a room.
-fn call_bytes(
+fn call_bytes<W: Write>(
+    to: &mut W,
     request: Request,
     c: &[Word],
     prep: &[Word],
@@ -149,15 +161,18 @@ fn call_bytes(
     room: &mut [u8],
     out: &mut [Word],
     outputs: &mut [Word],
-)
+) -> io::Result<()>
     requires { length nonces.now ≡ length room.old }
 {
     to_bytes(nonces, room);
-    call(request, c, prep, inputs, scratch, words, room, out, outputs);
+    call(
+        to, request, c, prep, inputs, scratch, words, room, out, outputs,
+    )
 }
 
 // Calls the entry on nonces. No list of a request is longer than the room.
-fn call_roomed(
+fn call_roomed<W: Write>(
+    to: &mut W,
     request: Request,
     c: &[Word],
     prep: &[Word],
@@ -167,13 +182,14 @@ fn call_roomed(
     nonces: &[Word],
     out: &mut [Word],
     outputs: &mut [Word],
-) {
+) -> io::Result<()> {
     if ROOM < nonces.len() {
-        return;
+        return Ok(());
     }
     let n = nonces.len();
     let mut room = byte_room();
     call_bytes(
+        to,
         request,
         c,
         prep,
@@ -184,11 +200,12 @@ fn call_roomed(
         &mut room[..n],
         out,
         outputs,
-    );
+    )
 }
 
 // Calls the entry on the nonces that were read, which begin their room.
-fn call_noncing(
+fn call_noncing<W: Write>(
+    to: &mut W,
     request: Request,
     c: &[Word],
     prep: &[Word],
@@ -198,12 +215,13 @@ fn call_noncing(
     nonces: &[Word],
     out: &mut [Word],
     outputs: &mut [Word],
-)
+) -> io::Result<()>
     requires { 65536 ≤ length nonces.now }
 {
     let read = request.read;
     let count = within(read[NONCES] as usize);
     call_roomed(
+        to,
         request,
         c,
         prep,
@@ -213,17 +231,18 @@ fn call_noncing(
         &nonces[..count],
         out,
         outputs,
-    );
+    )
 }
 
 // Calls the entry on the part that was read of each list that it only reads.
-fn call_given(
+fn call_given<W: Write>(
+    to: &mut W,
     request: Request,
     given: &[Word],
     scratch: &mut [Word],
     out: &mut [Word],
     outputs: &mut [Word],
-)
+) -> io::Result<()>
     requires { 327680 ≤ length given.now }
 {
     let read = request.read;
@@ -232,6 +251,7 @@ fn call_given(
     let i = INPUTS_ROOM + within(read[INPUTS] as usize);
     let w = WORDS_ROOM + within(read[WORDS] as usize);
     call_noncing(
+        to,
         request,
         &given[CIRCUIT_ROOM..c],
         &given[PREP_ROOM..p],
@@ -241,17 +261,18 @@ fn call_given(
         &given[NONCES_ROOM..],
         out,
         outputs,
-    );
+    )
 }
 
 // The answer to a whole request. Each list is the part of its room that was read.
-pub fn answer(
+pub fn answer<W: Write>(
+    to: &mut W,
     request: Request,
     given: &[Word],
     scratch: &mut [Word],
     out: &mut [Word],
     outputs: &mut [Word],
-)
+) -> io::Result<()>
     requires { 327680 ≤ length given.now }
 {
     let read = request.read;
@@ -259,10 +280,11 @@ pub fn answer(
     let o = part(read[OUT] as usize, out);
     let q = part(read[OUTPUTS] as usize, outputs);
     call_given(
+        to,
         request,
         given,
         &mut scratch[..s],
         &mut out[..o],
         &mut outputs[..q],
-    );
+    )
 }

@@ -1,18 +1,19 @@
-// Reads requests as text from standard input, and prints their answers, as docs/REPLAY.md says.
+// Reads requests as text from standard input, and prints their answers, as docs/REPLAY.md says. A read or a write that fails ends the program with its error.
 #![tactic(auto)]
 
 mod answering;
 mod sheets;
 
 ghost use Rattle.std.specs.Prelude.{◌<◌, ◌≤◌, ◌≡◌, length};
-ghost use Rattle.io.specs.Counts.{IsPrefixLen};
+ghost use Rattle.std.specs.Io.{ReadsAtMost};
 
 use field::Word;
-use libc::STDIN_FILENO;
 use requests::naming::{COMPLETE, NO_ENTRY, OUTSIDE};
 use requests::reading::shorter;
 use requests::request::{Request, dropped, started};
 use requests::{reading, storing};
+use std::io;
+use std::io::{Read, Write};
 
 const LINE_FEED: u8 = 10;
 
@@ -40,6 +41,13 @@ fn given_room() -> [Word; 327680]
     ensures { 327680 ≡ length result }
 {
     [0; 327680]
+}
+
+// Room for a piece of the input, with its length.
+fn piece_room() -> [u8; 65536]
+    ensures { 65536 ≡ length result }
+{
+    [0; 65536]
 }
 
 // Room for a line, with its length.
@@ -73,7 +81,8 @@ fn put_byte(line: &mut [u8], b: u8, course: Course) -> Course {
 }
 
 // A whole line. A request that is complete is answered.
-fn take_line(
+fn take_line<W: Write>(
+    to: &mut W,
     number: u64,
     line: &[u8],
     request: Request,
@@ -81,41 +90,52 @@ fn take_line(
     scratch: &mut [Word],
     out: &mut [Word],
     outputs: &mut [Word],
-) -> Request
+) -> io::Result<Request>
     requires { 327680 ≤ length given.old }
 {
-    let read = storing::read_line(number, line, request, given, scratch, out, outputs);
+    let read = storing::read_line(to, number, line, request, given, scratch, out, outputs)?;
     if read.wanted == COMPLETE {
-        answering::answer(read, given, scratch, out, outputs);
-        return started(NO_ENTRY, OUTSIDE);
+        answering::answer(to, read, given, scratch, out, outputs)?;
+        return Ok(started(NO_ENTRY, OUTSIDE));
     }
-    read
+    Ok(read)
 }
 
 // The end of a line.
-fn end_line(
+fn end_line<W: Write>(
+    to: &mut W,
     line: &[u8],
     course: Course,
     given: &mut [Word],
     scratch: &mut [Word],
     out: &mut [Word],
     outputs: &mut [Word],
-) -> Course
+) -> io::Result<Course>
     requires { 327680 ≤ length given.old }
 {
     let number = course.number;
     let request = course.request;
     if course.long {
-        reading::complain(number, b"more than 1048576 bytes");
-        return next_line(number, dropped(request));
+        reading::complain(to, number, b"more than 1048576 bytes")?;
+        return Ok(next_line(number, dropped(request)));
     }
     let end = shorter(course.length, line.len());
-    let next = take_line(number, &line[0..end], request, given, scratch, out, outputs);
-    next_line(number, next)
+    let next = take_line(
+        to,
+        number,
+        &line[0..end],
+        request,
+        given,
+        scratch,
+        out,
+        outputs,
+    )?;
+    Ok(next_line(number, next))
 }
 
 // A byte of the input.
-fn take_byte(
+fn take_byte<W: Write>(
+    to: &mut W,
     b: u8,
     line: &mut [u8],
     course: Course,
@@ -123,17 +143,18 @@ fn take_byte(
     scratch: &mut [Word],
     out: &mut [Word],
     outputs: &mut [Word],
-) -> Course
+) -> io::Result<Course>
     requires { 327680 ≤ length given.old }
 {
     if b == LINE_FEED {
-        return end_line(line, course, given, scratch, out, outputs);
+        return end_line(to, line, course, given, scratch, out, outputs);
     }
-    put_byte(line, b, course)
+    Ok(put_byte(line, b, course))
 }
 
 // A piece of the input.
-fn feed(
+fn feed<W: Write>(
+    to: &mut W,
     piece: &[u8],
     line: &mut [u8],
     course: Course,
@@ -141,44 +162,44 @@ fn feed(
     scratch: &mut [Word],
     out: &mut [Word],
     outputs: &mut [Word],
-) -> Course
+) -> io::Result<Course>
     requires { 327680 ≤ length given.old }
 {
     let mut now = course;
     let mut i = 0;
     while i < piece.len() {
-        now = take_byte(piece[i], line, now, given, scratch, out, outputs);
+        now = take_byte(to, piece[i], line, now, given, scratch, out, outputs)?;
         i += 1;
     }
-    now
+    Ok(now)
 }
 
 // The end of the input. A last line may lack its line feed.
-fn finish(
+fn finish<W: Write>(
+    to: &mut W,
     line: &[u8],
     course: Course,
     given: &mut [Word],
     scratch: &mut [Word],
     out: &mut [Word],
     outputs: &mut [Word],
-)
+) -> io::Result<()>
     requires { 327680 ≤ length given.old }
 {
     if course.length == 0 {
         let request = course.request;
-        reading::take_end(course.number, request);
-        return;
+        return reading::take_end(to, course.number, request);
     }
-    let last = end_line(line, course, given, scratch, out, outputs);
+    let last = end_line(to, line, course, given, scratch, out, outputs)?;
     let request = last.request;
-    reading::take_end(last.number, request);
+    reading::take_end(to, last.number, request)
 }
 
 // Reads a piece of the input. How many bytes it has.
-fn read_piece(piece: &mut [u8]) -> usize
-    ensures { IsPrefixLen result piece.new }
+fn read_piece<R: Read>(from: &mut R, piece: &mut [u8]) -> io::Result<usize>
+    ensures { ReadsAtMost result piece.new }
 {
-    io::count(libc::read(STDIN_FILENO, piece), piece)
+    from.read(piece)
 }
 
 // How many reads may follow one that brought so many bytes: none after the end of the input.
@@ -190,39 +211,52 @@ fn turns_left(left: u64, count: usize) -> u64
 }
 
 // All of the input, piece by piece.
-fn replay(
+fn replay<R: Read, W: Write>(
+    from: &mut R,
+    to: &mut W,
     piece: &mut [u8],
     line: &mut [u8],
     given: &mut [Word],
     scratch: &mut [Word],
     out: &mut [Word],
     outputs: &mut [Word],
-)
+) -> io::Result<()>
     requires { 327680 ≤ length given.old }
 {
     let mut course = next_line(0, started(NO_ENTRY, OUTSIDE));
     let mut left = MOST;
     while 0 < left {
-        let count = read_piece(piece);
-        course = feed(&piece[..count], line, course, given, scratch, out, outputs);
+        let count = read_piece(from, piece)?;
+        course = feed(
+            to,
+            &piece[..count],
+            line,
+            course,
+            given,
+            scratch,
+            out,
+            outputs,
+        )?;
         left = turns_left(left, count);
     }
-    finish(line, course, given, scratch, out, outputs);
+    finish(to, line, course, given, scratch, out, outputs)
 }
 
-fn main() {
-    let mut piece = io::large_buffer();
+fn main(rt: HostRuntime) -> io::Result<()> {
+    let mut piece = piece_room();
     let mut line = line_room();
     let mut given = given_room();
     let mut scratch = list_room();
     let mut out = list_room();
     let mut outputs = list_room();
     replay(
+        &mut rt.stdin(),
+        &mut rt.stdout(),
         &mut piece,
         &mut line,
         &mut given,
         &mut scratch,
         &mut out,
         &mut outputs,
-    );
+    )
 }

@@ -1,7 +1,7 @@
 // The entries that one party calls, and their answers.
 ghost use Rattle.std.specs.Prelude.{◌≡◌, length};
 ghost use Rattle.field.specs.Words.{ops};
-ghost use Rattle.protocol.specs.Entry.{sendOut, sendScratch, receiveScratch};
+ghost use Rattle.protocol.specs.Entry.{send_out, send_scratch, receive_scratch};
 ghost use Rattle.party.specs.Code.{position_of};
 ghost use Rattle.requests.specs.Calls.{party_in};
 
@@ -10,75 +10,86 @@ use crate::request::Request;
 use field::Word;
 use party::{Answer, Position};
 use protocol::Blame;
+use std::io;
+use std::io::Write;
 
 // A name and a number, with which a line of an answer begins.
-pub fn print_named(name: &[u8], n: usize) {
-    printing::print(name);
-    printing::print_number(n as u64);
+pub fn print_named<W: Write>(to: &mut W, name: &[u8], n: usize) -> io::Result<()> {
+    printing::print(to, name)?;
+    printing::print_number(to, n as u64)
 }
 
 // A gate, a stage and a check share.
-fn print_place(at: Position) {
+fn print_place<W: Write>(to: &mut W, at: Position) -> io::Result<()> {
     let stage = at.stage;
-    printing::print_number(at.gate as u64);
-    print_stage(stage);
-    printing::print_number(at.held as u64);
+    printing::print_number(to, at.gate as u64)?;
+    print_stage(to, stage)?;
+    printing::print_number(to, at.held as u64)
 }
 
-fn print_position(at: Position) {
-    print_place(at);
-    printing::print(b"\n");
+fn print_position<W: Write>(to: &mut W, at: Position) -> io::Result<()> {
+    print_place(to, at)?;
+    printing::print(to, b"\n")
 }
 
 // Whom a stop names, if anybody, and the end of the line.
-pub fn print_blame(blame: Blame) {
+pub fn print_blame<W: Write>(to: &mut W, blame: Blame) -> io::Result<()> {
     match blame {
-        Blame::Nobody => printing::print(b"\n"),
+        Blame::Nobody => printing::print(to, b"\n"),
         Blame::Blames(i) => {
-            print_named(b" party", i);
-            printing::print(b"\n");
+            print_named(to, b" party", i)?;
+            printing::print(to, b"\n")
         }
     }
 }
 
-pub fn print_refusal(number: u32, index: usize) {
-    print_named(b"refusal", number as usize);
-    printing::print_number(index as u64);
-    printing::print(b"\n");
+pub fn print_refusal<W: Write>(to: &mut W, number: u32, index: usize) -> io::Result<()> {
+    print_named(to, b"refusal", number as usize)?;
+    printing::print_number(to, index as u64)?;
+    printing::print(to, b"\n")
 }
 
-fn print_answer(answer: Answer) {
+fn print_answer<W: Write>(to: &mut W, answer: Answer) -> io::Result<()> {
     match answer {
-        Answer::Refusal { number, index } => print_refusal(number, index),
+        Answer::Refusal { number, index } => print_refusal(to, number, index),
         Answer::Next(at) => {
-            printing::print(b"next");
-            print_position(at);
+            printing::print(to, b"next")?;
+            print_position(to, at)
         }
         Answer::Output(value, at) => {
-            print_named(b"output", value as usize);
-            print_position(at);
+            print_named(to, b"output", value as usize)?;
+            print_position(to, at)
         }
         Answer::Abort(blame, at) => {
-            printing::print(b"abort");
-            print_place(at);
-            print_blame(blame);
+            printing::print(to, b"abort")?;
+            print_place(to, at)?;
+            print_blame(to, blame)
         }
     }
 }
 
-pub fn answer_open(request: Request, c: &[Word], prep: &[Word], inputs: &[Word], scratch: &[Word]) {
+pub fn answer_open<W: Write>(
+    to: &mut W,
+    request: Request,
+    c: &[Word],
+    prep: &[Word],
+    inputs: &[Word],
+    scratch: &[Word],
+) -> io::Result<()> {
     let read = request.read;
-    print_answer(party::open_run(
+    let answer = party::open_run(
         read[PARTIES] as usize,
         read[PARTY] as usize,
         c,
         prep,
         inputs,
         scratch,
-    ));
+    );
+    print_answer(to, answer)
 }
 
-pub fn answer_send(
+pub fn answer_send<W: Write>(
+    to: &mut W,
     request: Request,
     c: &[Word],
     prep: &[Word],
@@ -87,13 +98,13 @@ pub fn answer_send(
     coefficients: &[Word],
     nonce: &[u8],
     out: &mut [Word],
-)
-    ensures out { out.new ≡ sendOut ops (party_in request c.now prep.now inputs.now) scratch.old (position_of request.at) coefficients.now nonce.now out.old }
-    ensures scratch { scratch.new ≡ sendScratch ops (party_in request c.now prep.now inputs.now) scratch.old (position_of request.at) coefficients.now nonce.now (length out.old) }
+) -> io::Result<()>
+    ensures out { out.new ≡ send_out ops (party_in request c.now prep.now inputs.now) scratch.old (position_of request.at) coefficients.now nonce.now out.old }
+    ensures scratch { scratch.new ≡ send_scratch ops (party_in request c.now prep.now inputs.now) scratch.old (position_of request.at) coefficients.now nonce.now (length out.old) }
 {
     let read = request.read;
     let at = request.at;
-    print_answer(party::send(
+    let answer = party::send(
         read[PARTIES] as usize,
         read[PARTY] as usize,
         c,
@@ -104,24 +115,26 @@ pub fn answer_send(
         coefficients,
         nonce,
         out,
-    ));
-    printing::print_list(b"scratch", scratch);
-    printing::print_list(b"out", out);
+    );
+    print_answer(to, answer)?;
+    printing::print_list(to, b"scratch", scratch)?;
+    printing::print_list(to, b"out", out)
 }
 
-pub fn answer_receive(
+pub fn answer_receive<W: Write>(
+    to: &mut W,
     request: Request,
     c: &[Word],
     prep: &[Word],
     inputs: &[Word],
     scratch: &mut [Word],
     heard: &[Word],
-)
-    ensures scratch { scratch.new ≡ receiveScratch ops (party_in request c.now prep.now inputs.now) scratch.old (position_of request.at) heard.now }
+) -> io::Result<()>
+    ensures scratch { scratch.new ≡ receive_scratch ops (party_in request c.now prep.now inputs.now) scratch.old (position_of request.at) heard.now }
 {
     let read = request.read;
     let at = request.at;
-    print_answer(party::receive(
+    let answer = party::receive(
         read[PARTIES] as usize,
         read[PARTY] as usize,
         c,
@@ -130,6 +143,7 @@ pub fn answer_receive(
         scratch,
         at,
         heard,
-    ));
-    printing::print_list(b"scratch", scratch);
+    );
+    print_answer(to, answer)?;
+    printing::print_list(to, b"scratch", scratch)
 }

@@ -1,11 +1,14 @@
 // The names of entries, of what they are lent, and of stages.
-ghost use Rattle.std.specs.Prelude.{◌≡◌, ◌++◌};
+ghost use Rattle.std.specs.Prelude.{◌≡◌, ◌++◌, false, IfOk, IsOk};
+ghost use Rattle.text.specs.Text.{alike};
 ghost use Rattle.text.specs.Code.{Word};
 ghost use Rattle.requests.specs.Words.{ends, nth};
 ghost use Rattle.requests.specs.Names.{field_name, round_name, stage_name, spelled, try_stage, try_round, entry_named, stage_named};
 
 use circuit::{Check, Round};
 use protocol::Stage;
+use std::io;
+use std::io::Write;
 use text::Span;
 
 // An entry is the number of its name; NO_ENTRY is none.
@@ -65,15 +68,16 @@ pub enum Named {
     None,
 }
 
-// Prints a name; or tells whether a word is it.
-fn spell(name: &[u8], printed: bool, word: &[u8]) -> bool
-    ensures { result ≡ spelled printed word.now name.now }
+// Prints a name; or tells whether a word is it, which writes nothing.
+fn spell<W: Write>(to: &mut W, name: &[u8], printed: bool, word: &[u8]) -> io::Result<bool>
+    ensures told { IfOk result (λ b. b ≡ spelled printed word.now name.now) }
+    ensures quiet { printed ≡ false → IsOk result }
 {
     if printed {
-        printing::print(name);
-        return true;
+        printing::print(to, name)?;
+        return Ok(true);
     }
-    text::same(word, name)
+    Ok(text::same(word, name))
 }
 
 // The word of a number, counted from 0.
@@ -91,13 +95,27 @@ pub fn nth_word(words: &[u8], k: usize) -> Span
 }
 
 // Prints the name of a number; or tells whether a word is it.
-fn spell_nth(names: &[u8], k: usize, printed: bool, word: &[u8]) -> bool
-    ensures { result ≡ spelled printed word.now (nth k names.now) }
+fn spell_nth<W: Write>(
+    to: &mut W,
+    names: &[u8],
+    k: usize,
+    printed: bool,
+    word: &[u8],
+) -> io::Result<bool>
+    ensures told { IfOk result (λ b. b ≡ spelled printed word.now (nth k names.now)) }
+    ensures quiet { printed ≡ false → IsOk result }
 {
     let name = nth_word(names, k);
     let start = name.start;
     let end = name.end;
-    spell(&names[start..end], printed, word)
+    spell(to, &names[start..end], printed, word)
+}
+
+// Whether a word is the name of a number.
+fn is_nth(names: &[u8], k: usize, word: &[u8]) -> bool
+    ensures { result ≡ alike word.now (nth k names.now) }
+{
+    spell_nth(&mut io::sink(), names, k, false, word).unwrap()
 }
 
 // The entry whose name a word is.
@@ -106,10 +124,9 @@ pub fn entry_named(word: &[u8]) -> usize
 {
     let mut entry = OPEN;
     while entry < NO_ENTRY {
-        if spell_nth(
+        if is_nth(
             b"open send receive joint show read write score",
             entry,
-            false,
             word,
         ) {
             return entry;
@@ -120,11 +137,19 @@ pub fn entry_named(word: &[u8]) -> usize
 }
 
 // Prints the name of an entry's field; or tells whether a word is it. A row has - where the entry lacks the field.
-pub fn spell_field(entry: usize, field: usize, printed: bool, word: &[u8]) -> bool
-    ensures { result ≡ spelled printed word.now (field_name entry field) }
+pub fn spell_field<W: Write>(
+    to: &mut W,
+    entry: usize,
+    field: usize,
+    printed: bool,
+    word: &[u8],
+) -> io::Result<bool>
+    ensures told { IfOk result (λ b. b ≡ spelled printed word.now (field_name entry field)) }
+    ensures quiet { printed ≡ false → IsOk result }
 {
     if entry == OPEN {
         return spell_nth(
+            to,
             b"parties party circuit prep inputs scratch - - - - -",
             field,
             printed,
@@ -133,6 +158,7 @@ pub fn spell_field(entry: usize, field: usize, printed: bool, word: &[u8]) -> bo
     }
     if entry == SEND {
         return spell_nth(
+            to,
             b"parties party circuit prep inputs scratch position coefficients nonce out -",
             field,
             printed,
@@ -141,6 +167,7 @@ pub fn spell_field(entry: usize, field: usize, printed: bool, word: &[u8]) -> bo
     }
     if entry == RECEIVE {
         return spell_nth(
+            to,
             b"parties party circuit prep inputs scratch position heard - - -",
             field,
             printed,
@@ -149,6 +176,7 @@ pub fn spell_field(entry: usize, field: usize, printed: bool, word: &[u8]) -> bo
     }
     if entry == READ {
         return spell_nth(
+            to,
             b"parties - text - - - - - - circuit -",
             field,
             printed,
@@ -157,6 +185,7 @@ pub fn spell_field(entry: usize, field: usize, printed: bool, word: &[u8]) -> bo
     }
     if entry == WRITE {
         return spell_nth(
+            to,
             b"parties - circuit - - - - - - text -",
             field,
             printed,
@@ -165,6 +194,7 @@ pub fn spell_field(entry: usize, field: usize, printed: bool, word: &[u8]) -> bo
     }
     if entry == SCORE {
         return spell_nth(
+            to,
             b"parties - text preps inputs scratch - coefficients nonces transcript outputs",
             field,
             printed,
@@ -172,6 +202,7 @@ pub fn spell_field(entry: usize, field: usize, printed: bool, word: &[u8]) -> bo
         );
     }
     spell_nth(
+        to,
         b"parties - circuit preps inputs scratch - coefficients nonces transcript outputs",
         field,
         printed,
@@ -179,64 +210,81 @@ pub fn spell_field(entry: usize, field: usize, printed: bool, word: &[u8]) -> bo
     )
 }
 
+// Whether a word is the name of an entry's field.
+pub fn is_field(entry: usize, field: usize, word: &[u8]) -> bool
+    ensures { result ≡ alike word.now (field_name entry field) }
+{
+    spell_field(&mut io::sink(), entry, field, false, word).unwrap()
+}
+
 // Prints the name of a round; or tells whether a word is it.
-fn spell_round(r: Round, printed: bool, word: &[u8]) -> bool
-    ensures { result ≡ spelled printed word.now (round_name r) }
+fn spell_round<W: Write>(to: &mut W, r: Round, printed: bool, word: &[u8]) -> io::Result<bool>
+    ensures told { IfOk result (λ b. b ≡ spelled printed word.now (round_name r)) }
+    ensures quiet { printed ≡ false → IsOk result }
 {
     match r {
-        Round::Own => spell(b"own", printed, word),
-        Round::Open => spell(b"show", printed, word),
+        Round::Own => spell(to, b"own", printed, word),
+        Round::Open => spell(to, b"show", printed, word),
         Round::Commit(check) => match check {
-            Check::First => spell(b"seal", printed, word),
-            Check::Second => spell(b"output-seal", printed, word),
+            Check::First => spell(to, b"seal", printed, word),
+            Check::Second => spell(to, b"output-seal", printed, word),
         },
         Round::Reveal(check) => match check {
-            Check::First => spell(b"reveal", printed, word),
-            Check::Second => spell(b"output-reveal", printed, word),
+            Check::First => spell(to, b"reveal", printed, word),
+            Check::Second => spell(to, b"output-reveal", printed, word),
         },
     }
 }
 
 // The same of one half of a round, whose name is the half's and then the round's.
-fn spell_half(half: &[u8], r: Round, printed: bool, word: &[u8]) -> bool
-    ensures { result ≡ spelled printed word.now (half.now ++ round_name r) }
+fn spell_half<W: Write>(
+    to: &mut W,
+    half: &[u8],
+    r: Round,
+    printed: bool,
+    word: &[u8],
+) -> io::Result<bool>
+    ensures told { IfOk result (λ b. b ≡ spelled printed word.now (half.now ++ round_name r)) }
+    ensures quiet { printed ≡ false → IsOk result }
 {
     if printed {
-        printing::print(half);
-        return spell_round(r, printed, word);
+        printing::print(to, half)?;
+        return spell_round(to, r, printed, word);
     }
     let n = half.len();
     if word.len() < n {
-        return false;
+        return Ok(false);
     }
     if !text::same(&word[..n], half) {
-        return false;
+        return Ok(false);
     }
-    spell_round(r, printed, &word[n..])
+    spell_round(to, r, printed, &word[n..])
 }
 
 // Prints the name of a stage; or tells whether a word is it.
-fn spell_stage(stage: Stage, printed: bool, word: &[u8]) -> bool
-    ensures { result ≡ spelled printed word.now (stage_name stage) }
+fn spell_stage<W: Write>(to: &mut W, stage: Stage, printed: bool, word: &[u8]) -> io::Result<bool>
+    ensures told { IfOk result (λ b. b ≡ spelled printed word.now (stage_name stage)) }
+    ensures quiet { printed ≡ false → IsOk result }
 {
     match stage {
-        Stage::Send(r) => spell_half(b"send-", r, printed, word),
-        Stage::Receive(r) => spell_half(b"receive-", r, printed, word),
-        Stage::Finished => spell(b"finished", printed, word),
-        Stage::Aborted => spell(b"aborted", printed, word),
+        Stage::Send(r) => spell_half(to, b"send-", r, printed, word),
+        Stage::Receive(r) => spell_half(to, b"receive-", r, printed, word),
+        Stage::Finished => spell(to, b"finished", printed, word),
+        Stage::Aborted => spell(to, b"aborted", printed, word),
     }
 }
 
-pub fn print_stage(stage: Stage) {
-    printing::print(b" ");
-    spell_stage(stage, true, b"");
+pub fn print_stage<W: Write>(to: &mut W, stage: Stage) -> io::Result<()> {
+    printing::print(to, b" ")?;
+    spell_stage(to, stage, true, b"")?;
+    Ok(())
 }
 
 // The stage, where a word is its name, and else another.
 fn try_stage(stage: Stage, word: &[u8], other: Named) -> Named
     ensures { result ≡ try_stage stage word.now other }
 {
-    if spell_stage(stage, false, word) {
+    if spell_stage(&mut io::sink(), stage, false, word).unwrap() {
         return Named::Stage(stage);
     }
     other

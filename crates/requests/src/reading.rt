@@ -1,15 +1,17 @@
 // Reading a line of a request.
-ghost use Rattle.std.specs.Prelude.{◌≤◌, ◌≡◌};
+ghost use Rattle.std.specs.Prelude.{◌≤◌, ◌≡◌, IfOk};
 ghost use Rattle.requests.specs.Order.{placed};
-ghost use Rattle.requests.specs.Lines as W;
+ghost use Rattle.requests.specs.Lines as L;
 ghost use Rattle.requests.specs.Lines.{one_in, position_in, goes, take_number, take_position, take_wanted, take_field, take_line};
 
 use crate::naming::{
-    COMPLETE, LOST, NO_ENTRY, Named, OUTSIDE, PARTIES, PARTY, POSITION, entry_named, nth_word,
-    spell_field, stage_named,
+    COMPLETE, LOST, NO_ENTRY, Named, OUTSIDE, PARTIES, PARTY, POSITION, entry_named, is_field,
+    nth_word, spell_field, stage_named,
 };
 use crate::request::{Request, dropped, moved_on, started, with_number, with_position};
 use party::Position;
+use std::io;
+use std::io::Write;
 use text::Numbers;
 
 const HASH: u8 = 35;
@@ -36,36 +38,36 @@ pub enum Placed {
     Fault,
 }
 
-fn print_line(number: u64) {
-    printing::print(b"line");
-    printing::print_number(number);
-    printing::print(b": ");
+fn print_line<W: Write>(to: &mut W, number: u64) -> io::Result<()> {
+    printing::print(to, b"line")?;
+    printing::print_number(to, number)?;
+    printing::print(to, b": ")
 }
 
-pub fn complain(number: u64, message: &[u8]) {
-    print_line(number);
-    printing::print(message);
-    printing::print(b"\n");
+pub fn complain<W: Write>(to: &mut W, number: u64, message: &[u8]) -> io::Result<()> {
+    print_line(to, number)?;
+    printing::print(to, message)?;
+    printing::print(to, b"\n")
 }
 
 // What was to come in a request, or outside of one.
-fn complain_wanted(number: u64, request: Request) {
-    print_line(number);
+fn complain_wanted<W: Write>(to: &mut W, number: u64, request: Request) -> io::Result<()> {
+    print_line(to, number)?;
     if request.wanted == OUTSIDE {
-        printing::print(b"the name of an entry");
+        printing::print(to, b"the name of an entry")?;
     } else {
-        spell_field(request.entry, request.wanted, true, b"");
+        spell_field(to, request.entry, request.wanted, true, b"")?;
     }
-    printing::print(b" is wanted\n");
+    printing::print(to, b" is wanted\n")
 }
 
 // What is wrong with numbers, where anything is.
-pub fn complain_numbers(number: u64, read: Numbers) {
+pub fn complain_numbers<W: Write>(to: &mut W, number: u64, read: Numbers) -> io::Result<()> {
     match read {
-        Numbers::Count(_) => {}
-        Numbers::Unlike => complain(number, b"not a number"),
-        Numbers::TooLarge => complain(number, b"a number above 4294967295"),
-        Numbers::TooMany => complain(number, b"more than 65536 numbers"),
+        Numbers::Count(_) => Ok(()),
+        Numbers::Unlike => complain(to, number, b"not a number"),
+        Numbers::TooLarge => complain(to, number, b"a number above 4294967295"),
+        Numbers::TooMany => complain(to, number, b"more than 65536 numbers"),
     }
 }
 
@@ -88,22 +90,27 @@ fn one_number(rest: &[u8]) -> One
     }
 }
 
-fn complain_one(number: u64, read: Numbers) {
+fn complain_one<W: Write>(to: &mut W, number: u64, read: Numbers) -> io::Result<()> {
     match read {
-        Numbers::TooMany => complain(number, b"one number is wanted"),
-        _ => complain_numbers(number, read),
+        Numbers::TooMany => complain(to, number, b"one number is wanted"),
+        _ => complain_numbers(to, number, read),
     }
 }
 
 // A request for which a number was wanted: that of the parties, or of this party.
-fn take_number(number: u64, rest: &[u8], request: Request) -> Request
-    ensures { result ≡ take_number rest.now request }
+fn take_number<W: Write>(
+    to: &mut W,
+    number: u64,
+    rest: &[u8],
+    request: Request,
+) -> io::Result<Request>
+    ensures { IfOk result (λ r. r ≡ take_number rest.now request) }
 {
     match one_number(rest) {
-        One::Number(n) => moved_on(with_number(request, n)),
+        One::Number(n) => Ok(moved_on(with_number(request, n))),
         One::Fault(read) => {
-            complain_one(number, read);
-            dropped(request)
+            complain_one(to, number, read)?;
+            Ok(dropped(request))
         }
     }
 }
@@ -151,14 +158,19 @@ fn position_of(gate: One, stage: Named, held: One) -> Placed
     }
 }
 
-fn take_position(number: u64, rest: &[u8], request: Request) -> Request
-    ensures { result ≡ take_position rest.now request }
+fn take_position<W: Write>(
+    to: &mut W,
+    number: u64,
+    rest: &[u8],
+    request: Request,
+) -> io::Result<Request>
+    ensures { IfOk result (λ r. r ≡ take_position rest.now request) }
 {
     match position_in(rest) {
-        Placed::Position(at) => moved_on(with_position(request, at)),
+        Placed::Position(at) => Ok(moved_on(with_position(request, at))),
         Placed::Fault => {
-            complain(number, b"a gate, a stage and a check share are wanted");
-            dropped(request)
+            complain(to, number, b"a gate, a stage and a check share are wanted")?;
+            Ok(dropped(request))
         }
     }
 }
@@ -174,49 +186,68 @@ fn goes(request: Request) -> Step
 }
 
 // The line of what is wanted; its list begins at a place.
-fn take_wanted(number: u64, rest: &[u8], start: usize, request: Request) -> Step
-    ensures { result ≡ take_wanted rest.now start request }
+fn take_wanted<W: Write>(
+    to: &mut W,
+    number: u64,
+    rest: &[u8],
+    start: usize,
+    request: Request,
+) -> io::Result<Step>
+    ensures { IfOk result (λ s. s ≡ take_wanted rest.now start request) }
 {
     let wanted = request.wanted;
     if wanted <= PARTY {
-        return goes(take_number(number, rest, request));
+        return Ok(goes(take_number(to, number, rest, request)?));
     }
     if wanted == POSITION {
-        return goes(take_position(number, rest, request));
+        return Ok(goes(take_position(to, number, rest, request)?));
     }
-    Step {
+    Ok(Step {
         request,
         listed: true,
         from: start,
-    }
+    })
 }
 
 // A line that begins with no entry's name.
-fn take_field(number: u64, name: &[u8], rest: &[u8], start: usize, request: Request) -> Step
-    ensures { result ≡ take_field name.now rest.now start request }
+fn take_field<W: Write>(
+    to: &mut W,
+    number: u64,
+    name: &[u8],
+    rest: &[u8],
+    start: usize,
+    request: Request,
+) -> io::Result<Step>
+    ensures { IfOk result (λ s. s ≡ take_field name.now rest.now start request) }
 {
     if request.wanted == LOST {
-        return goes(request);
+        return Ok(goes(request));
     }
-    if !spell_field(request.entry, request.wanted, false, name) {
-        complain_wanted(number, request);
-        return goes(dropped(request));
+    if !is_field(request.entry, request.wanted, name) {
+        complain_wanted(to, number, request)?;
+        return Ok(goes(dropped(request)));
     }
-    take_wanted(number, rest, start, request)
+    take_wanted(to, number, rest, start, request)
 }
 
 // A line that begins with an entry's name; bare says that nothing else is there.
-fn begin(number: u64, entry: usize, bare: bool, request: Request) -> Request
-    ensures { result ≡ W.begin entry bare request }
+fn begin<W: Write>(
+    to: &mut W,
+    number: u64,
+    entry: usize,
+    bare: bool,
+    request: Request,
+) -> io::Result<Request>
+    ensures { IfOk result (λ r. r ≡ L.begin entry bare request) }
 {
     if request.wanted < COMPLETE {
-        complain_wanted(number, request);
+        complain_wanted(to, number, request)?;
     }
     if !bare {
-        complain(number, b"nothing may follow the name of an entry");
-        return dropped(request);
+        complain(to, number, b"nothing may follow the name of an entry")?;
+        return Ok(dropped(request));
     }
-    started(entry, PARTIES)
+    Ok(started(entry, PARTIES))
 }
 
 // The lesser of two counts.
@@ -227,29 +258,35 @@ pub fn shorter(n: usize, end: usize) -> usize
 }
 
 // A line of the input.
-pub fn take_line(number: u64, line: &[u8], request: Request) -> Step
-    ensures { result ≡ take_line line.now request }
+pub fn take_line<W: Write>(
+    to: &mut W,
+    number: u64,
+    line: &[u8],
+    request: Request,
+) -> io::Result<Step>
+    ensures { IfOk result (λ s. s ≡ take_line line.now request) }
 {
     let word = text::word_from(line, 0);
     let start = word.start;
     let end = word.end;
     if start == end {
-        return goes(request);
+        return Ok(goes(request));
     }
     if line[0] == HASH {
-        return goes(request);
+        return Ok(goes(request));
     }
     let entry = entry_named(&line[start..end]);
     if entry < NO_ENTRY {
         let after = text::word_from(line, end);
-        return goes(begin(number, entry, after.start == after.end, request));
+        return Ok(goes(begin(to, number, entry, after.start == after.end, request)?));
     }
-    take_field(number, &line[start..end], &line[end..], end, request)
+    take_field(to, number, &line[start..end], &line[end..], end, request)
 }
 
 // The end of the input.
-pub fn take_end(number: u64, request: Request) {
+pub fn take_end<W: Write>(to: &mut W, number: u64, request: Request) -> io::Result<()> {
     if request.wanted < COMPLETE {
-        complain_wanted(number, request);
+        complain_wanted(to, number, request)?;
     }
+    Ok(())
 }

@@ -1,9 +1,8 @@
 // What is read of a request.
-ghost use Rattle.std.specs.Prelude.{◌≤◌, ◌≡◌};
-ghost use Rattle.io.specs.Counts.{IsPrefixLen};
+ghost use Rattle.std.specs.Prelude.{◌≤◌, ◌≡◌, length, take};
 ghost use Rattle.requests.specs.Order as O;
 
-use crate::naming::{COMPLETE, LOST, OUTPUTS, spell_field};
+use crate::naming::{COMPLETE, LOST, OUTPUTS, is_field};
 use circuit::Round;
 use field::Word;
 use party::Position;
@@ -56,7 +55,7 @@ fn following(entry: usize, field: usize) -> usize
     let mut next = field;
     while next < OUTPUTS {
         next += 1;
-        if !spell_field(entry, next, false, b"-") {
+        if !is_field(entry, next, b"-") {
             return next;
         }
     }
@@ -114,7 +113,7 @@ pub fn within(n: usize) -> usize
 
 // A count, or the length of a list where the list is shorter.
 pub fn part(n: usize, list: &[Word]) -> usize
-    ensures { IsPrefixLen result list.now }
+    ensures { (result ≤ length list.now) × (result ≡ length (take result list.now)) }
 {
     if n < list.len() { n } else { list.len() }
 }

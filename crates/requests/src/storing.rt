@@ -2,18 +2,20 @@
 ghost use Rattle.std.specs.Prelude.{◌≤◌, length};
 
 use crate::bytes::all_bytes;
-use crate::naming::{CIRCUIT, INPUTS, NONCES, OUT, OUTPUTS, PREP, SCRATCH, WORDS, spell_field};
+use crate::naming::{CIRCUIT, INPUTS, NONCES, OUT, OUTPUTS, PREP, SCRATCH, WORDS, is_field};
 use crate::reading::{complain, complain_numbers, shorter, take_line};
 use crate::request::{
     CIRCUIT_ROOM, INPUTS_ROOM, NONCES_ROOM, PREP_ROOM, ROOM, Request, WORDS_ROOM, dropped,
     moved_on, part, with_number, within,
 };
 use field::Word;
+use std::io;
+use std::io::Write;
 use text::Numbers;
 
 // May these numbers be what is wanted? A text has only bytes, and so have nonces.
 fn fitting(request: Request, list: &[Word]) -> bool {
-    if spell_field(request.entry, request.wanted, false, b"text") {
+    if is_field(request.entry, request.wanted, b"text") {
         return all_bytes(list);
     }
     if request.wanted == NONCES {
@@ -23,26 +25,27 @@ fn fitting(request: Request, list: &[Word]) -> bool {
 }
 
 // Reads the list that is wanted, which begins at a place of the line, into its room.
-fn take_list(
+fn take_list<W: Write>(
+    to: &mut W,
     number: u64,
     line: &[u8],
     from: usize,
     request: Request,
     list: &mut [Word],
-) -> Request {
+) -> io::Result<Request> {
     let start = shorter(from, line.len());
     let read = text::read_numbers(&line[start..], list);
-    complain_numbers(number, read);
+    complain_numbers(to, number, read)?;
     match read {
         Numbers::Count(n) => {
             let count = part(n, list);
             if !fitting(request, &list[..count]) {
-                complain(number, b"a byte above 255");
-                return dropped(request);
+                complain(to, number, b"a byte above 255")?;
+                return Ok(dropped(request));
             }
-            moved_on(with_number(request, within(n) as u32))
+            Ok(moved_on(with_number(request, within(n) as u32)))
         }
-        _ => dropped(request),
+        _ => Ok(dropped(request)),
     }
 }
 
@@ -60,23 +63,25 @@ fn place_of(wanted: usize) -> usize
 }
 
 // Reads a list that an entry only reads.
-fn take_given(
+fn take_given<W: Write>(
+    to: &mut W,
     number: u64,
     line: &[u8],
     from: usize,
     request: Request,
     given: &mut [Word],
-) -> Request
+) -> io::Result<Request>
     requires { 327680 ≤ length given.old }
 {
     let wanted = request.wanted;
     let place = place_of(wanted);
     let end = place + ROOM;
-    take_list(number, line, from, request, &mut given[place..end])
+    take_list(to, number, line, from, request, &mut given[place..end])
 }
 
 // Reads a line. The list that it has is stored in its room.
-pub fn read_line(
+pub fn read_line<W: Write>(
+    to: &mut W,
     number: u64,
     line: &[u8],
     request: Request,
@@ -84,21 +89,21 @@ pub fn read_line(
     scratch: &mut [Word],
     out: &mut [Word],
     outputs: &mut [Word],
-) -> Request
+) -> io::Result<Request>
     requires { 327680 ≤ length given.old }
 {
-    let step = take_line(number, line, request);
+    let step = take_line(to, number, line, request)?;
     let next = step.request;
     if !step.listed {
-        return next;
+        return Ok(next);
     }
     let from = step.from;
     let wanted = next.wanted;
     match wanted {
-        CIRCUIT | PREP | INPUTS | WORDS | NONCES => take_given(number, line, from, next, given),
-        SCRATCH => take_list(number, line, from, next, scratch),
-        OUT => take_list(number, line, from, next, out),
-        OUTPUTS => take_list(number, line, from, next, outputs),
-        _ => next,
+        CIRCUIT | PREP | INPUTS | WORDS | NONCES => take_given(to, number, line, from, next, given),
+        SCRATCH => take_list(to, number, line, from, next, scratch),
+        OUT => take_list(to, number, line, from, next, out),
+        OUTPUTS => take_list(to, number, line, from, next, outputs),
+        _ => Ok(next),
     }
 }

@@ -18,7 +18,7 @@ use Rattle.protocol.specs.Position.{aborted}
 use Rattle.protocol.specs.Party.{Party}
 use Rattle.protocol.specs.Send.{shown}
 use Rattle.protocol.specs.Receive as R
-use Rattle.protocol.specs.Receive.{passed, heardSum, afterOpenOutput, misfit, weighs, ruling, received, finds}
+use Rattle.protocol.specs.Receive.{passed, heard_sum, after_open_output, misfit, weighs, ruling, received, finds}
 use Rattle.protocol.specs.Code.{layout_of, point_of, ruling_of}
 use Rattle.protocol.specs.Ready.{Receives}
 use Rattle.protocol.specs.declared.Layout.{Layout}
@@ -47,8 +47,8 @@ module _ (P : Party) (l : List ℕ) (y : Layout) (at : Site) {heard : List ℕ} 
       → x ≡ (gate P.circuit at.gate).first
       → give ≡ is_give (gate P.circuit at.gate)
       → m ≡ drop at.prep P.prep
-      → Is size (heardSum ops P.parties 1 0 heard) e
-      → l₁ ≡ afterOpenOutput ops (layout_of y) l (shown ops (layout_of y) l give x m) e
+      → Is size (heard_sum ops P.parties 1 0 heard) e
+      → l₁ ≡ after_open_output ops (layout_of y) l (shown ops (layout_of y) l give x m) e
       → l₁ ≡ received ops P l at.gate Open heard
   shown_received ex eg em ee e =
       output_received ops P l y at heard s.ready ex eg em
@@ -71,7 +71,7 @@ module _ (P : Party) (l : List ℕ) (y : Layout) (at : Site) (t : Check) {heard 
         (omega (arith, mid_len k (k + P.parties * commit_words) l (omega (arith, e, tail_there P l y at (Reveal t) s.ready))), omega (arith, s.whole), s.heard_low)
 
     pub judged : {v : R.Ruling}
-        → v ≡ weighs (misfit P.parties (take (k + P.parties * commit_words - k) (drop k l)) heard) (eqb (heardSum ops P.parties reveal_words 0 heard) 0)
+        → v ≡ weighs (misfit P.parties (take (k + P.parties * commit_words - k) (drop k l)) heard) (eqb (heard_sum ops P.parties reveal_words 0 heard) 0)
         → v ≡ finds ops P l (Reveal t) heard
     unfolding finds ruling marks_of
     judged f =

@@ -10,7 +10,7 @@ use Rattle.field.specs.Words.{size, ops}
 use Rattle.protocol.specs.Part as A
 use Rattle.protocol.specs.Scratch.{Layout}
 use Rattle.protocol.specs.Party.{a_at, b_at}
-use Rattle.protocol.specs.Send.{masked, openingWords}
+use Rattle.protocol.specs.Send.{masked, words_of_opening}
 use Rattle.steps.specs.declared.Part.{Part}
 use Rattle.steps.specs.Code.{part_of, IsPart, AreEnds}
 
@@ -26,8 +26,8 @@ pub share_of : {v : A.Part} {x : Part} → IsPart v x → Is size v.share x.shar
 share_of e = record { is = share_is e; below = e.low.share }
 
 module _ (y : Layout) (l : List ℕ) (x z : ℕ) (m : List ℕ) (k : ℕ) {e : Part} (ee : IsPart (masked ops y l x m a_at) e) where
-  pub ends_one : (k ≡ 2 → ⊥) → 1 ≤ k → k ≤ 2 → AreEnds (openingWords ops y l x z m k) k (record { first = e.share; last = e.share })
+  pub ends_one : (k ≡ 2 → ⊥) → 1 ≤ k → k ≤ 2 → AreEnds (words_of_opening ops y l x z m k) k (record { first = e.share; last = e.share })
   ends_one ek some few = let one : k ≡ 1 = omega arith in rw (ne_eqb k 2 ek, one) (record { first = share_of ee; last = share_of ee })
 
-  pub ends_two : {d : Part} → k ≡ 2 → IsPart (masked ops y l z m (b_at k)) d → AreEnds (openingWords ops y l x z m k) k (record { first = e.share; last = d.share })
+  pub ends_two : {d : Part} → k ≡ 2 → IsPart (masked ops y l z m (b_at k)) d → AreEnds (words_of_opening ops y l x z m k) k (record { first = e.share; last = d.share })
   ends_two ek ed = let q : k - 1 ≡ 1 = omega arith in record { first = rw (eq-eqb k 2 ek) (share_of ee); last = rw (eq-eqb k 2 ek, q) (share_of ed) }

@@ -12,7 +12,7 @@ ghost use Rattle.protocol.specs.Scratch.{slots_size};
 ghost use Rattle.protocol.specs.Party.{party_of, a_at, b_at, c_at};
 ghost use Rattle.protocol.specs.Position.{reach, enter, resume};
 ghost use Rattle.protocol.specs.Send.{shown};
-ghost use Rattle.protocol.specs.Receive.{heardSum, afterInput, putDifferences, afterOpening, afterOpenOutput, score, operandOf, putLinear, settle, onward, received, fits, misfit, weighs};
+ghost use Rattle.protocol.specs.Receive.{heard_sum, after_input, put_differences, after_opening, after_open_output, score, operand_of, put_linear, settle, onward, received, fits, misfit, weighs};
 ghost use Rattle.protocol.specs.Holding.{Below, Held, Opened, Reads};
 ghost use Rattle.protocol.specs.Code.{layout_of, point_of, blame_of, ruling_of};
 ghost use Rattle.protocol.specs.Ready.{Opening, Settles, Stands, Ready, Receives, Named, Summed};
@@ -27,7 +27,7 @@ use protocol::{Blame, Layout, Point, Ruling, Site, Slot, Stage};
 // The sum over the parties of word t of each, where each sent k.
 pub fn heard_sum(n: usize, k: usize, t: usize, heard: &[Word]) -> Word
     requires { (t < k) × (n * k ≤ length heard.now) × ((i : ℕ) → i < n → get_or heard.now (i * k + t) 0 < size) }
-    ensures { Is size (heardSum ops n k t heard.now) result }
+    ensures { Is size (heard_sum ops n k t heard.now) result }
 {
     let mut acc: Word = 0;
     let mut at = t;
@@ -52,7 +52,7 @@ fn first_word(i: usize, k: usize, heard: &[Word]) -> Word
 // What the first words of n parties come to, where each sent k: the owner's word of an in gate, else their sum.
 pub fn heard_first(n: usize, class: Class, owner: usize, k: usize, heard: &[Word]) -> Word
     requires { (0 < k) × (n * k ≤ length heard.now) × Below size heard.now × (is_class Owned (class_of class) ≡ true → owner < n) }
-    ensures { Is size (cond (is_class Owned (class_of class)) (get_or heard.now (owner * k) 0) (heardSum ops n k 0 heard.now)) result }
+    ensures { Is size (cond (is_class Owned (class_of class)) (get_or heard.now (owner * k) 0) (heard_sum ops n k 0 heard.now)) result }
 {
     if circuit::shapes::is_in(class) {
         return first_word(owner, k, heard);
@@ -63,7 +63,7 @@ pub fn heard_first(n: usize, class: Class, owner: usize, k: usize, heard: &[Word
 // And the last words, of a gate that opens values.
 fn heard_second(n: usize, class: Class, openings: usize, k: usize, heard: &[Word]) -> Word
     requires { (n * k ≤ length heard.now) × Below size heard.now × (is_class Opens (class_of class) ≡ true → (1 ≤ openings) × (openings - 1 < k)) }
-    ensures { Is size (cond (is_class Opens (class_of class)) (heardSum ops n k (openings - 1) heard.now) 0) result }
+    ensures { Is size (cond (is_class Opens (class_of class)) (heard_sum ops n k (openings - 1) heard.now) 0) result }
 {
     if circuit::shapes::opens(class) {
         return heard_sum(n, k, openings - 1, heard);
@@ -97,7 +97,7 @@ pub fn heard_ends(sums: Sums) -> Ends
 // m starts at the gate's record, and e is the owner's word.
 pub fn after_input(me: usize, key: Word, y: Layout, l: &mut [Word], j: usize, m: &[Word], e: Word)
     requires { (key < size) × (e < size) × (1 < length m.now) × Below size m.now × (slots_size (layout_of y) ≤ length l.old) × (j < y.gates) }
-    ensures { l.new ≡ afterInput ops me key (layout_of y) l.old j m.now e }
+    ensures { l.new ≡ after_input ops me key (layout_of y) l.old j m.now e }
 {
     let x = parts::shifted(me, key, parts::part_at(m, sending::MASK_AT), e);
     scratch::put_wire(l, y, j, x);
@@ -124,7 +124,7 @@ fn put_differences(
         × (2 * k + 1 < length m.now)
         × Below size m.now
         × (u + k ≤ y.capacity) }
-    ensures { l.new ≡ putDifferences ops (layout_of y) l.old x z m.now k u e d }
+    ensures { l.new ≡ put_differences ops (layout_of y) l.old x z m.now k u e d }
 {
     let first = sending::masked(l, y, x, m, sending::A_AT);
     let second = sending::masked(l, y, z, m, 2 * k - 2);
@@ -160,7 +160,7 @@ pub fn after_opening(
     d: Word,
 )
     requires { Opening size key (layout_of y) l.old j x z m.now k u e d }
-    ensures { l.new ≡ afterOpening ops me key (layout_of y) l.old j x z m.now k u e d }
+    ensures { l.new ≡ after_opening ops me key (layout_of y) l.old j x z m.now k u e d }
 {
     let product = record_product(me, key, m, k, e, d);
     put_differences(y, l, x, z, m, k, u, e, d);
@@ -174,7 +174,7 @@ pub fn after_open_output(y: Layout, l: &mut [Word], x: usize, give: bool, m: &[W
         × Held size (layout_of y) l.old x
         × (give ≡ true → 1 < length m.now)
         × Below size m.now }
-    ensures { l.new ≡ afterOpenOutput ops (layout_of y) l.old (shown ops (layout_of y) l.old give x m.now) s }
+    ensures { l.new ≡ after_open_output ops (layout_of y) l.old (shown ops (layout_of y) l.old give x m.now) s }
 {
     let shown = sending::shown_part(l, y, x, give, m);
     scratch::put_opened(l, y, 0, s, shown.mac);
@@ -214,7 +214,7 @@ pub fn operand_at(c: &[Word], j: usize, role: Role) -> Word
     requires { (gate_size * j + gate_size ≤ length c.now)
         × (role_of role ≡ (shape (gate c.now j)).constant)
         × (is_divisor (shape (gate c.now j)).constant ≡ true → (gate c.now j).constant < size) }
-    ensures { result ≡ operandOf ops (gate c.now j) }
+    ensures { result ≡ operand_of ops (gate c.now j) }
 {
     let k = gates::reading::constant_at(c, j);
     if circuit::shapes::is_divisor(role) {
@@ -240,7 +240,7 @@ pub fn after_linear(
         × (j < y.gates)
         × (is_class Local (kind_shape (kind_of kind)).class ≡ true)
         × Reads size (layout_of y) l.old (gate_of (kind_of kind) x z k) }
-    ensures { l.new ≡ putLinear ops me key (layout_of y) l.old j (kind_of kind) x z k }
+    ensures { l.new ≡ put_linear ops me key (layout_of y) l.old j (kind_of kind) x z k }
 {
     match kind {
         Kind::In => {}
@@ -486,7 +486,7 @@ pub fn judge(parties: usize, marks: &[Word], heard: &[Word]) -> Ruling
         × (parties * reveal_words ≤ length heard.now)
         × ((i : ℕ) → i < parties → get_or heard.now (i * reveal_words) 0 < size) }
     ensures { ruling_of result
-        ≡ weighs (misfit parties marks.now heard.now) (eqb (heardSum ops parties reveal_words 0 heard.now) 0) }
+        ≡ weighs (misfit parties marks.now heard.now) (eqb (heard_sum ops parties reveal_words 0 heard.now) 0) }
 {
     match misfit(parties, marks, heard) {
         Blame::Blames(i) => Ruling::Stopped(Blame::Blames(i)),

@@ -8,7 +8,7 @@ ghost use Rattle.circuit.specs.Round.{Own, commit_words, reveal_words, words};
 ghost use Rattle.circuit.specs.Code.{round_of};
 ghost use Rattle.protocol.specs.Scratch.{slots_size, marks_at, nonce_of};
 ghost use Rattle.protocol.specs.Party.{party_of};
-ghost use Rattle.protocol.specs.Send.{inputWord, masked, shown, openingWords, checkShare, revealed, mark, own_words, sent, holds, noted, overwrite};
+ghost use Rattle.protocol.specs.Send.{input_word, masked, shown, words_of_opening, check_share, revealed, mark, own_words, sent, holds, noted, overwrite};
 ghost use Rattle.protocol.specs.Holding.{Below, Held, Opened};
 ghost use Rattle.protocol.specs.Code.{layout_of};
 ghost use Rattle.protocol.specs.Ready.{Ready, Sends};
@@ -41,7 +41,7 @@ fn number_at(xs: &[Word], k: usize) -> Word
 // The word of an in gate; m starts at the gate's record, and the owner's input for it stands at k.
 pub fn input_word(me: usize, owner: usize, m: &[Word], inputs: &[Word], k: usize) -> Word
     requires { (2 < length m.now) × Below size m.now × Below size inputs.now }
-    ensures { Is size (inputWord ops me owner m.now (get_or inputs.now k 0)) result }
+    ensures { Is size (input_word ops me owner m.now (get_or inputs.now k 0)) result }
 {
     if me == owner {
         return field::sub(number_at(inputs, k), m[WHOLE_MASK_AT]);
@@ -152,7 +152,7 @@ pub fn check_share_of(
         × (k ≤ length coefficients.now)
         × Below size coefficients.now
         × ((t : ℕ) → t < k → Opened size (layout_of y) l.now t) }
-    ensures { Is size (checkShare ops (layout_of y) l.now k key coefficients.now) result }
+    ensures { Is size (check_share ops (layout_of y) l.now k key coefficients.now) result }
 {
     let macs = weigh(
         l,
@@ -171,7 +171,7 @@ pub fn check_share(l: &[Word], y: Layout, k: usize, key: Word, coefficients: &[W
         × (k ≤ length coefficients.now)
         × Below size coefficients.now
         × ((t : ℕ) → t < k → Opened size (layout_of y) l.now t) }
-    ensures { Is size (checkShare ops (layout_of y) l.now k key coefficients.now) result }
+    ensures { Is size (check_share ops (layout_of y) l.now k key coefficients.now) result }
 {
     check_share_of(
         weigh_values(l, y, k, coefficients),
@@ -202,8 +202,8 @@ pub fn opening_words(
         × (2 * k + 1 < length m.now)
         × Below size m.now
         × (k ≤ length out.old) }
-    ensures out { out.new ≡ overwrite (openingWords ops (layout_of y) l.now x z m.now k) out.old }
-    ensures ends { AreEnds (openingWords ops (layout_of y) l.now x z m.now k) k result }
+    ensures out { out.new ≡ overwrite (words_of_opening ops (layout_of y) l.now x z m.now k) out.old }
+    ensures ends { AreEnds (words_of_opening ops (layout_of y) l.now x z m.now k) k result }
 {
     let first = masked(l, y, x, m, A_AT);
     out[0] = first.share;

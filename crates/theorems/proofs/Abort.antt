@@ -20,20 +20,20 @@ use Rattle.circuit.specs.Valid.{Valid}
 use Rattle.circuit.proofs.Valid.{valid}
 use Rattle.circuit.proofs.Verdicts.{ask_true, then_left, then_right}
 use Rattle.protocol.specs.Position.{Point, Stage, Send, Receive, Finished, Aborted, finished, aborted, follow}
-use Rattle.protocol.specs.Receive.{Nobody, Stopped, passed as goes_on, weighs, heardSum, next, left}
+use Rattle.protocol.specs.Receive.{Nobody, Stopped, passed as goes_on, weighs, heard_sum, next, left}
 use Rattle.protocol.specs.Entry.{releases}
 use Rattle.protocol.specs.Joint.{Joint, party}
-use Rattle.protocol.specs.Run.{State, Run, blamed, begun, said, notes, ends, step, released, still, run, whole, mostRounds}
+use Rattle.protocol.specs.Run.{State, Run, blamed, begun, said, notes, ends, step, released, still, run, whole, most_rounds}
 use Rattle.protocol.specs.JointAsk.{ask_joint}
 use Rattle.protocol.specs.JointEntry as Entry
-use Rattle.protocol.specs.JointEntry.{ended, jointly, verdict, jointAnswer}
+use Rattle.protocol.specs.JointEntry.{ended, jointly, verdict, joint_answer}
 use Rattle.protocol.specs.Formula.{round_formula, most_rounds_of_all}
 use Rattle.theorems.specs.Premises.{Accepts, Enough, after}
 use Rattle.theorems.specs.Abort.{Fails, StopsAt, Stops, NamesNobody}
 use Rattle.circuit.proofs.Tests.{by_cases, false_no}
 use Rattle.protocol.proofs.Following.{weighs_zero, weighs_not}
 use Rattle.protocol.proofs.Marks.{ends_other, ends_reveals, notes_reveal}
-use Rattle.protocol.proofs.Points.{Fits, FitsStage, spentStage, spent, goes_start, fits_follow, spent_follow, spent_le}
+use Rattle.protocol.proofs.Points.{Fits, FitsStage, spent_stage, spent, goes_start, fits_follow, spent_follow, spent_le}
 use Rattle.protocol.proofs.Spending.{rounds_le}
 use Rattle.theorems.proofs.Given.{some_party}
 use Rattle.theorems.proofs.Sealing.{Kept, kept_after, ends_sum}
@@ -48,7 +48,7 @@ module _ (O : Ops) (J : Joint) (scratch : List ℕ) where
 
   -- the rounds that a run is given
   abbrev allowed : ℕ
-  allowed = mostRounds O J * gates J.circuit
+  allowed = most_rounds O J * gates J.circuit
 
   -- does round r after k rounds pass?
   abbrev passed : ℕ → Round → Bool
@@ -71,7 +71,7 @@ module _ (O : Ops) (J : Joint) (scratch : List ℕ) where
   -- A point that fits is one where a round is sent, or the end.
   stands : (k : ℕ) → Fits J.circuit (state k).point → spent J.circuit ones (state k).point ≡ k → (first O J scratch k).rounds ≡ k
       → Standing k
-  unfolding finished round_count spentStage
+  unfolding finished round_count spent_stage
   stands k f s made = go (state k).point.stage refl
     where
       fits : (g : Stage) → (state k).point.stage ≡ g → FitsStage J.circuit (state k).point.gate g
@@ -82,7 +82,7 @@ module _ (O : Ops) (J : Joint) (scratch : List ℕ) where
       go (Receive r) e = absurd (fits (Receive r) e)
       go Finished e =
           over (λ i. record { gate = fits Finished e i; stage = e i })
-          (made ∙ sym s ∙ ap (spentStage J.circuit ones (state k).point.gate) e)
+          (made ∙ sym s ∙ ap (spent_stage J.circuit ones (state k).point.gate) e)
       go Aborted e = absurd (fits Aborted e)
 
   -- The point after a round that passes ..
@@ -103,8 +103,8 @@ module _ (O : Ops) (J : Joint) (scratch : List ℕ) where
       → Standing (suc k)
   standing_step k r e f s = go (passed k r) refl
     where
-      behind : spentStage J.circuit ones (state k).point.gate (Send r) ≡ k
-      behind = ap (spentStage J.circuit ones (state k).point.gate) (sym e) ∙ s
+      behind : spent_stage J.circuit ones (state k).point.gate (Send r) ≡ k
+      behind = ap (spent_stage J.circuit ones (state k).point.gate) (sym e) ∙ s
 
       go : (b : Bool) → passed k r ≡ b → Standing (suc k)
       go true h =
@@ -140,8 +140,8 @@ module _ (O : Ops) (J : Joint) (scratch : List ℕ) where
       where
         go : Standing k → k < over_run ones J.circuit (gates J.circuit)
         go (going t q f s) =
-            let behind : spentStage J.circuit ones (state k).point.gate (Send t) ≡ k =
-            ap (spentStage J.circuit ones (state k).point.gate) (sym q) ∙ s in
+            let behind : spent_stage J.circuit ones (state k).point.gate (Send t) ≡ k =
+            ap (spent_stage J.circuit ones (state k).point.gate) (sym q) ∙ s in
             omega (arith, spent_le J.circuit ones (state k).point.gate t f)
         go (over q n) = absurd (subst Idle e (idle_finished q))
         go (failed m t f q) = absurd (subst Idle (sym q ∙ e) tt)
@@ -273,7 +273,7 @@ module _ (O : Ops) (J : Joint) (scratch : List ℕ) (accepts : Accepts O J.parti
 
   -- "the sum alone decides"
   decides : (k : ℕ) (r : Round) → (after O J scratch k).point.stage ≡ Send r → is_reveal r ≡ true
-      → ends O J (after O J scratch k) r ≡ weighs Nobody (eqb (heardSum O J.parties reveal_words 0 (said O J (after O J scratch k) r)) 0)
+      → ends O J (after O J scratch k) r ≡ weighs Nobody (eqb (heard_sum O J.parties reveal_words 0 (said O J (after O J scratch k) r)) 0)
   decides k r e z = ends_sum O J (after O J scratch k) (kept k) (some_party J.parties accepts.parties) r e z
 
   -- A failing check stops the run and names nobody ..
@@ -299,7 +299,7 @@ module _ (O : Ops) (J : Joint) (scratch : List ℕ) (accepts : Accepts O J.parti
   -- No round names a party.
   pub round_names : (k : ℕ) (r : Round) → (after O J scratch k).point.stage ≡ Send r → blamed (ends O J (after O J scratch k) r) ≡ Nobody
   round_names k r e =
-      by_cases (is_reveal r) (λ z. ap blamed (decides k r e z) ∙ nobody (eqb (heardSum O J.parties reveal_words 0 (said O J (after O J scratch k) r)) 0)) (λ z. ap blamed (ends_other O J (after O J scratch k) r z))
+      by_cases (is_reveal r) (λ z. ap blamed (decides k r e z) ∙ nobody (eqb (heard_sum O J.parties reveal_words 0 (said O J (after O J scratch k) r)) 0)) (λ z. ap blamed (ends_other O J (after O J scratch k) r z))
     where
       nobody : (b : Bool) → blamed (weighs Nobody b) ≡ Nobody
       nobody true = refl
@@ -348,7 +348,7 @@ module _ (O : Ops) (J : Joint) (scratch : List ℕ) (t o : ℕ) (e : ask_joint O
 
 -- A stop that a joint run answers names nobody.
 pub names_nobody : (O : Ops) → NamesNobody O
-unfolding jointAnswer verdict whole
+unfolding joint_answer verdict whole
 names_nobody O J scratch t o gate blame rounds e = go (ask_joint O.size J scratch (length t) (length o)) refl e
   where
     R : Run
@@ -409,8 +409,8 @@ module _ (O : Ops) (J : Joint) (scratch : List ℕ) (accepts : Accepts O J.parti
       idle Aborted none = tt
 
   -- A run that a check stops takes no more, and so "at most 766".
-  pub most_rounds : ((whole O J scratch).rounds ≤ round_formula J.circuit) × ((whole O J scratch).rounds ≤ most_rounds_of_all)
-  most_rounds =
+  pub most_rounds_lem : ((whole O J scratch).rounds ≤ round_formula J.circuit) × ((whole O J scratch).rounds ≤ most_rounds_of_all)
+  most_rounds_lem =
       let few : (whole O J scratch).rounds ≤ round_formula J.circuit = rw formula_is (rounds_most O J scratch ok) in
       (few, omega (arith, at_most_766 ok))
 
@@ -423,4 +423,4 @@ module _ (J : Joint) (scratch : List ℕ) (accepts : Accepts ops J.parties J.cir
   passed_rounds_here = passed_rounds ops J scratch accepts
 
   pub most_rounds_here : ((whole ops J scratch).rounds ≤ round_formula J.circuit) × ((whole ops J scratch).rounds ≤ most_rounds_of_all)
-  most_rounds_here = most_rounds ops J scratch accepts
+  most_rounds_here = most_rounds_lem ops J scratch accepts

@@ -28,39 +28,39 @@ use Rattle.protocol.specs.Party.{key}
 use Rattle.protocol.specs.Receive.{score, scored}
 use Rattle.protocol.specs.Entry.{releases}
 use Rattle.protocol.specs.Joint.{Joint, party}
-use Rattle.protocol.specs.Run.{State, Run, begun, said, released, still, run, whole, mostRounds}
-use Rattle.protocol.specs.Plain.{value, scoreOf, scoresSeen, scores}
-use Rattle.protocol.specs.Good.{wholeKey}
+use Rattle.protocol.specs.Run.{State, Run, begun, said, released, still, run, whole, most_rounds}
+use Rattle.protocol.specs.Plain.{value, score_of, scores_seen, scores}
+use Rattle.protocol.specs.Good.{whole_key}
 use Rattle.theorems.specs.Premises.{Honest, after}
-use Rattle.theorems.specs.Accuracy.{Accurate, theKey, openAfter}
+use Rattle.theorems.specs.Accuracy.{Accurate, the_key, open_after}
 use Rattle.theorems.specs.Abort.{Fails}
 use Rattle.theorems.specs.Apart.{released_to, outputs_to}
 use Rattle.protocol.proofs.Said.{length_said}
 use Rattle.protocol.proofs.Tails.{nonce_room}
 use Rattle.theorems.proofs.Given.{Given, given_honest}
-use Rattle.theorems.proofs.Closed.{Opening, Shown, shows, every_at, keys, sum_of, wires, opened, openedValue, accurate, CarriesOpened}
+use Rattle.theorems.proofs.Closed.{Opening, Shown, shows, every_at, keys, sum_of, wires, opened, opened_value, accurate, CarriesOpened}
 use Rattle.theorems.proofs.Closed.{carries_shown, shown_score}
 use Rattle.theorems.proofs.Holds.{Holds}
-use Rattle.protocol.proofs.Points.{FitsStage, sending, spentStage, spent, doneStage, done, goes_start, goes_resume, follow_stays}
+use Rattle.protocol.proofs.Points.{FitsStage, sending, spent_stage, spent, done_stage, done, goes_start, goes_resume, follow_stays}
 use Rattle.protocol.proofs.Points.{follow_leaves, spent_follow}
-use Rattle.theorems.proofs.Sent.{revealed_sum}
+use Rattle.theorems.proofs.Sent.{revealed_sum_lem}
 use Rattle.theorems.proofs.Sealing.{Kept, kept_room, kept_after}
 use Rattle.theorems.proofs.Honest.{under_check, pending, length_pending, Inv, HoldsAt, fits_at, holds_at, checks_at}
 use Rattle.theorems.proofs.Honest.{carries_pending, passing, point_step, inv_step, inv_begun}
 use Rattle.theorems.proofs.Runs.{Idle, longer, first as firstly, last_first, first_longer, first_idle, after_step, after_idle, outputs_step, outputs_idle, listed}
-use Rattle.theorems.proofs.Abort.{aborts, finished_rounds, most_rounds}
+use Rattle.theorems.proofs.Abort.{aborts, finished_rounds, most_rounds_lem}
 
 -- A is those who see the scores
 module _ (O : Ops) (J : Joint) (A : ℕ → Bool) (x : ℕ) where
   -- A gate that is no output has no score ..
-  no_score : is_out (gate J.circuit x) ≡ false → scoreOf O J A (gate J.circuit x) ≡ []
-  unfolding scoreOf
+  no_score : is_out (gate J.circuit x) ≡ false → score_of O J A (gate J.circuit x) ≡ []
+  unfolding score_of
   no_score e = rw e
 
   -- .. and a linear gate is none.
-  scores_linear : is_linear (gate J.circuit x) ≡ true → scoresSeen O J A (suc x) ≡ scoresSeen O J A x
-  unfolding scoresSeen
-  scores_linear e = ap (λ (l : List ℕ). scoresSeen O J A x ++ l) (no_score (local_no_out (is_class_lem Local e))) ∙ append-nil (scoresSeen O J A x)
+  scores_linear : is_linear (gate J.circuit x) ≡ true → scores_seen O J A (suc x) ≡ scores_seen O J A x
+  unfolding scores_seen
+  scores_linear e = ap (λ (l : List ℕ). scores_seen O J A x ++ l) (no_score (local_no_out (is_class_lem Local e))) ∙ append-nil (scores_seen O J A x)
 
 module _ {O : Ops} (F : Field O) (J : Joint) (scratch : List ℕ) (honest : Honest O J scratch) where
   -- The run has all that an honest run is given.
@@ -105,8 +105,8 @@ module _ {O : Ops} (F : Field O) (J : Joint) (scratch : List ℕ) (honest : Hone
       go Aborted f h = absurd f
 
   -- The key is the sum of the key shares.
-  key_is : sum O J.parties (keys O J) ≡ theKey O J scratch
-  unfolding keys key party wholeKey
+  key_is : sum O J.parties (keys O J) ≡ the_key O J scratch
+  unfolding keys key party whole_key
   key_is = refl
 
   -- The shares of each gate worked out sum to its value ..
@@ -118,7 +118,7 @@ module _ {O : Ops} (F : Field O) (J : Joint) (scratch : List ℕ) (honest : Hone
 
   -- .. and the MAC shares to the key times that.
   macs_are : (k x : ℕ) → x < (state k).point.gate → has_value (gate J.circuit x) ≡ true
-      → sum O J.parties (λ i. (wire (layout J.circuit) ((state k).scratch i) x).mac) ≡ O.mul (theKey O J scratch) (value O J x)
+      → sum O J.parties (λ i. (wire (layout J.circuit) ((state k).scratch i) x).mac) ≡ O.mul (the_key O J scratch) (value O J x)
   macs_are k x l v =
       let w = worked k x l v in
       sum_ext F J.parties _ _ (λ i li. ap (λ (p : Part). p.mac) (w.parts i li))
@@ -133,7 +133,7 @@ module _ {O : Ops} (F : Field O) (J : Joint) (scratch : List ℕ) (honest : Hone
     macs : (i : ℕ) → i < J.parties → read (layout J.circuit) ((state k).scratch i) (ValueMac t) ≡ (opened O J which i).mac
 
   -- Every entry that is opened and unchecked is one of the closed form.
-  entry : (k t : ℕ) → t < openAfter O J scratch k → Entry k t
+  entry : (k t : ℕ) → t < open_after O J scratch k → Entry k t
   unfolding when_sending
   entry k t l = go (state k).point.stage refl l
     where
@@ -153,14 +153,14 @@ module _ {O : Ops} (F : Field O) (J : Joint) (scratch : List ℕ) (honest : Hone
       go Aborted e l = absurd (omega arith)
 
   -- Opened values are alike at all parties ..
-  alike : (k t i : ℕ) → t < openAfter O J scratch k → i < J.parties
+  alike : (k t i : ℕ) → t < open_after O J scratch k → i < J.parties
       → read (layout J.circuit) ((state k).scratch i) (Value t) ≡ read (layout J.circuit) ((state k).scratch 0) (Value t)
   alike k t i l li = let o = entry k t l in o.values i li ∙ sym (o.values 0 has.some)
 
   -- .. and their MAC shares sum to the key times them.
-  opened_macs_are : (k t : ℕ) → t < openAfter O J scratch k
+  opened_macs_are : (k t : ℕ) → t < open_after O J scratch k
       → sum O J.parties (λ i. read (layout J.circuit) ((state k).scratch i) (ValueMac t))
-      ≡ O.mul (theKey O J scratch) (read (layout J.circuit) ((state k).scratch 0) (Value t))
+      ≡ O.mul (the_key O J scratch) (read (layout J.circuit) ((state k).scratch 0) (Value t))
   unfolding sum_of
   opened_macs_are k t l =
       let o = entry k t l in
@@ -171,7 +171,7 @@ module _ {O : Ops} (F : Field O) (J : Joint) (scratch : List ℕ) (honest : Hone
   -- No check fails.
   no_fail : (k : ℕ) (r : Round) → Fails O J scratch k r → ⊥
   no_fail k r f =
-      f.nonzero (revealed_sum F J (state k) r f.reveals (kept_room O J (state k) (kept k)) ∙ checks_at O J (state k) r f.sending (inv_after k) f.reveals)
+      f.nonzero (revealed_sum_lem F J (state k) r f.reveals (kept_room O J (state k) (kept k)) ∙ checks_at O J (state k) r f.sending (inv_after k) f.reveals)
 
   -- So the run finishes.
   finishing : (whole O J scratch).last.point ≡ finished J.circuit
@@ -199,13 +199,13 @@ module _ {O : Ops} (F : Field O) (J : Joint) (scratch : List ℕ) (honest : Hone
         held : Holds O J i at (shows at (gate J.circuit at) ∷ []) (s.scratch i)
         held = unfold pending under_check in holds_at O J s (Reveal Second) e inv i (receiver_named has.valid at below has.some)
 
-        stored : read (layout J.circuit) (s.scratch i) (Value 0) ≡ openedValue O J (shows at (gate J.circuit at))
+        stored : read (layout J.circuit) (s.scratch i) (Value 0) ≡ opened_value O J (shows at (gate J.circuit at))
         stored = held.values 0 (omega arith) ∙ (unfold sum_of in (carries_shown F J has at below k).shares)
 
     -- To A it is released where a party of A sees it.
     releases_score : (A : ℕ → Bool) → s.point.stage ≡ Send (Reveal Second) → (shape (gate J.circuit at)).class ≡ Output
-        → released_to O J A s (Reveal Second) ≡ scoreOf O J A (gate J.circuit at)
-    unfolding released_to scoreOf
+        → released_to O J A s (Reveal Second) ≡ score_of O J A (gate J.circuit at)
+    unfolding released_to score_of
     releases_score A e k = let o : is_out (gate J.circuit at) ≡ true = class_is k in rw (releases_value e k, o)
 
     -- Other rounds release nothing.
@@ -216,28 +216,28 @@ module _ {O : Ops} (F : Field O) (J : Joint) (scratch : List ℕ) (honest : Hone
     -- A round within an output adds no score.
     score_stays : (A : ℕ → Bool) (r r' : Round) (rest : List Round) → following r (rounds J.circuit at) ≡ r' ∷ rest
         → releases r ≡ false
-        → scoresSeen O J A (done J.circuit (follow J.circuit at r)) ≡ scoresSeen O J A at ++ released_to O J A s r
-    unfolding doneStage
-    score_stays A r r' rest f none = rw (releases_none A r none, follow_stays J.circuit at r r' rest f) (sym (append-nil (scoresSeen O J A at)))
+        → scores_seen O J A (done J.circuit (follow J.circuit at r)) ≡ scores_seen O J A at ++ released_to O J A s r
+    unfolding done_stage
+    score_stays A r r' rest f none = rw (releases_none A r none, follow_stays J.circuit at r r' rest f) (sym (append-nil (scores_seen O J A at)))
 
     -- The last round of a gate adds the gate's score.
     score_leaves : (A : ℕ → Bool) (r : Round) → s.point.stage ≡ Send r → following r (rounds J.circuit at) ≡ []
-        → released_to O J A s r ≡ scoreOf O J A (gate J.circuit at)
-        → scoresSeen O J A (done J.circuit (follow J.circuit at r)) ≡ scoresSeen O J A at ++ released_to O J A s r
-    unfolding scoresSeen
+        → released_to O J A s r ≡ score_of O J A (gate J.circuit at)
+        → scores_seen O J A (done J.circuit (follow J.circuit at r)) ≡ scores_seen O J A at ++ released_to O J A s r
+    unfolding scores_seen
     score_leaves A r e f score =
-        ap (λ (p : Point). scoresSeen O J A (done J.circuit p)) (follow_leaves J.circuit at r f)
-        ∙ (goes_resume J.circuit (suc at) (fits_at O J s r e inv).0).done_is (scoresSeen O J A) (scores_linear O J A)
-        ∙ ap (λ (l : List ℕ). scoresSeen O J A at ++ l) (sym score)
+        ap (λ (p : Point). scores_seen O J A (done J.circuit p)) (follow_leaves J.circuit at r f)
+        ∙ (goes_resume J.circuit (suc at) (fits_at O J s r e inv).0).done_is (scores_seen O J A) (scores_linear O J A)
+        ∙ ap (λ (l : List ℕ). scores_seen O J A at ++ l) (sym score)
 
     -- A round releases the scores that it completes.
     score_step : (A : ℕ → Bool) (r : Round) → s.point.stage ≡ Send r
-        → scoresSeen O J A (done J.circuit (follow J.circuit at r)) ≡ scoresSeen O J A at ++ released_to O J A s r
+        → scores_seen O J A (done J.circuit (follow J.circuit at r)) ≡ scores_seen O J A at ++ released_to O J A s r
     score_step A r e = go r e (Order.class_at_round J.circuit at r (fits_at O J s r e inv).1) (Order.after_round J.circuit at r (fits_at O J s r e inv).1)
       where
         go : (r : Round) → s.point.stage ≡ Send r → Order.RoundClass r (shape (gate J.circuit at)).class
             → following r (rounds J.circuit at) ≡ Order.after r
-            → scoresSeen O J A (done J.circuit (follow J.circuit at r)) ≡ scoresSeen O J A at ++ released_to O J A s r
+            → scores_seen O J A (done J.circuit (follow J.circuit at r)) ≡ scores_seen O J A at ++ released_to O J A s r
         go Own e (inl k) f = score_leaves A Own e f (releases_none A Own refl ∙ sym (no_score O J A at (owned_no_out k)))
         go Own e (inr k) f = score_leaves A Own e f (releases_none A Own refl ∙ sym (no_score O J A at (opens_no_out k)))
         go Open e k f = score_stays A Open (Commit Second) _ f refl
@@ -252,21 +252,21 @@ module _ {O : Ops} (F : Field O) (J : Joint) (scratch : List ℕ) (honest : Hone
   -- what a run of k rounds has told: as many words as lie behind the point, and to those who see them the scores of the gates that are done
   record Told (k : ℕ) : Type 0 where
     said_so_far : length (firstly O J scratch k).transcript ≡ J.parties * spent J.circuit words_of (state k).point
-    given_out : (A : ℕ → Bool) → outputs_to O J scratch A k ≡ scoresSeen O J A (done J.circuit (state k).point)
+    given_out : (A : ℕ → Bool) → outputs_to O J scratch A k ≡ scores_seen O J A (done J.circuit (state k).point)
 
   -- Nothing is told before the first round.
   told_begun : Told 0
-  unfolding run still begun after over_run scoresSeen outputs_to
+  unfolding run still begun after over_run scores_seen outputs_to
   told_begun =
       let start = goes_start J.circuit has.valid in
       record {
         said_so_far = omega (arith, ap (λ (m : ℕ). J.parties * m) (start.spent_is words_of));
-        given_out = λ A. sym (start.done_is (scoresSeen O J A) (scores_linear O J A));
+        given_out = λ A. sym (start.done_is (scores_seen O J A) (scores_linear O J A));
       }
 
   -- A round tells what is its own.
   told_step : (k : ℕ) (r : Round) → (state k).point.stage ≡ Send r → Told k → Told (suc k)
-  unfolding longer doneStage
+  unfolding longer done_stage
   told_step k r e t =
       record {
         said_so_far =
@@ -280,9 +280,9 @@ module _ {O : Ops} (F : Field O) (J : Joint) (scratch : List ℕ) (honest : Hone
         given_out =
             λ A. outputs_step O J scratch A k r e
             ∙ ap (λ (l : List ℕ). l ++ released_to O J A (state k) r)
-            (t.given_out A ∙ ap (λ (g : Stage). scoresSeen O J A (doneStage J.circuit at_k g)) e)
+            (t.given_out A ∙ ap (λ (g : Stage). scores_seen O J A (done_stage J.circuit at_k g)) e)
             ∙ sym (score_step (state k) (kept k) (inv_after k) A r e)
-            ∙ ap (λ (p : Point). scoresSeen O J A (done J.circuit p)) (sym place);
+            ∙ ap (λ (p : Point). scores_seen O J A (done J.circuit p)) (sym place);
       }
     where
       at_k : ℕ
@@ -295,7 +295,7 @@ module _ {O : Ops} (F : Field O) (J : Joint) (scratch : List ℕ) (honest : Hone
       place = ap (λ (s : State). s.point) (after_step O J scratch k r e) ∙ point_step F J has (state k) (kept k) (inv_after k) r e
 
       behind : spent J.circuit words_of (state k).point ≡ spent J.circuit words_of (sending at_k r)
-      behind = ap (spentStage J.circuit words_of at_k) e
+      behind = ap (spent_stage J.circuit words_of at_k) e
 
       spent_next : spent J.circuit words_of (state (suc k)).point ≡ spent J.circuit words_of (sending at_k r) + words_of at_k r
       spent_next = rw place (spent_follow J.circuit words_of at_k r fits)
@@ -328,7 +328,7 @@ module _ {O : Ops} (F : Field O) (J : Joint) (scratch : List ℕ) (honest : Hone
 
   -- the rounds that a run is given
   abbrev all : ℕ
-  all = mostRounds O J * gates J.circuit
+  all = most_rounds O J * gates J.circuit
 
   -- All rounds that a run is given lead to the end.
   at_end : (state all).point ≡ finished J.circuit
@@ -337,13 +337,13 @@ module _ {O : Ops} (F : Field O) (J : Joint) (scratch : List ℕ) (honest : Hone
 
   -- Every word of the circuit lies behind it.
   spent_all : spent J.circuit words_of (state all).point ≡ word_count J.circuit
-  unfolding spentStage finished word_count
+  unfolding spent_stage finished word_count
   spent_all = ap (spent J.circuit words_of) at_end
 
   -- Where it is finished, those who see scores have got them ..
-  pub seen_are : (A : ℕ → Bool) (k : ℕ) → (state k).point ≡ finished J.circuit → outputs_to O J scratch A k ≡ scoresSeen O J A (gates J.circuit)
-  unfolding finished doneStage
-  seen_are A k e = (told k).given_out A ∙ ap (λ (p : Point). scoresSeen O J A (done J.circuit p)) e
+  pub seen_are : (A : ℕ → Bool) (k : ℕ) → (state k).point ≡ finished J.circuit → outputs_to O J scratch A k ≡ scores_seen O J A (gates J.circuit)
+  unfolding finished done_stage
+  seen_are A k e = (told k).given_out A ∙ ap (λ (p : Point). scores_seen O J A (done J.circuit p)) e
 
   -- .. and the run releases the scores on plain inputs ..
   outputs_are : (whole O J scratch).outputs ≡ scores O J (gates J.circuit)
@@ -366,7 +366,7 @@ module _ {O : Ops} (F : Field O) (J : Joint) (scratch : List ℕ) (honest : Hone
         finishes = finishing;
         outputs = outputs_are;
         rounds = finished_rounds O J scratch honest.accepts finishing;
-        at_most = (most_rounds O J scratch honest.accepts).1;
+        at_most = (most_rounds_lem O J scratch honest.accepts).1;
         words = words_are;
       }
 

@@ -30,12 +30,12 @@ use Rattle.protocol.specs.Send.{sent, holds, noted}
 use Rattle.protocol.specs.Receive.{Ruling, passed, score, scored, next, finds, left}
 use Rattle.protocol.specs.Ready.{HeardLow}
 use Rattle.protocol.specs.Holding.{Below, Worked}
-use Rattle.protocol.specs.Ask.{askLent, askSend, askReceive}
-use Rattle.protocol.specs.Entry.{Answer, Next, answer, releases, openAnswer, nextPosition, concludes, outcome}
+use Rattle.protocol.specs.Ask.{ask_lent, ask_send, ask_receive}
+use Rattle.protocol.specs.Entry.{Answer, Next, answer, releases, open_answer, next_position, concludes, outcome}
 use Rattle.protocol.specs.Joint.{Joint, joined, party, nonce_for}
 use Rattle.protocol.specs.Run.{State, Run, begun, takes, taken, said, notes, ends, step, released, still, run}
 use Rattle.circuit.proofs.Tests.{false_no, both_left, both_right}
-use Rattle.protocol.proofs.Points.{FitsStage, spentStage, fits_follow, spent_le}
+use Rattle.protocol.proofs.Points.{FitsStage, spent_stage, fits_follow, spent_le}
 use Rattle.protocol.proofs.Writing.{OpenedTo}
 use Rattle.protocol.proofs.Keeping.{Stood, stood_room}
 use Rattle.protocol.proofs.Tails.{nonce_room}
@@ -46,14 +46,14 @@ use Rattle.protocol.proofs.Words.{joined_ext}
 use Rattle.protocol.proofs.Said.{length_sent, below_part, sent_low}
 use Rattle.theorems.specs.Premises.{Accepts, Enough, after}
 use Rattle.theorems.specs.Binding.{sending_at, receiving_at}
-use Rattle.theorems.specs.Apart.{Apart, party_in, Local, moved, outputs_in, Unrefused, opens, sends, writes, receives, written, heardIn, round, apart, spoken}
+use Rattle.theorems.specs.Apart.{Apart, party_in, Local, moved, outputs_in, Unrefused, opens, sends, writes, receives, written, heard_in, round, apart, spoken}
 use Rattle.theorems.specs.Apart.{jointly, bands, told, released_to, outputs_to, Meets, Together}
 use Rattle.theorems.proofs.Calls.{releases_to, scored_alike, local_at, sends_is, writes_is, receives_is, freed, freed_to, answering, concludes_is}
 use Rattle.theorems.proofs.Calls.{outcome_told, outcome_outputs, outcome_unrefused}
 use Rattle.theorems.proofs.Calls.{outputs_append, unrefused_append}
 use Rattle.theorems.proofs.Sealing.{Ended, Course, going, over, going_at, taking, Kept, kept_step, kept_begun, said_long, finds_ends}
 use Rattle.theorems.proofs.Abort.{round_names}
-use Rattle.theorems.proofs.Standing.{is_second, checks_output, ShownAlike, Sound, stood, stood_noted, handedNonce, handed_long, notes_handed, holds_low, holds_none, sound_step, sound_begun}
+use Rattle.theorems.proofs.Standing.{is_second, checks_output, ShownAlike, Sound, stood, stood_noted, handed_nonce, handed_long, notes_handed, holds_low, holds_none, sound_step, sound_begun}
 use Rattle.theorems.proofs.Joined.{circuit_valid, circuit_accepted, parties_accepted, scratch_long, party_is, band_is, bands_room}
 use Rattle.theorems.proofs.Runs.{Idle, when_idle, longer, first, last_first, first_longer, first_idle, after_step, after_idle, outputs_step, outputs_idle, listed}
 
@@ -169,7 +169,7 @@ module _ {O : Ops} (F : Field O) (D : Apart) (cs ns : List ℕ) (ok : Meets O D 
 
   module _ (k : ℕ) (inv : Inv k) (r : Round) (e : (state k).point.stage ≡ Send r)
       (fits : FitsStage D.circuit (state k).point.gate (Send r))
-      (used : (state k).used ≡ spentStage D.circuit (taking O J) (state k).point.gate (Send r)) where
+      (used : (state k).used ≡ spent_stage D.circuit (taking O J) (state k).point.gate (Send r)) where
     -- the gate of the round, and the words of all in the joint run
     abbrev j : ℕ
     j = (state k).point.gate
@@ -196,31 +196,31 @@ module _ {O : Ops} (F : Field O) (D : Apart) (cs ns : List ℕ) (ok : Meets O D 
       abbrev P : Party
       P = party_in D i
 
-      abbrev band-of : List ℕ
-      band-of = (state k).scratch i
+      abbrev band_of_lem : List ℕ
+      band_of_lem = (state k).scratch i
 
       abbrev l : List ℕ
-      l = band-of ++ excess i
+      l = band_of_lem ++ excess i
 
       fine : Sound F J v (state k) i
       fine = inv.sound i h
 
-      asks : Stood D.parties size D.circuit band-of j r
+      asks : Stood D.parties size D.circuit band_of_lem j r
       asks = stood F J v (state k) inv.kept r e fits i h fine
 
       long : length l ≡ length (D.scratch i)
       long =
-          length-append band-of (excess i)
+          length-append band_of_lem (excess i)
           ∙ omega (arith, inv.kept.long i h, length-drop (scratch_size D.parties D.circuit) (D.scratch i), scratch_long F D cs ns ok.some ok.lent i h)
 
-      lent : askLent size P l ≡ Accepted
+      lent : ask_lent size P l ≡ Accepted
       lent = lent_alike size P (D.scratch i) l long ∙ ok.lent i h
 
       worked : Worked size D.circuit (layout D.circuit) l j
-      worked = worked_front (layout D.circuit) (excess i) D.circuit band-of j (stood_room asks) asks.worked
+      worked = worked_front (layout D.circuit) (excess i) D.circuit band_of_lem j (stood_room asks) asks.worked
 
       opened : OpenedTo size (layout D.circuit) l (opened_in (unchecked D.circuit j) r)
-      opened = opened_to_front (layout D.circuit) (excess i) band-of _ (stood_room asks) asks.opened
+      opened = opened_to_front (layout D.circuit) (excess i) band_of_lem _ (stood_room asks) asks.opened
 
       -- where it stands
       here : apart O D k i ≡ local_at (sending_at j r ((state k).held i)) l (apart O D k i).answers
@@ -243,73 +243,73 @@ module _ {O : Ops} (F : Field O) (D : Apart) (cs ns : List ℕ) (ok : Meets O D 
       co_is : co ≡ given
       co_is = ok.handed k i r h e
 
-      nonce_is : nonce ≡ handedNonce F J v (state k) inv.kept r e fits i
+      nonce_is : nonce ≡ handed_nonce F J v (state k) inv.kept r e fits i
       nonce_is = ok.noncing k i r h e
 
       nonce_long : length nonce ≡ nonce_in r
       nonce_long = rw nonce_is (handed_long F J v (state k) inv.kept r e fits i h)
 
       -- Sending is accepted.
-      send_ok : askSend size P l (sending_at j r ((state k).held i)) co nonce (length (D.out k i)) ≡ Accepted
+      send_ok : ask_send size P l (sending_at j r ((state k).held i)) co nonce (length (D.out k i)) ≡ Accepted
       send_ok =
           send_passes P l j ((state k).held i) r lent fits.0 fits.1 worked opened fine.low
           (λ z. fine.none (ap may_hold e ∙ (unfold may_hold in z)))
           co nonce _ (rw co_is given_long) (rw co_is given_low) nonce_long (ok.room k i r h e)
 
       -- The words written are the party's part of the joint run's.
-      words_are : written O D k (apart O D k) i ≡ sent O P band-of j ((state k).held i) co nonce r
+      words_are : written O D k (apart O D k) i ≡ sent O P band_of_lem j ((state k).held i) co nonce r
       unfolding written
       words_are =
           ap (writes O P co nonce (D.out k i)) here
           ∙ writes_is O P l j ((state k).held i) r _ co nonce (D.out k i) send_ok
           (length_sent O P l j ((state k).held i) co nonce r fits.1 (nonce_room D.parties D.circuit (omega (arith, long, scratch_long F D cs ns ok.some ok.lent i h))))
-          ∙ sent_front F P band-of (excess i) j ((state k).held i) co nonce r asks
+          ∙ sent_front F P band_of_lem (excess i) j ((state k).held i) co nonce r asks
 
       -- They are what the joint run has it send.
-      said_is : sent O P band-of j ((state k).held i) co nonce r ≡ sent O (party J i) band-of j ((state k).held i) given (nonce_for J (state k).checks i) r
+      said_is : sent O P band_of_lem j ((state k).held i) co nonce r ≡ sent O (party J i) band_of_lem j ((state k).held i) given (nonce_for J (state k).checks i) r
       said_is =
-          ap₂ (λ (x y : List ℕ). sent O P band-of j ((state k).held i) x y r) co_is nonce_is
-          ∙ sent_handed O P band-of j ((state k).held i) given (nonce_for J (state k).checks i) r
-          ∙ ap (λ (Q : Party). sent O Q band-of j ((state k).held i) given (nonce_for J (state k).checks i) r) (sym (same i h))
+          ap₂ (λ (x y : List ℕ). sent O P band_of_lem j ((state k).held i) x y r) co_is nonce_is
+          ∙ sent_handed O P band_of_lem j ((state k).held i) given (nonce_for J (state k).checks i) r
+          ∙ ap (λ (Q : Party). sent O Q band_of_lem j ((state k).held i) given (nonce_for J (state k).checks i) r) (sym (same i h))
 
       -- the check share that it holds then
-      abbrev holding-now : ℕ
-      holding-now = holds O P l j r co
+      abbrev holding_now : ℕ
+      holding_now = holds O P l j r co
 
-      held_is : holding-now ≡ holds O (party J i) band-of j r given
+      held_is : holding_now ≡ holds O (party J i) band_of_lem j r given
       held_is =
-          holds_front F P band-of (excess i) j r asks co
-          ∙ ap₂ (λ (Q : Party) (co : List ℕ). holds O Q band-of j r co) (sym (same i h)) co_is
+          holds_front F P band_of_lem (excess i) j r asks co
+          ∙ ap₂ (λ (Q : Party) (co : List ℕ). holds O Q band_of_lem j r co) (sym (same i h)) co_is
 
-      held_front : holding-now ≡ holds O P band-of j r co
-      held_front = holds_front F P band-of (excess i) j r asks co
+      held_front : holding_now ≡ holds O P band_of_lem j r co
+      held_front = holds_front F P band_of_lem (excess i) j r asks co
 
       -- its scratch then, which begins with the joint run's
-      abbrev noted-band : List ℕ
-      noted-band = notes O J (state k) r i
+      abbrev noted_band_lem : List ℕ
+      noted_band_lem = notes O J (state k) r i
 
-      noted_is : noted O P l r nonce ≡ noted-band ++ excess i
+      noted_is : noted O P l r nonce ≡ noted_band_lem ++ excess i
       noted_is =
-          noted_front F P band-of (excess i) j r asks nonce nonce_long
-          ∙ ap₂ (λ (Q : Party) (x : List ℕ). noted O Q band-of r x ++ excess i) (sym (same i h)) nonce_is
+          noted_front F P band_of_lem (excess i) j r asks nonce nonce_long
+          ∙ ap₂ (λ (Q : Party) (x : List ℕ). noted O Q band_of_lem r x ++ excess i) (sym (same i h)) nonce_is
           ∙ ap (λ (x : List ℕ). x ++ excess i) (sym (notes_handed F J v (state k) inv.kept r e fits i))
 
-      noted_asks : Stood D.parties size D.circuit noted-band j r
+      noted_asks : Stood D.parties size D.circuit noted_band_lem j r
       noted_asks = stood_noted F J v (state k) inv.kept r e fits i h fine
 
-      noted_long : length (noted-band ++ excess i) ≡ length (D.scratch i)
+      noted_long : length (noted_band_lem ++ excess i) ≡ length (D.scratch i)
       noted_long = ap length (sym noted_is) ∙ length_noted O P l r nonce ∙ long
 
       sent_then : sends O P co nonce (D.out k i) (apart O D k i)
-          ≡ local_at (receiving_at j r holding-now) (noted-band ++ excess i) ((apart O D k i).answers ++ (Next (receiving_at j r holding-now) ∷ []))
+          ≡ local_at (receiving_at j r holding_now) (noted_band_lem ++ excess i) ((apart O D k i).answers ++ (Next (receiving_at j r holding_now) ∷ []))
       sent_then =
           ap (sends O P co nonce (D.out k i)) here
           ∙ sends_is O P l j ((state k).held i) r (apart O D k i).answers co nonce (D.out k i) send_ok
-          ∙ ap (λ (x : List ℕ). local_at (receiving_at j r holding-now) x ((apart O D k i).answers ++ (Next (receiving_at j r holding-now) ∷ []))) noted_is
+          ∙ ap (λ (x : List ℕ). local_at (receiving_at j r holding_now) x ((apart O D k i).answers ++ (Next (receiving_at j r holding_now) ∷ []))) noted_is
 
     -- All together they write the words of the joint run.
-    heard_is : heardIn O D k (apart O D k) ≡ heard
-    unfolding heardIn said
+    heard_is : heard_in O D k (apart O D k) ≡ heard
+    unfolding heard_in said
     heard_is =
         joined_ext D.parties _ _
         (λ i h. words_are i h ∙ said_is i h)
@@ -328,48 +328,48 @@ module _ {O : Ops} (F : Field O) (D : Apart) (cs ns : List ℕ) (ok : Meets O D 
 
     module _ (i : ℕ) (h : i < D.parties) where
       -- what is asked of the check share that is held
-      now_low : holding-now i h < size
+      now_low : holding_now i h < size
       now_low = rw (held_is i h) (holds_low F J v (state k) inv.kept r e fits i given)
 
-      now_none : is_commit r ≡ false → holding-now i h ≡ 0
+      now_none : is_commit r ≡ false → holding_now i h ≡ 0
       now_none z = held_is i h ∙ holds_none F J v (state k) inv.kept r e fits i given z
 
       -- its scratch
       abbrev l' : List ℕ
-      l' = noted-band i h ++ excess i
+      l' = noted_band_lem i h ++ excess i
 
       -- Receiving is accepted.
-      receive_ok : askReceive size (party_in D i) l' (receiving_at j r (holding-now i h)) heard ≡ Accepted
+      receive_ok : ask_receive size (party_in D i) l' (receiving_at j r (holding_now i h)) heard ≡ Accepted
       receive_ok =
-          receive_passes (party_in D i) l' j (holding-now i h) r
+          receive_passes (party_in D i) l' j (holding_now i h) r
           (lent_alike size (party_in D i) (D.scratch i) l' (noted_long i h) ∙ ok.lent i h) fits.0 fits.1
-          (worked_front (layout D.circuit) (excess i) D.circuit (noted-band i h) j (stood_room (noted_asks i h)) (noted_asks i h).worked)
-          (opened_to_front (layout D.circuit) (excess i) (noted-band i h) _ (stood_room (noted_asks i h)) (noted_asks i h).opened)
+          (worked_front (layout D.circuit) (excess i) D.circuit (noted_band_lem i h) j (stood_room (noted_asks i h)) (noted_asks i h).worked)
+          (opened_to_front (layout D.circuit) (excess i) (noted_band_lem i h) _ (stood_room (noted_asks i h)) (noted_asks i h).opened)
           now_low now_none heard heard_long heard_low
 
       -- It finds what all find.
       finds_is : finds O (party_in D i) l' r heard ≡ ending
       finds_is =
-          finds_front F (party_in D i) (noted-band i h) (excess i) j r (noted_asks i h) heard
-          ∙ ap (λ (Q : Party). finds O Q (noted-band i h) r heard) (sym (same i h))
+          finds_front F (party_in D i) (noted_band_lem i h) (excess i) j r (noted_asks i h) heard
+          ∙ ap (λ (Q : Party). finds O Q (noted_band_lem i h) r heard) (sym (same i h))
           ∙ finds_ends O J (state k) inv.kept ok.some r e i h
 
       -- the position that follows, and what is answered
       abbrev then_at : Position
-      then_at = nextPosition O (party_in D i) j (holding-now i h) r ending
+      then_at = next_position O (party_in D i) j (holding_now i h) r ending
 
       abbrev tells : Answer
       tells = answering (releases_to (party_in D i) j r) ending (scored O (party_in D i) l' j) then_at
 
-      outcome_is : outcome O (party_in D i) l' j (holding-now i h) heard r ≡ tells
+      outcome_is : outcome O (party_in D i) l' j (holding_now i h) heard r ≡ tells
       unfolding outcome
       outcome_is =
-          ap (concludes O (party_in D i) (scored O (party_in D i) l' j) j (holding-now i h) r) finds_is
-          ∙ concludes_is O (party_in D i) _ j (holding-now i h) r ending
+          ap (concludes O (party_in D i) (scored O (party_in D i) l' j) j (holding_now i h) r) finds_is
+          ∙ concludes_is O (party_in D i) _ j (holding_now i h) r ending
 
       -- the answers of the round
       abbrev both : List Answer
-      both = Next (receiving_at j r (holding-now i h)) ∷ tells ∷ []
+      both = Next (receiving_at j r (holding_now i h)) ∷ tells ∷ []
 
       -- A round at one party.
       turned : apart O D (suc k) i
@@ -377,14 +377,14 @@ module _ {O : Ops} (F : Field O) (D : Apart) (cs ns : List ℕ) (ok : Meets O D 
       unfolding apart round
       turned =
           ap₂ (receives O (party_in D i)) heard_is (sent_then i h)
-          ∙ receives_is O (party_in D i) l' j (holding-now i h) r _ heard receive_ok
+          ∙ receives_is O (party_in D i) l' j (holding_now i h) r _ heard receive_ok
           ∙ ap₂
           (λ (w : Ruling) (a : Answer).
-          local_at (nextPosition O (party_in D i) j (holding-now i h) r w) (left O (party_in D i) w l' j r heard)
-          (((apart O D k i).answers ++ (Next (receiving_at j r (holding-now i h)) ∷ [])) ++ (a ∷ [])))
+          local_at (next_position O (party_in D i) j (holding_now i h) r w) (left O (party_in D i) w l' j r heard)
+          (((apart O D k i).answers ++ (Next (receiving_at j r (holding_now i h)) ∷ [])) ++ (a ∷ [])))
           finds_is outcome_is
           ∙ ap (local_at then_at (left O (party_in D i) ending l' j r heard))
-          (append_assoc (apart O D k i).answers (Next (receiving_at j r (holding-now i h)) ∷ []) (tells ∷ []))
+          (append_assoc (apart O D k i).answers (Next (receiving_at j r (holding_now i h)) ∷ []) (tells ∷ []))
 
       -- the joint run's next state
       next_state : state (suc k) ≡ step O J (state k) r
@@ -392,7 +392,7 @@ module _ {O : Ops} (F : Field O) (D : Apart) (cs ns : List ℕ) (ok : Meets O D 
 
       -- The position is the joint run's ..
       then_is : then_at ≡ holding (state (suc k)).point ((state (suc k)).held i)
-      unfolding nextPosition step
+      unfolding next_position step
       then_is =
           ap (λ (x : ℕ). holding (next D.circuit j r ending) (keep r x)) (held_is i h)
           ∙ ap (λ (s : State). holding s.point (s.held i)) (sym next_state)
@@ -401,14 +401,14 @@ module _ {O : Ops} (F : Field O) (D : Apart) (cs ns : List ℕ) (ok : Meets O D 
       scratch_is : left O (party_in D i) ending l' j r heard ≡ (state (suc k)).scratch i ++ excess i
       unfolding step
       scratch_is =
-          left_front F (party_in D i) (noted-band i h) (excess i) j ending r (noted_asks i h) heard heard_long
-          ∙ ap (λ (Q : Party). left O Q ending (noted-band i h) j r heard ++ excess i) (sym (same i h))
+          left_front F (party_in D i) (noted_band_lem i h) (excess i) j ending r (noted_asks i h) heard heard_long
+          ∙ ap (λ (Q : Party). left O Q ending (noted_band_lem i h) j r heard ++ excess i) (sym (same i h))
           ∙ ap (λ (s : State). s.scratch i ++ excess i) (sym next_state)
 
       -- The value that the round checks is the one in the joint run's scratch ..
       value_is : releases r ≡ true → read (layout D.circuit) l' (Value 0) ≡ read (layout D.circuit) ((state k).scratch i) (Value 0)
       value_is z =
-          value_front (layout D.circuit) (excess i) (noted-band i h) 0 (stood_room (noted_asks i h))
+          value_front (layout D.circuit) (excess i) (noted_band_lem i h) 0 (stood_room (noted_asks i h))
           (unfold layout in omega (arith, unchecked_fits D.circuit j (omega (arith, fits.0))))
           ∙ ap (λ (x : List ℕ). read (layout D.circuit) x (Value 0)) (unnoted r z)
         where
@@ -442,14 +442,14 @@ module _ {O : Ops} (F : Field O) (D : Apart) (cs ns : List ℕ) (ok : Meets O D 
 
       -- A round that passes leads to no abort, and one that does not to one.
       live : passed ending ≡ true → then_at.stage ≡ Aborted → ⊥
-      unfolding nextPosition next holding
+      unfolding next_position next holding
       live z q =
           subst (λ (g : Stage). FitsStage D.circuit (follow D.circuit j r).gate g)
           (let w : (next D.circuit j r ending).stage ≡ (follow D.circuit j r).stage = rw z in sym w ∙ q)
           (fits_follow D.circuit j r fits)
 
       dead : passed ending ≡ false → then_at.stage ≡ Aborted
-      unfolding nextPosition next holding aborted
+      unfolding next_position next holding aborted
       dead z = rw z
 
       -- What is released to the party is what the joint run releases, if the party sees it.
@@ -513,13 +513,13 @@ module _ {O : Ops} (F : Field O) (D : Apart) (cs ns : List ℕ) (ok : Meets O D 
     resting : (i : ℕ) → i < D.parties → apart O D (suc k) i ≡ apart O D k i
     unfolding apart round
     resting i h =
-        ap (receives O (party_in D i) (heardIn O D k (apart O D k)))
+        ap (receives O (party_in D i) (heard_in O D k (apart O D k)))
         (sends_over O (party_in D i) (apart O D k i) (ended_at i h) (D.coefficients k i) (D.nonces k i) (D.out k i))
         ∙ receives_over O (party_in D i) (apart O D k i) (ended_at i h) _
 
     -- Nothing is written.
-    silent : heardIn O D k (apart O D k) ≡ []
-    unfolding heardIn written
+    silent : heard_in O D k (apart O D k) ≡ []
+    unfolding heard_in written
     silent = joined_nothing D.parties _ (λ i h. writes_over O (party_in D i) (apart O D k i) (ended_at i h) _ _ _)
 
     still_there : state (suc k) ≡ state k
@@ -562,7 +562,7 @@ module _ {O : Ops} (F : Field O) (D : Apart) (cs ns : List ℕ) (ok : Meets O D 
   opened_is : (i : ℕ) → i < D.parties → apart O D 0 i ≡ local_at (holding (start D.circuit) 0) (D.scratch i) (Next (holding (start D.circuit) 0) ∷ [])
   unfolding apart opens moved
   opened_is i h =
-      let a : openAnswer O (party_in D i) (D.scratch i) ≡ Next (holding (start D.circuit) 0) = (unfold openAnswer answer in rw (ok.lent i h)) in
+      let a : open_answer O (party_in D i) (D.scratch i) ≡ Next (holding (start D.circuit) 0) = (unfold open_answer answer in rw (ok.lent i h)) in
       ap (λ (a : Answer). local_at (moved (holding (aborted 0) 0) a) (D.scratch i) (a ∷ [])) a
 
   inv_begun : Inv 0
@@ -601,7 +601,7 @@ module _ {O : Ops} (F : Field O) (D : Apart) (cs ns : List ℕ) (ok : Meets O D 
   -- Where a round is sent, the run is going.
   at_round : (k : ℕ) (r : Round) → (state k).point.stage ≡ Send r → {A : Type 0}
       → (FitsStage D.circuit (state k).point.gate (Send r)
-      → (state k).used ≡ spentStage D.circuit (taking O J) (state k).point.gate (Send r)
+      → (state k).used ≡ spent_stage D.circuit (taking O J) (state k).point.gate (Send r)
       → A)
       → A
   at_round k r e use-it = going_at O J (state k) (inv_after k).kept.course r e (λ fits used checks. use-it fits used)

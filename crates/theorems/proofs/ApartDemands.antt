@@ -19,7 +19,7 @@ use Rattle.circuit.proofs.Verdicts.{ask_yes, then_right, then_both, elements_bel
 use Rattle.protocol.specs.Position.{Point, finished, holding, may_hold}
 use Rattle.protocol.specs.Party.{Party}
 use Rattle.protocol.specs.Holding.{Below}
-use Rattle.protocol.specs.Ask.{askLent}
+use Rattle.protocol.specs.Ask.{ask_lent}
 use Rattle.protocol.proofs.Passing.{lent_passes}
 use Rattle.protocol.specs.Scratch.{band}
 use Rattle.protocol.specs.Joint.{Joint, joined, inputs_at, party, nonce_for}
@@ -34,7 +34,7 @@ use Rattle.theorems.specs.Premises.{Accepts, InputsPass, Honest, after}
 use Rattle.theorems.specs.Accuracy.{Accurate}
 use Rattle.theorems.specs.Matching.{plainly, rule}
 use Rattle.theorems.specs.Secrecy.{Secret}
-use Rattle.theorems.specs.Apart.{Apart, party_in, Local, opens, sends, receives, heardIn, round, apart, spoken, jointly, bands, Meets}
+use Rattle.theorems.specs.Apart.{Apart, party_in, Local, opens, sends, receives, heard_in, round, apart, spoken, jointly, bands, Meets}
 use Rattle.theorems.specs.ApartDemands.{Scored, GoodApart, Scores, matched, ComparedApart, AlikeApart, SecrecyApart}
 use Rattle.theorems.proofs.Runs.{first, last_first}
 use Rattle.theorems.proofs.Abort.{whole_first}
@@ -132,7 +132,7 @@ module _ {O : Ops} (F : Field O) (D : Apart) (cs ns : List ℕ) (ok : Meets O D 
       own' : (i : ℕ) → i < n → take (input_count c i) (drop (inputs_at c i) x') ≡ inputs' i
       own' = inputs_joined c inputs' n is.counts
 
-      lent' : (i : ℕ) → i < n → askLent size (party_in D' i) (D.scratch i) ≡ Accepted
+      lent' : (i : ℕ) → i < n → ask_lent size (party_in D' i) (D.scratch i) ≡ Accepted
       unfolding matched band
       lent' i h =
           lent_passes (party_in D' i) (D.scratch i) accepts.parties h accepts.circuit
@@ -213,19 +213,19 @@ module _ {O : Ops} (F : Field O) (D : Apart) (cs ns : List ℕ) (ok : Meets O D 
           ∙ sym ((together F D cs ns ok).transcript k)
 
       -- .. round by round ..
-      words_are : (k : ℕ) → heardIn O D' k (apart O D' k) ≡ heardIn O D k (apart O D k)
+      words_are : (k : ℕ) → heard_in O D' k (apart O D' k) ≡ heard_in O D k (apart O D k)
       unfolding spoken
       words_are k =
-          sym (drop-append_seam (spoken O D' k) (heardIn O D' k (apart O D' k)))
+          sym (drop-append_seam (spoken O D' k) (heard_in O D' k (apart O D' k)))
           ∙ ap₂ (λ (a b : List ℕ). drop (length a) b) (spoken_are k) (spoken_are (suc k))
-          ∙ drop-append_seam (spoken O D k) (heardIn O D k (apart O D k))
+          ∙ drop-append_seam (spoken O D k) (heard_in O D k (apart O D k))
 
       -- .. and so is all that A's parties have.
       locals_are : (k i : ℕ) → i < n → A i ≡ true → apart O D' k i ≡ apart O D k i
       unfolding apart round matched
       locals_are zero i h a = ap (λ (P : Party). opens O P (D.scratch i)) (parties_are i h a)
       locals_are (suc k) i h a =
-          ap₂ (λ (P : Party) (s : Local). receives O P (heardIn O D' k (apart O D' k)) (sends O P (D.coefficients k i) (D.nonces k i) (D.out k i) s))
+          ap₂ (λ (P : Party) (s : Local). receives O P (heard_in O D' k (apart O D' k)) (sends O P (D.coefficients k i) (D.nonces k i) (D.out k i) s))
           (parties_are i h a) (locals_are k i h a)
           ∙ ap (λ (ws : List ℕ). receives O (party_in D i) ws (sends O (party_in D i) (D.coefficients k i) (D.nonces k i) (D.out k i) (apart O D k i))) (words_are k)
 

@@ -32,14 +32,14 @@ use Rattle.protocol.specs.Position.{Position, Point, Receive, holding, aborted, 
 use Rattle.protocol.specs.Party.{Party}
 use Rattle.protocol.specs.Send.{revealed, mark, overwrite, sent, holds, noted}
 use Rattle.protocol.specs.Receive.{Blame, Nobody, Blames, Ruling, Passed, Stopped, misfit, weighs, ruling, next, received, scored, finds, left}
-use Rattle.protocol.specs.Ask.{askLent, askSendRound, askReceiveRound, askSend, askReceive}
-use Rattle.protocol.specs.Entry.{Answer, Next, Output, Abort, answer, leave, sendAnswer, sendOut, sendScratch, nextPosition, concludes, outcome, receiveAnswer, receiveScratch}
+use Rattle.protocol.specs.Ask.{ask_lent, ask_send_round, ask_receive_round, ask_send, ask_receive}
+use Rattle.protocol.specs.Entry.{Answer, Next, Output, Abort, answer, leave, send_answer, send_out, send_scratch, next_position, concludes, outcome, receive_answer, receive_scratch}
 use Rattle.protocol.proofs.Following.{follow_is}
 use Rattle.protocol.proofs.Accepted.{lends}
 use Rattle.protocol.proofs.Words.{length_band}
 use Rattle.protocol.proofs.Said.{below_part}
 use Rattle.protocol.proofs.Tails.{marks_room, nonce_room, nonce_length, nonce_put, nonce_marks, marks_put, read_marks}
-use Rattle.theorems.specs.Binding.{sending_at, receiving_at, stopped_at, Fits, checkSum, Decides, goes_on, RevealDecides, Collides, marked, revealing, lastAnswer, Unrefused, Altered, Changes, FoundOut, Alterable, Binding, ownShare, noting, hearing, Speaks, KeepsTo, Keeping}
+use Rattle.theorems.specs.Binding.{sending_at, receiving_at, stopped_at, Fits, check_sum, Decides, goes_on, RevealDecides, Collides, marked, revealing, last_answer, Unrefused, Altered, Changes, FoundOut, Alterable, Binding, own_share, noting, hearing, Speaks, KeepsTo, Keeping}
 use Rattle.theorems.proofs.Fitting.{none_found, all_fit, lowest_found, found_lowest}
 use Rattle.theorems.proofs.Holds.{room_one}
 use Rattle.theorems.proofs.Calls.{scored_alike}
@@ -48,8 +48,8 @@ module _ (O : Ops) (n : ℕ) (marks heard : List ℕ) where
   -- how a reveal ends, with what is answered then
   data Ends (x : Position) (on a : Answer) : Type 0 where
     names : (i : ℕ) → misfit n marks heard ≡ Blames i → a ≡ Abort (Blames i) x → Ends x on a
-    differs : misfit n marks heard ≡ Nobody → (checkSum O n marks heard ≡ 0 → ⊥) → a ≡ Abort Nobody x → Ends x on a
-    agrees : misfit n marks heard ≡ Nobody → checkSum O n marks heard ≡ 0 → a ≡ on → Ends x on a
+    differs : misfit n marks heard ≡ Nobody → (check_sum O n marks heard ≡ 0 → ⊥) → a ≡ Abort Nobody x → Ends x on a
+    agrees : misfit n marks heard ≡ Nobody → check_sum O n marks heard ≡ 0 → a ≡ on → Ends x on a
 
   -- A party is somebody.
   blames_no : {A : Type 0} {k : ℕ} {x : Position} → Abort (Blames k) x ≡ Abort Nobody x → A
@@ -120,7 +120,7 @@ module _ (O : Ops) (P : Party) (l : List ℕ) (j held : ℕ) (k : Check) where
   concluded v = concludes O P (scored O P l j) j held (Reveal k) v
 
   concluded_on : concluded Passed ≡ goes_on O P l j k
-  unfolding concludes nextPosition next keep
+  unfolding concludes next_position next keep
   concluded_on = go k
     where
       go : (k : Check) → concludes O P (scored O P l j) j held (Reveal k) Passed ≡ goes_on O P l j k
@@ -128,24 +128,24 @@ module _ (O : Ops) (P : Party) (l : List ℕ) (j held : ℕ) (k : Check) where
       go Second = refl
 
   concluded_stops : (b : Blame) → concluded (Stopped b) ≡ Abort b (stopped_at j)
-  unfolding concludes nextPosition next keep holding aborted
+  unfolding concludes next_position next keep holding aborted
   concluded_stops b = refl
 
-  module _ (heard : List ℕ) (ok : askReceive O.size P l (receiving_at j (Reveal k) held) heard ≡ Accepted) where
+  module _ (heard : List ℕ) (ok : ask_receive O.size P l (receiving_at j (Reveal k) held) heard ≡ Accepted) where
     -- the marks in the party's scratch
     abbrev marks : List ℕ
     marks = marks_of P.parties (layout P.circuit) l
 
-    answered : receiveAnswer O P l (receiving_at j (Reveal k) held) heard
-        ≡ concluded (weighs (misfit P.parties marks heard) (eqb (checkSum O P.parties marks heard) 0))
-    unfolding receiveAnswer answer when_receiving outcome finds ruling
+    answered : receive_answer O P l (receiving_at j (Reveal k) held) heard
+        ≡ concluded (weighs (misfit P.parties marks heard) (eqb (check_sum O P.parties marks heard) 0))
+    unfolding receive_answer answer when_receiving outcome finds ruling
     answered = rw ok
 
-    ends : Ends O P.parties marks heard (stopped_at j) (goes_on O P l j k) (receiveAnswer O P l (receiving_at j (Reveal k) held) heard)
-    ends = go (misfit P.parties marks heard) refl (eqb (checkSum O P.parties marks heard) 0) refl
+    ends : Ends O P.parties marks heard (stopped_at j) (goes_on O P l j k) (receive_answer O P l (receiving_at j (Reveal k) held) heard)
+    ends = go (misfit P.parties marks heard) refl (eqb (check_sum O P.parties marks heard) 0) refl
       where
-        go : (m : Blame) → misfit P.parties marks heard ≡ m → (b : Bool) → eqb (checkSum O P.parties marks heard) 0 ≡ b
-            → Ends O P.parties marks heard (stopped_at j) (goes_on O P l j k) (receiveAnswer O P l (receiving_at j (Reveal k) held) heard)
+        go : (m : Blame) → misfit P.parties marks heard ≡ m → (b : Bool) → eqb (check_sum O P.parties marks heard) 0 ≡ b
+            → Ends O P.parties marks heard (stopped_at j) (goes_on O P l j k) (receive_answer O P l (receiving_at j (Reveal k) held) heard)
         go (Blames i) p b q = names i p (answered ∙ rw p (concluded_stops (Blames i)))
         go Nobody p true q = agrees p (eqb-true _ 0 q) (answered ∙ rw (p, q) concluded_on)
         go Nobody p false q = differs p (eqb-false _ 0 q) (answered ∙ rw (p, q) (concluded_stops Nobody))
@@ -165,34 +165,34 @@ module _ (O : Ops) (P : Party) (l : List ℕ) (j : ℕ) (k : Check) (coefficient
   abbrev ws : List ℕ
   ws = words_of nonce
 
-  keeps_committed : take commit_words (sendOut O P l (sending_at j (Commit k) 0) coefficients nonce out) ≡ mark (revealed (ownShare O P l j k coefficients nonce out ms out') ws)
-  unfolding sendOut leave when_sending sent overwrite mark
-  keeps_committed = rw ok.commits (take_at (digest (revealed (ownShare O P l j k coefficients nonce out ms out') ws)) _ commit_words (digest_long _))
+  keeps_committed : take commit_words (send_out O P l (sending_at j (Commit k) 0) coefficients nonce out) ≡ mark (revealed (own_share O P l j k coefficients nonce out ms out') ws)
+  unfolding send_out leave when_sending sent overwrite mark
+  keeps_committed = rw ok.commits (take_at (digest (revealed (own_share O P l j k coefficients nonce out ms out') ws)) _ commit_words (digest_long _))
 
   -- The scratch has the nonce, and then the marks.
   noting_is : noting O P l j k coefficients nonce out ms out' ≡ put_nonce y l ws
-  unfolding sendScratch leave when_sending noted
+  unfolding send_scratch leave when_sending noted
   noting_is = rw ok.commits
 
   hearing_is : hearing O P l j k coefficients nonce out ms out' ≡ put_marks y (put_nonce y l ws) ms
-  unfolding receiveScratch leave when_receiving finds ruling left received
+  unfolding receive_scratch leave when_receiving finds ruling left received
   hearing_is = rw ok.hears (ap (λ (x : List ℕ). put_marks y x ms) noting_is)
 
   nonce_words_lem : length ws ≡ nonce_words
-  unfolding askSend askSendRound when_sending nonce_in
+  unfolding ask_send ask_send_round when_sending nonce_in
   nonce_words_lem =
       length_words nonce_words nonce
       (eqb-true _ _
-      (ask_true 25 0 _ (then_left _ _ (then_right _ _ (then_right _ _ (then_right _ _ (then_right _ _ (then_right (askLent size P l) _ ok.commits))))))))
+      (ask_true 25 0 _ (then_left _ _ (then_right _ _ (then_right _ _ (then_right _ _ (then_right _ _ (then_right (ask_lent size P l) _ ok.commits))))))))
 
   ms_long : length ms ≡ P.parties * commit_words
-  unfolding askReceive askReceiveRound when_receiving shape_words
-  ms_long = eqb-true _ _ (ask_true 19 0 _ (then_left _ _ (then_right _ _ (then_right _ _ (then_right (askLent size P _) _ ok.hears)))))
+  unfolding ask_receive ask_receive_round when_receiving shape_words
+  ms_long = eqb-true _ _ (ask_true 19 0 _ (then_left _ _ (then_right _ _ (then_right _ _ (then_right (ask_lent size P _) _ ok.hears)))))
 
   module _ (some : 0 < size) where
     has_room : scratch_size P.parties P.circuit ≤ length l
-    unfolding askSend
-    has_room = (lends some P l (then_left (askLent size P l) _ ok.commits)).room
+    unfolding ask_send
+    has_room = (lends some P l (then_left (ask_lent size P l) _ ok.commits)).room
 
     nonce_there : nonce_of y (hearing O P l j k coefficients nonce out ms out') ≡ ws
     nonce_there =
@@ -200,12 +200,12 @@ module _ (O : Ops) (P : Party) (l : List ℕ) (j : ℕ) (k : Check) (coefficient
         ∙ nonce_marks y (put_nonce y l ws) P.parties ms ms_long (marks_room P.parties P.circuit (rw (nonce_length y l ws) has_room))
         ∙ nonce_put y l ws nonce_words_lem (nonce_room P.parties P.circuit has_room)
 
-    keeps_shown : take reveal_words (sendOut O P (hearing O P l j k coefficients nonce out ms out') (sending_at j (Reveal k) (ownShare O P l j k coefficients nonce out ms out')) [] [] out')
-        ≡ revealed (ownShare O P l j k coefficients nonce out ms out') ws
-    unfolding sendOut leave when_sending sent overwrite
+    keeps_shown : take reveal_words (send_out O P (hearing O P l j k coefficients nonce out ms out') (sending_at j (Reveal k) (own_share O P l j k coefficients nonce out ms out')) [] [] out')
+        ≡ revealed (own_share O P l j k coefficients nonce out ms out') ws
+    unfolding send_out leave when_sending sent overwrite
     keeps_shown =
         rw (ok.reveals, nonce_there)
-        (take_at (revealed (ownShare O P l j k coefficients nonce out ms out') ws) _ reveal_words (ap suc nonce_words_lem))
+        (take_at (revealed (own_share O P l j k coefficients nonce out ms out') ws) _ reveal_words (ap suc nonce_words_lem))
 
     pub keeps_to : KeepsTo O P l j k coefficients nonce out ms out'
     keeps_to = record { committed = keeps_committed; shown = keeps_shown }
@@ -239,20 +239,20 @@ then_low : (w : ℕ) (ws : List ℕ) → w < 2 ^ 32 → ((t : ℕ) → get_or ws
 then_low w ws h hs zero = h
 then_low w ws h hs (suc t) = hs t
 
-module _ (O : Ops) (P : Party) (l : List ℕ) (j held : ℕ) (k : Check) (ms : List ℕ) (hears : askReceive O.size P l (receiving_at j (Commit k) held) ms ≡ Accepted) where
+module _ (O : Ops) (P : Party) (l : List ℕ) (j held : ℕ) (k : Check) (ms : List ℕ) (hears : ask_receive O.size P l (receiving_at j (Commit k) held) ms ≡ Accepted) where
   open O use {size}
 
   -- The commitment is a round of the gate ..
   commits : among (Commit k) (rounds P.circuit j) ≡ true
-  unfolding askReceive occurs stage_occurs
+  unfolding ask_receive occurs stage_occurs
   commits =
       both_right (ltb j (gates P.circuit)) (among (Commit k) (rounds P.circuit j))
       (both_left _ (cond (may_hold (Receive (Commit k))) (ltb held size) (eqb held 0))
-      (ask_true 13 0 _ (then_left _ _ (then_right (askLent size P l) _ hears))))
+      (ask_true 13 0 _ (then_left _ _ (then_right (ask_lent size P l) _ hears))))
 
   -- .. and a reveal follows it.
-  pub hears_commit : receiveAnswer O P l (receiving_at j (Commit k) held) ms ≡ Next (sending_at j (Reveal k) held)
-  unfolding receiveAnswer answer when_receiving outcome finds ruling concludes nextPosition next keep holding
+  pub hears_commit : receive_answer O P l (receiving_at j (Commit k) held) ms ≡ Next (sending_at j (Reveal k) held)
+  unfolding receive_answer answer when_receiving outcome finds ruling concludes next_position next keep holding
   hears_commit = rw hears (ap (λ (x : Point). Next (holding x held)) (follow_is P.circuit j (Commit k) commits))
 
 module _ (O : Ops) (P : Party) (l : List ℕ) (j held : ℕ) (k : Check) (room : ℕ) (ms ws : List ℕ) (ok : Unrefused O P l j held k room ms ws) where
@@ -260,31 +260,31 @@ module _ (O : Ops) (P : Party) (l : List ℕ) (j held : ℕ) (k : Check) (room :
 
   -- The marks heard are written ..
   marked_is : marked O P l j held k room ms ws ≡ put_marks (layout P.circuit) l ms
-  unfolding receiveScratch leave when_receiving finds ruling left received
+  unfolding receive_scratch leave when_receiving finds ruling left received
   marked_is = rw ok.hears
 
-  sends_reveal : sendAnswer O P (marked O P l j held k room ms ws) (sending_at j (Reveal k) held) [] [] room ≡ Next (receiving_at j (Reveal k) 0)
-  unfolding sendAnswer answer when_sending holds
+  sends_reveal : send_answer O P (marked O P l j held k room ms ws) (sending_at j (Reveal k) held) [] [] room ≡ Next (receiving_at j (Reveal k) 0)
+  unfolding send_answer answer when_sending holds
   sends_reveal = rw ok.sends
 
   -- .. and sending writes nothing more.
   revealing_is : revealing O P l j held k room ms ws ≡ put_marks (layout P.circuit) l ms
-  unfolding sendScratch leave when_sending noted
+  unfolding send_scratch leave when_sending noted
   revealing_is = rw ok.sends marked_is
 
   -- There are marks of all parties, and room for them.
   marks_long : length ms ≡ P.parties * commit_words
-  unfolding askReceive askReceiveRound when_receiving shape_words
-  marks_long = eqb-true _ _ (ask_true 19 0 _ (then_left _ _ (then_right _ _ (then_right _ _ (then_right (askLent size P l) _ ok.hears)))))
+  unfolding ask_receive ask_receive_round when_receiving shape_words
+  marks_long = eqb-true _ _ (ask_true 19 0 _ (then_left _ _ (then_right _ _ (then_right _ _ (then_right (ask_lent size P l) _ ok.hears)))))
 
   words_long : length ws ≡ P.parties * reveal_words
-  unfolding askReceive askReceiveRound when_receiving shape_words
-  words_long = eqb-true _ _ (ask_true 19 0 _ (then_left _ _ (then_right _ _ (then_right _ _ (then_right (askLent size P _) _ ok.hears_reveal)))))
+  unfolding ask_receive ask_receive_round when_receiving shape_words
+  words_long = eqb-true _ _ (ask_true 19 0 _ (then_left _ _ (then_right _ _ (then_right _ _ (then_right (ask_lent size P _) _ ok.hears_reveal)))))
 
   module _ (some : 0 < size) where
     space : scratch_size P.parties P.circuit ≤ length l
-    unfolding askReceive
-    space = (lends some P l (then_left (askLent size P l) _ ok.hears)).room
+    unfolding ask_receive
+    space = (lends some P l (then_left (ask_lent size P l) _ ok.hears)).room
 
     marks_are : marks_of P.parties (layout P.circuit) (revealing O P l j held k room ms ws) ≡ ms
     marks_are =
@@ -297,12 +297,12 @@ module _ (O : Ops) (P : Party) (l : List ℕ) (j held : ℕ) (k : Check) (room :
         ∙ read_marks (layout P.circuit) l P.parties ms marks_long (marks_room P.parties P.circuit space) (Value 0)
         (unfold layout in room_one P.circuit)
 
-    hears_reveal : Decides O P.parties ms ws (stopped_at j) (goes_on O P l j k) (lastAnswer O P l j held k room ms ws)
+    hears_reveal : Decides O P.parties ms ws (stopped_at j) (goes_on O P l j k) (last_answer O P l j held k room ms ws)
     hears_reveal =
-        subst (λ (on : Answer). Decides O P.parties ms ws (stopped_at j) on (lastAnswer O P l j held k room ms ws))
+        subst (λ (on : Answer). Decides O P.parties ms ws (stopped_at j) on (last_answer O P l j held k room ms ws))
         (goes_on_alike O P l _ j k value_is)
         (subst
-        (λ (marks : List ℕ). Decides O P.parties marks ws (stopped_at j) (goes_on O P (revealing O P l j held k room ms ws) j k) (lastAnswer O P l j held k room ms ws))
+        (λ (marks : List ℕ). Decides O P.parties marks ws (stopped_at j) (goes_on O P (revealing O P l j held k room ms ws) j k) (last_answer O P l j held k room ms ws))
         marks_are
         (reveal_decides O P (revealing O P l j held k room ms ws) j 0 k ws ok.hears_reveal))
 
@@ -346,10 +346,10 @@ module _ (O : Ops) (P : Party) (l : List ℕ) (j held : ℕ) (k : Check) (room :
           }
 
       -- So the answer names that party or one before it, or there is a collision.
-      pub found_out : FoundOut P.parties ms ws (stopped_at j) (lastAnswer O P l j held k room ms ws) i share nonce
+      pub found_out : FoundOut P.parties ms ws (stopped_at j) (last_answer O P l j held k room ms ws) i share nonce
       found_out = go (misfit (suc i) ms ws) refl
         where
-          go : (m : Blame) → misfit (suc i) ms ws ≡ m → FoundOut P.parties ms ws (stopped_at j) (lastAnswer O P l j held k room ms ws) i share nonce
+          go : (m : Blame) → misfit (suc i) ms ws ≡ m → FoundOut P.parties ms ws (stopped_at j) (last_answer O P l j held k room ms ws) i share nonce
           go Nobody e = inr (collides (all_fit O ms ws (suc i) e i (omega arith)))
           go (Blames h) e =
               let lowest = found_lowest O ms ws (suc i) h e in

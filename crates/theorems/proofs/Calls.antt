@@ -18,8 +18,8 @@ use Rattle.protocol.specs.Party.{Party}
 use Rattle.protocol.specs.Send.{overwrite, sent, holds, noted}
 use Rattle.protocol.specs.Receive.{Nobody, Blames, Ruling, Passed, Stopped, passed, score, scored, finds, left}
 use Rattle.protocol.specs.Run.{blamed}
-use Rattle.protocol.specs.Ask.{askSend, askReceive}
-use Rattle.protocol.specs.Entry.{Answer, Refusal, Next, Output, Abort, answer, leave, releases, sendAnswer, sendOut, sendScratch, nextPosition, concludes, outcome, receiveAnswer, receiveScratch}
+use Rattle.protocol.specs.Ask.{ask_send, ask_receive}
+use Rattle.protocol.specs.Entry.{Answer, Refusal, Next, Output, Abort, answer, leave, releases, send_answer, send_out, send_scratch, next_position, concludes, outcome, receive_answer, receive_scratch}
 use Rattle.theorems.specs.Binding.{sending_at, receiving_at}
 use Rattle.theorems.specs.Apart.{Local, moved, unless_refused, sends, writes, receives, told_output, told_at, told, outputs_in, Unrefused}
 
@@ -41,48 +41,48 @@ local_at at l answers = record { position = at; scratch = l; answers = answers }
 module _ (O : Ops) (P : Party) (l : List ℕ) (j held : ℕ) (r : Round) (answers : List Answer) where
   open O use {size}
 
-  module _ (coefficients nonce out : List ℕ) (e : askSend size P l (sending_at j r held) coefficients nonce (length out) ≡ Accepted) where
-    send_answer : sendAnswer O P l (sending_at j r held) coefficients nonce (length out) ≡ Next (receiving_at j r (holds O P l j r coefficients))
-    unfolding sendAnswer answer when_sending
-    send_answer = rw e
+  module _ (coefficients nonce out : List ℕ) (e : ask_send size P l (sending_at j r held) coefficients nonce (length out) ≡ Accepted) where
+    send_answer_lem : send_answer O P l (sending_at j r held) coefficients nonce (length out) ≡ Next (receiving_at j r (holds O P l j r coefficients))
+    unfolding send_answer answer when_sending
+    send_answer_lem = rw e
 
-    send_out : sendOut O P l (sending_at j r held) coefficients nonce out ≡ overwrite (sent O P l j held coefficients nonce r) out
-    unfolding sendOut leave when_sending
-    send_out = rw e
+    send_out_lem : send_out O P l (sending_at j r held) coefficients nonce out ≡ overwrite (sent O P l j held coefficients nonce r) out
+    unfolding send_out leave when_sending
+    send_out_lem = rw e
 
-    send_scratch : sendScratch O P l (sending_at j r held) coefficients nonce (length out) ≡ noted O P l r nonce
-    unfolding sendScratch leave when_sending
-    send_scratch = rw e
+    send_scratch_lem : send_scratch O P l (sending_at j r held) coefficients nonce (length out) ≡ noted O P l r nonce
+    unfolding send_scratch leave when_sending
+    send_scratch_lem = rw e
 
     -- Sending leads to the receiving half of the round.
     pub sends_is : sends O P coefficients nonce out (local_at (sending_at j r held) l answers)
         ≡ local_at (receiving_at j r (holds O P l j r coefficients)) (noted O P l r nonce) (answers ++ (Next (receiving_at j r (holds O P l j r coefficients)) ∷ []))
     unfolding sends when_sending moved
-    sends_is = ap₂ (λ (a : Answer) (l' : List ℕ). local_at (moved (sending_at j r held) a) l' (answers ++ (a ∷ []))) send_answer send_scratch
+    sends_is = ap₂ (λ (a : Answer) (l' : List ℕ). local_at (moved (sending_at j r held) a) l' (answers ++ (a ∷ []))) send_answer_lem send_scratch_lem
 
     -- The words written are those of the round.
     pub writes_is : length (sent O P l j held coefficients nonce r) ≡ words (gate P.circuit j) r
         → writes O P coefficients nonce out (local_at (sending_at j r held) l answers) ≡ sent O P l j held coefficients nonce r
     unfolding writes when_sending
     writes_is long =
-        ap₂ (λ (a : Answer) (ws : List ℕ). unless_refused a (take (words (gate P.circuit j) r) ws)) send_answer send_out
+        ap₂ (λ (a : Answer) (ws : List ℕ). unless_refused a (take (words (gate P.circuit j) r) ws)) send_answer_lem send_out_lem
         ∙ (unfold unless_refused overwrite in take_at (sent O P l j held coefficients nonce r) _ _ long)
 
-  module _ (heard : List ℕ) (e : askReceive size P l (receiving_at j r held) heard ≡ Accepted) where
+  module _ (heard : List ℕ) (e : ask_receive size P l (receiving_at j r held) heard ≡ Accepted) where
     -- how the round ends, and the position that follows
     abbrev ending : Ruling
     ending = finds O P l r heard
 
     abbrev then_at : Position
-    then_at = nextPosition O P j held r ending
+    then_at = next_position O P j held r ending
 
-    receive_answer : receiveAnswer O P l (receiving_at j r held) heard ≡ outcome O P l j held heard r
-    unfolding receiveAnswer answer when_receiving
-    receive_answer = rw e
+    receive_answer_lem : receive_answer O P l (receiving_at j r held) heard ≡ outcome O P l j held heard r
+    unfolding receive_answer answer when_receiving
+    receive_answer_lem = rw e
 
-    receive_scratch : receiveScratch O P l (receiving_at j r held) heard ≡ left O P ending l j r heard
-    unfolding receiveScratch leave when_receiving
-    receive_scratch = rw e
+    receive_scratch_lem : receive_scratch O P l (receiving_at j r held) heard ≡ left O P ending l j r heard
+    unfolding receive_scratch leave when_receiving
+    receive_scratch_lem = rw e
 
     -- Whatever is answered, the position that follows is the next one.
     moved_is : moved (receiving_at j r held) (outcome O P l j held heard r) ≡ then_at
@@ -93,8 +93,8 @@ module _ (O : Ops) (P : Party) (l : List ℕ) (j held : ℕ) (r : Round) (answer
         on true x = unfold moved in refl
         on false x = unfold moved in refl
 
-        go : (v : Ruling) → moved (receiving_at j r held) (concludes O P (scored O P l j) j held r v) ≡ nextPosition O P j held r v
-        go Passed = unfold concludes in on (releases_to P j r) (nextPosition O P j held r Passed)
+        go : (v : Ruling) → moved (receiving_at j r held) (concludes O P (scored O P l j) j held r v) ≡ next_position O P j held r v
+        go Passed = unfold concludes in on (releases_to P j r) (next_position O P j held r Passed)
         go (Stopped b) = unfold concludes moved in refl
 
     -- Receiving leads there, with the scratch worked out.
@@ -102,7 +102,7 @@ module _ (O : Ops) (P : Party) (l : List ℕ) (j held : ℕ) (r : Round) (answer
         ≡ local_at then_at (left O P ending l j r heard) (answers ++ (outcome O P l j held heard r ∷ []))
     unfolding receives when_receiving
     receives_is =
-        ap₂ (λ (a : Answer) (l' : List ℕ). local_at (moved (receiving_at j r held) a) l' (answers ++ (a ∷ []))) receive_answer receive_scratch
+        ap₂ (λ (a : Answer) (l' : List ℕ). local_at (moved (receiving_at j r held) a) l' (answers ++ (a ∷ []))) receive_answer_lem receive_scratch_lem
         ∙ ap (λ (x : Position). local_at x (left O P ending l j r heard) (answers ++ (outcome O P l j held heard r ∷ []))) moved_is
 
 -- what a round releases, where v is the score that it checked
@@ -130,7 +130,7 @@ answering releases Passed u x = cond releases (Output u x) (Next x)
 answering releases (Stopped b) u x = Abort b x
 
 pub concludes_is : (O : Ops) (P : Party) (u j held : ℕ) (r : Round) (v : Ruling)
-    → concludes O P u j held r v ≡ answering (releases_to P j r) v u (nextPosition O P j held r v)
+    → concludes O P u j held r v ≡ answering (releases_to P j r) v u (next_position O P j held r v)
 unfolding concludes
 concludes_is O P u j held r Passed = refl
 concludes_is O P u j held r (Stopped b) = refl

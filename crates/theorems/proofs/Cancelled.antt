@@ -19,7 +19,7 @@ use Rattle.protocol.specs.Receive.{Blames}
 use Rattle.protocol.specs.Entry.{Abort}
 use Rattle.protocol.specs.Docket.{nonce, shows, mark₁₀, party₀}
 use Rattle.protocol.proofs.Said.{below_of}
-use Rattle.theorems.specs.Binding.{stopped_at, revealing, lastAnswer, Unrefused}
+use Rattle.theorems.specs.Binding.{stopped_at, revealing, last_answer, Unrefused}
 use Rattle.theorems.specs.Cancelled.{committed, marks, words, CancelledBy, Cancelled}
 use Rattle.theorems.proofs.Known.{hashed, hash_of}
 use Rattle.theorems.proofs.Hashed.{reveal_is, hashing}
@@ -47,7 +47,7 @@ unrefused : Unrefused modular party₀ (committed modular) 3 10 First 9 opened (
 unfolding hashing modular
 unrefused = record { hears = refl; sends = refl; hears_reveal = refl }
 
-named : lastAnswer modular party₀ (committed modular) 3 10 First 9 opened (words modular) ≡ Abort (Blames 1) (stopped_at 3)
+named : last_answer modular party₀ (committed modular) 3 10 First 9 opened (words modular) ≡ Abort (Blames 1) (stopped_at 3)
 unfolding hashing modular
 named = reveal_is modular party₀ (revealing modular party₀ (committed modular) 3 10 First 9 opened (words modular)) 3 0 First (words modular) refl
 

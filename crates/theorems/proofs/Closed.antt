@@ -24,11 +24,11 @@ use Rattle.circuit.proofs.KindLaws.{class_is, local_no_out, owned_no_out, opens_
 use Rattle.circuit.proofs.Gates.{local_named, output_named, opens_named, factor_named}
 use Rattle.protocol.specs.Part.{Part, part_at, minus, shift, product}
 use Rattle.protocol.specs.Party.{key, record_of, input_of, mask_at, whole_mask_at, a_at, b_at, c_at}
-use Rattle.protocol.specs.Receive.{operandOf, linear}
+use Rattle.protocol.specs.Receive.{operand_of, linear}
 use Rattle.protocol.proofs.Wires.{Carries, carries_minus, carries_shift, carries_product}
 use Rattle.protocol.specs.Joint.{Joint, party}
-use Rattle.protocol.specs.Plain.{kindValue, plainInput, value}
-use Rattle.protocol.specs.Good.{recordAt, wholeKey, shareSum, macSum, Authentic, GoodRecord, GoodMask, GoodTriple}
+use Rattle.protocol.specs.Plain.{kind_value, plain_input, value}
+use Rattle.protocol.specs.Good.{record_at, whole_key, share_sum, mac_sum, Authentic, GoodRecord, GoodMask, GoodTriple}
 use Rattle.theorems.proofs.Course.{course, course_is, strong}
 use Rattle.theorems.proofs.Given.{Given}
 use Rattle.theorems.proofs.KindValues.{local_computes, local_second, owned_value, opens_value}
@@ -164,8 +164,8 @@ module _ (O : Ops) (J : Joint) where
   prepared j k i = part_at (record_of (party J i) j) k
 
   -- the word that the owner s of the in gate j sends
-  unfoldable pub ownerWord : ℕ → ℕ → ℕ
-  ownerWord j s = sub (input_of (party J s) j) (get_or (record_of (party J s) j) whole_mask_at 0)
+  unfoldable pub owner_word : ℕ → ℕ → ℕ
+  owner_word j s = sub (input_of (party J s) j) (get_or (record_of (party J s) j) whole_mask_at 0)
 
   -- what is left of a wire, at each party, where what stands at k in the record of gate j is taken away
   unfoldable pub masked : (ℕ → Part) → ℕ → ℕ → ℕ → Part
@@ -182,15 +182,15 @@ module _ (O : Ops) (J : Joint) where
       (sum_of (masked v j a_at)) (sum_of (masked w j (b_at k)))
 
   -- each party's part of gate j, which is g, where w gives the parts of the gates that it names
-  unfoldable pub wireBy : ℕ → (ℕ → ℕ → Part) → Gate → Class → ℕ → Part
-  wireBy j w g Local = λ i. linear O i (keys i) g.kind (w g.first i) (w g.second i) (operandOf O g)
-  wireBy j w g Owned = λ i. shift O i (keys i) (prepared j mask_at i) (ownerWord j g.first)
-  wireBy j w g Opens = multiplied j (shape g).openings (w g.first) (w (factor g))
-  wireBy j w g Output = λ i. record { share = 0; mac = 0 }
+  unfoldable pub wire_by : ℕ → (ℕ → ℕ → Part) → Gate → Class → ℕ → Part
+  wire_by j w g Local = λ i. linear O i (keys i) g.kind (w g.first i) (w g.second i) (operand_of O g)
+  wire_by j w g Owned = λ i. shift O i (keys i) (prepared j mask_at i) (owner_word j g.first)
+  wire_by j w g Opens = multiplied j (shape g).openings (w g.first) (w (factor g))
+  wire_by j w g Output = λ i. record { share = 0; mac = 0 }
 
   -- how wire j is made of the wires before it
   wire_step : ℕ → (ℕ → ℕ → Part) → ℕ → Part
-  wire_step j w = wireBy j w (gate J.circuit j) (shape (gate J.circuit j)).class
+  wire_step j w = wire_by j w (gate J.circuit j) (shape (gate J.circuit j)).class
 
   -- each party's part of wire j
   pub wires : ℕ → ℕ → Part
@@ -202,18 +202,18 @@ module _ (O : Ops) (J : Joint) where
   opened (Shown x) = wires x
 
   -- what is opened, on plain inputs
-  unfoldable pub openedValue : Opening → ℕ
-  openedValue (Masked j x k) = sub (value O J x) (sum_of (prepared j k))
-  openedValue (Shown x) = value O J x
+  unfoldable pub opened_value : Opening → ℕ
+  opened_value (Masked j x k) = sub (value O J x) (sum_of (prepared j k))
+  opened_value (Shown x) = value O J x
 
   module _ (F : Field O) {n q : ℕ} (ok : Valid n q J.circuit) (j : ℕ) (l : j < gates J.circuit) where
     -- A party's part of a gate depends on the parts of the gates that it names alone.
     wire_local : (k : Class) → (shape (gate J.circuit j)).class ≡ k → (f h : ℕ → ℕ → Part) → ((x : ℕ) → x < j → f x ≡ h x)
-        → wireBy j f (gate J.circuit j) k ≡ wireBy j h (gate J.circuit j) k
-    unfolding wireBy
+        → wire_by j f (gate J.circuit j) k ≡ wire_by j h (gate J.circuit j) k
+    unfolding wire_by
     wire_local Local k f h e =
         let g = gate J.circuit j in
-        ap₂ {C = ℕ → Part} (λ (v w : ℕ → Part) i. linear O i (keys i) g.kind (v i) (w i) (operandOf O g))
+        ap₂ {C = ℕ → Part} (λ (v w : ℕ → Part) i. linear O i (keys i) g.kind (v i) (w i) (operand_of O g))
         (e g.first (local_named ok j l k).earlier) (e g.second (local_second F ok j l k).earlier)
     wire_local Owned k f h e = refl
     wire_local Opens k f h e =
@@ -222,10 +222,10 @@ module _ (O : Ops) (J : Joint) where
     wire_local Output k f h e = refl
 
     -- Wire j is made of the wires that gate j names.
-    pub wires_are : {k : Class} → (shape (gate J.circuit j)).class ≡ k → wires j ≡ wireBy j wires (gate J.circuit j) k
+    pub wires_are : {k : Class} → (shape (gate J.circuit j)).class ≡ k → wires j ≡ wire_by j wires (gate J.circuit j) k
     unfolding wires wire_step
     wires_are e =
-        course_is _ wire_step j (wire_local (shape (gate J.circuit j)).class refl) ∙ ap (wireBy j wires (gate J.circuit j)) e
+        course_is _ wire_step j (wire_local (shape (gate J.circuit j)).class refl) ∙ ap (wire_by j wires (gate J.circuit j)) e
 
 module _ {O : Ops} (F : Field O) (J : Joint) (has : Given O J) where
   open O use {norm, add, sub, mul}
@@ -238,7 +238,7 @@ module _ {O : Ops} (F : Field O) (J : Joint) (has : Given O J) where
   -- What stands in a good record carries its sum.
   carries_prepared : (j k : ℕ) → Authentic O J.parties J.circuit J.preps j k
       → Carrying (prepared O J j k) (sum_of O J (prepared O J j k))
-  unfolding prepared sum_of keys macSum shareSum wholeKey recordAt key party record_of
+  unfolding prepared sum_of keys mac_sum share_sum whole_key record_at key party record_of
   carries_prepared j k e = record { shares = refl; macs = e }
 
   -- the record of a product with k openings: a, b, and their product c
@@ -268,7 +268,7 @@ module _ {O : Ops} (F : Field O) (J : Joint) (has : Given O J) where
         good = good_class e
 
         product : sum_of O J (prepared O J j (c_at k)) ≡ mul (sum_of O J (prepared O J j a_at)) (sum_of O J (prepared O J j (b_at k)))
-        product = unfold prepared sum_of shareSum recordAt party record_of in good.product
+        product = unfold prepared sum_of share_sum record_at party record_of in good.product
 
     -- A good mask carries its sum ..
     mask : {i : ℕ} → GoodMask O J.parties J.circuit J.preps j i → Carrying (prepared O J j mask_at) (sum_of O J (prepared O J j mask_at))
@@ -277,7 +277,7 @@ module _ {O : Ops} (F : Field O) (J : Joint) (has : Given O J) where
     -- .. which is the whole mask of the party that knows it.
     whole_mask : {i : ℕ} → GoodMask O J.parties J.circuit J.preps j i
         → get_or (record_of (party J i) j) whole_mask_at 0 ≡ sum_of O J (prepared O J j mask_at)
-    unfolding prepared sum_of shareSum recordAt party record_of
+    unfolding prepared sum_of share_sum record_at party record_of
     whole_mask g = g.whole
 
   -- A wire less a part of a good record carries the difference.
@@ -307,28 +307,28 @@ module _ {O : Ops} (F : Field O) (J : Joint) (has : Given O J) where
   -- A gate's parts carry its value where those that it names do.
   accurate_gate : (j : ℕ) → j < gates J.circuit → (k : Class) → (shape (gate J.circuit j)).class ≡ k → has_value (gate J.circuit j) ≡ true
       → ((x : ℕ) → Ref J.circuit j x → Carrying (wires O J x) (value O J x))
-      → Carrying (wireBy O J j (wires O J) (gate J.circuit j) k)
-      (kindValue O (gate J.circuit j).kind (plainInput O J j) (value O J (gate J.circuit j).first) (value O J (gate J.circuit j).second)
-      (operandOf O (gate J.circuit j)))
-  unfolding wireBy
+      → Carrying (wire_by O J j (wires O J) (gate J.circuit j) k)
+      (kind_value O (gate J.circuit j).kind (plain_input O J j) (value O J (gate J.circuit j).first) (value O J (gate J.circuit j).second)
+      (operand_of O (gate J.circuit j)))
+  unfolding wire_by
   accurate_gate j l Local e h earlier =
       let g = gate J.circuit j in
       (local_computes F g e).carries J.parties (keys O J) _ _ _ _ _ _ has.some (earlier g.first (local_named has.valid j l e))
       (earlier g.second (local_second F has.valid j l e))
   accurate_gate j l Owned e h earlier =
       rw (owned_value F (gate J.circuit j) e, ← input)
-      (carries_shift F J.parties (keys O J) has.some _ _ (ownerWord O J j (gate J.circuit j).first) (mask j l good))
+      (carries_shift F J.parties (keys O J) has.some _ _ (owner_word O J j (gate J.circuit j).first) (mask j l good))
     where
       good : GoodMask O J.parties J.circuit J.preps j (gate J.circuit j).first
       good = good_class j l e
 
-      input : add (sum_of O J (prepared O J j mask_at)) (ownerWord O J j (gate J.circuit j).first) ≡ plainInput O J j
+      input : add (sum_of O J (prepared O J j mask_at)) (owner_word O J j (gate J.circuit j).first) ≡ plain_input O J j
       input =
-          unfold ownerWord plainInput in
-          ap (λ (w : ℕ). add w (ownerWord O J j (gate J.circuit j).first)) (sym (whole_mask j l good)) ∙ add_comm _ _ ∙ sub_add F _ _ ∙ has.inputs j
+          unfold owner_word plain_input in
+          ap (λ (w : ℕ). add w (owner_word O J j (gate J.circuit j).first)) (sym (whole_mask j l good)) ∙ add_comm _ _ ∙ sub_add F _ _ ∙ has.inputs j
   accurate_gate j l Opens e h earlier =
       let g = gate J.circuit j in
-      rw (opens_value F g e (plainInput O J j) (operandOf O g) (value O J))
+      rw (opens_value F g e (plain_input O J j) (operand_of O g) (value O J))
       (carries_multiplied j (shape g).openings (triple j l e) _ _ _ _ (earlier g.first (opens_named has.valid j l e))
       (earlier (factor g) (factor_named has.valid j l e)))
   accurate_gate j l Output e h earlier = let no : is_out (gate J.circuit j) ≡ true = class_is e in false_no (rw no at h)
@@ -343,7 +343,7 @@ module _ {O : Ops} (F : Field O) (J : Joint) (has : Given O J) where
 
   -- what is opened carries its value on plain inputs
   abbrev pub CarriesOpened : Opening → Type 0
-  CarriesOpened o = Carrying (opened O J o) (openedValue O J o)
+  CarriesOpened o = Carrying (opened O J o) (opened_value O J o)
 
   -- The wire that a gate names carries its value on plain inputs.
   carries_named : {j x : ℕ} → j < gates J.circuit → Ref J.circuit j x → Carrying (wires O J x) (value O J x)
@@ -351,7 +351,7 @@ module _ {O : Ops} (F : Field O) (J : Joint) (has : Given O J) where
 
   -- The two differences of a product carry their values on plain inputs.
   pub carries_differences : (j : ℕ) → j < gates J.circuit → (shape (gate J.circuit j)).class ≡ Opens → Both CarriesOpened J.circuit j
-  unfolding opened openedValue
+  unfolding opened opened_value
   carries_differences j l e = (
     carries_masked _ _ j a_at (carries_named l (opens_named has.valid j l e)) (triple j l e).a,
     carries_masked _ _ j (b_at (shape (gate J.circuit j)).openings) (carries_named l (factor_named has.valid j l e)) (triple j l e).b,
@@ -367,25 +367,25 @@ module _ {O : Ops} (F : Field O) (J : Joint) (has : Given O J) where
     unfolding shows
     carries_shown =
         by_cases (is_give (gate J.circuit j))
-        (λ g. rw g (unfold opened openedValue in carries_masked _ _ j mask_at named (mask j l (good_class j l e g))))
-        (λ g. rw g (unfold opened openedValue in named))
+        (λ g. rw g (unfold opened opened_value in carries_masked _ _ j mask_at named (mask j l (good_class j l e g))))
+        (λ g. rw g (unfold opened opened_value in named))
 
     -- The score that the receiver makes of it is the value of the wire.
     pub shown_score : cond (is_give (gate J.circuit j))
-        (add (openedValue O J (shows j (gate J.circuit j))) (get_or (record_of (party J (receiver (gate J.circuit j))) j) whole_mask_at 0))
-        (openedValue O J (shows j (gate J.circuit j)))
+        (add (opened_value O J (shows j (gate J.circuit j))) (get_or (record_of (party J (receiver (gate J.circuit j))) j) whole_mask_at 0))
+        (opened_value O J (shows j (gate J.circuit j)))
         ≡ value O J (gate J.circuit j).first
     unfolding shows receiver
     shown_score =
         by_cases (is_give (gate J.circuit j))
         (λ g. rw g
-        (unfold openedValue in
+        (unfold opened_value in
         ap (add _) (whole_mask j l (good_class j l e g))
         ∙ sub_add F _ _
         ∙ ap norm (sym named.shares)
         ∙ norm_sum F J.parties _
         ∙ named.shares))
-        (λ g. rw g (unfold openedValue in refl))
+        (λ g. rw g (unfold opened_value in refl))
 
   -- All that is opened and unchecked carries its value on plain inputs.
   pub carries_openings : (j : ℕ) → j ≤ gates J.circuit → Every CarriesOpened (openings J.circuit j)

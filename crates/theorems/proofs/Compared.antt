@@ -25,11 +25,11 @@ use Rattle.circuit.proofs.Verdicts.{ask_yes, then_left, then_right, then_passed,
 use Rattle.protocol.specs.Party.{input_of}
 use Rattle.protocol.specs.Scratch.{scratch_size}
 use Rattle.protocol.specs.Joint.{party}
-use Rattle.protocol.specs.Plain.{plainInput, value, scoreOf, scoresSeen}
+use Rattle.protocol.specs.Plain.{plain_input, value, score_of, scores_seen}
 use Rattle.protocol.specs.JointAsk.{ask_joint}
 use Rattle.protocol.specs.Good.{Good}
 use Rattle.theorems.specs.Premises.{Accepts, InputsPass}
-use Rattle.theorems.specs.Matching.{left_out, plainly, inputMove}
+use Rattle.theorems.specs.Matching.{left_out, plainly, input_move}
 use Rattle.theorems.specs.Secrecy.{run_of}
 use Rattle.theorems.proofs.Bands.{elements_of}
 
@@ -57,19 +57,19 @@ split xs xs' ys ys' l e = (
 module _ (O : Ops) (n : ℕ) (c : List ℕ) (A : ℕ → Bool) (x x' : List ℕ) where
   -- the scores that A's parties see on either inputs
   abbrev seen : ℕ → List ℕ
-  seen r = scoresSeen O (plainly n c x) A r
+  seen r = scores_seen O (plainly n c x) A r
 
   abbrev seen' : ℕ → List ℕ
-  seen' r = scoresSeen O (plainly n c x') A r
+  seen' r = scores_seen O (plainly n c x') A r
 
   -- The inputs do not matter to how many scores a gate has ..
-  length_score_of : (g : Gate) → length (scoreOf O (plainly n c x') A g) ≡ length (scoreOf O (plainly n c x) A g)
-  unfolding scoreOf
+  length_score_of : (g : Gate) → length (score_of O (plainly n c x') A g) ≡ length (score_of O (plainly n c x) A g)
+  unfolding score_of
   length_score_of g = by_cases (is_out g && seen_by A g) (λ e. rw e) (λ e. rw e)
 
   -- .. nor to how many there are before a gate.
   length_scores : (r : ℕ) → length (seen' r) ≡ length (seen r)
-  unfolding scoresSeen plainly
+  unfolding scores_seen plainly
   length_scores zero = refl
   length_scores (suc r) =
       length-append (seen' r) _
@@ -83,16 +83,16 @@ module _ (O : Ops) (n : ℕ) (c : List ℕ) (A : ℕ → Bool) (x x' : List ℕ)
       → (shape (gate c j)).class ≡ Output
       → seen_by A (gate c j) ≡ true
       → value O (plainly n c x') (gate c j).first ≡ value O (plainly n c x) (gate c j).first
-  unfolding scoresSeen plainly
+  unfolding scores_seen plainly
   equal_outputs zero e j l k s = absurd (omega arith)
   equal_outputs (suc r) e j l k s = go (ℕ_discrete j r) (λ h. equal_outputs r parts.0 j h k s)
     where
-      parts : (seen' r ≡ seen r) × (scoreOf O (plainly n c x') A (gate c r) ≡ scoreOf O (plainly n c x) A (gate c r))
+      parts : (seen' r ≡ seen r) × (score_of O (plainly n c x') A (gate c r) ≡ score_of O (plainly n c x) A (gate c r))
       parts = split (seen r) (seen' r) _ _ (length_scores r) e
 
-      here : (g : Gate) → is_out g ≡ true → seen_by A g ≡ true → scoreOf O (plainly n c x') A g ≡ scoreOf O (plainly n c x) A g
+      here : (g : Gate) → is_out g ≡ true → seen_by A g ≡ true → score_of O (plainly n c x') A g ≡ score_of O (plainly n c x) A g
           → value O (plainly n c x') g.first ≡ value O (plainly n c x) g.first
-      here g o s q = unfold scoreOf in (rw (o, s) at (ap (λ (l : List ℕ). get_or l 0 0) q))
+      here g o s q = unfold score_of in (rw (o, s) at (ap (λ (l : List ℕ). get_or l 0 0) q))
 
       go : Dec (j ≡ r) → (j < r → value O (plainly n c x') (gate c j).first ≡ value O (plainly n c x) (gate c j).first)
           → value O (plainly n c x') (gate c j).first ≡ value O (plainly n c x) (gate c j).first
@@ -104,22 +104,22 @@ module _ (O : Ops) (n : ℕ) (c x x' : List ℕ) where
   pub no_move : Field O → (h i : ℕ) → (party (plainly n c x') i).inputs ≡ (party (plainly n c x) i).inputs
       → (j : ℕ)
       → (gate c j).first ≡ i
-      → inputMove O n c h x x' j ≡ 0
-  unfolding inputMove
+      → input_move O n c h x x' j ≡ 0
+  unfolding input_move
   no_move F h i e j g =
       ap₂ O.sub (own x' ∙ ap (λ (l : List ℕ). get_or l (input_at c i j) 0) e) (own x) ∙ sub_self F _
     where
-      own : (x : List ℕ) → plainInput O (plainly n c x) j ≡ get_or (party (plainly n c x) i).inputs (input_at c i j) 0
-      own x = unfold plainInput plainly input_of party in rw g
+      own : (x : List ℕ) → plain_input O (plainly n c x) j ≡ get_or (party (plainly n c x) i).inputs (input_at c i j) 0
+      own x = unfold plain_input plainly input_of party in rw g
 
 -- the questions that are left once the lists of one run have passed theirs: about the scratch, the coefficients, the nonces and the room
 unfoldable pub left : ℕ → ℕ → List ℕ → List ℕ → List ℕ → List ℕ → ℕ → ℕ → Verdict
-left q n c coefficients nonces scratch transcriptRoom outputRoom =
+left q n c coefficients nonces scratch transcript_room output_room =
     ask 12 0 (leb (n * scratch_size n c) (length scratch))
     then ask 16 0 (eqb (length coefficients) (coefficient_count c))
     then elements 17 q coefficients
     then ask 25 0 (eqb (length nonces) (nonce_size * (n * check_count c)))
-    then ask 18 0 (leb (n * word_count c) transcriptRoom && leb (out_count c) outputRoom)
+    then ask 18 0 (leb (n * word_count c) transcript_room && leb (out_count c) output_room)
 
 module _ {O : Ops} (F : Field O) (n : ℕ) (c : List ℕ) (A : ℕ → Bool) where
   open O use {size}

@@ -18,10 +18,10 @@ use Rattle.circuit.specs.Gate.{gate}
 use Rattle.circuit.specs.Kind.{alone}
 use Rattle.circuit.specs.Round.{First, Second, Round, Own, Open, Commit, Reveal, is_commit, words, commits_in, check_count}
 use Rattle.protocol.specs.Position.{Stage, Send, Finished}
-use Rattle.protocol.specs.Ask.{askLent}
+use Rattle.protocol.specs.Ask.{ask_lent}
 use Rattle.protocol.specs.Joint.{Joint, nonce_for}
 use Rattle.protocol.specs.Run.{State, Run, begun, taken, run}
-use Rattle.protocol.specs.Plain.{scoresSeen}
+use Rattle.protocol.specs.Plain.{scores_seen}
 use Rattle.protocol.specs.Docket.{circuit, prep₀, prep₁, docket, room, nonce, docket_words}
 use Rattle.protocol.proofs.Computing.{computing}
 use Rattle.theorems.specs.Premises.{Accepts, Enough, after}
@@ -143,7 +143,7 @@ handed k = go (dec_lt k 8)
         λ r e. let m : k ≡ suc (suc (suc (suc (suc (suc (suc (suc (k - 8)))))))) = omega arith in
         absurd (subst Idle (sym (ap (λ (n : ℕ). (after modular the_docket (bands docket_apart) n).point.stage) m ∙ rests (k - 8)) ∙ e) tt)
 
-lent : (i : ℕ) → i < 2 → askLent 2147483647 (party_in docket_apart i) (docket_apart.scratch i) ≡ Accepted
+lent : (i : ℕ) → i < 2 → ask_lent 2147483647 (party_in docket_apart i) (docket_apart.scratch i) ≡ Accepted
 unfolding computing modular
 lent zero h = refl
 lent (suc zero) h = refl
@@ -181,14 +181,14 @@ pub docket_words_lem : spoken ops docket_apart 8 ≡ docket_words
 docket_words_lem = (together_here docket_apart docket.coefficients docket.nonces docket_meets).transcript 8 ∙ eight_is
 
 -- the scores that party i sees
-seen_computed : (i : ℕ) → i < 2 → scoresSeen modular the_docket (alone i) 4 ≡ 30 ∷ []
+seen_computed : (i : ℕ) → i < 2 → scores_seen modular the_docket (alone i) 4 ≡ 30 ∷ []
 unfolding computing modular
 seen_computed zero h = refl
 seen_computed (suc zero) h = refl
 seen_computed (suc (suc i)) h = absurd (omega arith)
 
-seen_is : (i : ℕ) → i < 2 → scoresSeen ops the_docket (alone i) 4 ≡ 30 ∷ []
-seen_is i h = subst (λ (O : Ops). scoresSeen O the_docket (alone i) 4 ≡ 30 ∷ []) (sym prime_is_modular) (seen_computed i h)
+seen_is : (i : ℕ) → i < 2 → scores_seen ops the_docket (alone i) 4 ≡ 30 ∷ []
+seen_is i h = subst (λ (O : Ops). scores_seen O the_docket (alone i) 4 ≡ 30 ∷ []) (sym prime_is_modular) (seen_computed i h)
 
 -- .. and each is told its score.
 pub docket_scores : (i : ℕ) → i < 2 → outputs_in (apart ops docket_apart 8 i).answers ≡ 30 ∷ []

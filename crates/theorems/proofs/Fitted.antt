@@ -17,7 +17,7 @@ use Rattle.circuit.specs.Kind.{is_in, everyone}
 use Rattle.circuit.specs.Round.{commits_in, check_count}
 use Rattle.circuit.proofs.Tests.{false_no}
 use Rattle.protocol.specs.Send.{overwrite}
-use Rattle.protocol.specs.Plain.{plainInput, scores}
+use Rattle.protocol.specs.Plain.{plain_input, scores}
 use Rattle.protocol.specs.Docket.{circuit, docket, rooms}
 use Rattle.ranges.specs.Move.{Of}
 use Rattle.ranges.specs.Whole.{whole_numbers, Counting, InRange, ItFits, Near}
@@ -108,7 +108,7 @@ second : InputsPass ops circuit (8 ∷ 6 ∷ [])
 unfolding computing
 second = refl
 
-others : (j : ℕ) → j < gates circuit → is_in (gate circuit j) ≡ true → (j ≡ 0 → ⊥) → plainInput whole_numbers (docket_on 8 6) j ≡ plainInput whole_numbers docket j
+others : (j : ℕ) → j < gates circuit → is_in (gate circuit j) ≡ true → (j ≡ 0 → ⊥) → plain_input whole_numbers (docket_on 8 6) j ≡ plain_input whole_numbers docket j
 unfolding computing
 others zero h e d = absurd (d refl)
 others (suc zero) h e d = refl
@@ -116,7 +116,7 @@ others (suc (suc zero)) h e d = false_no e
 others (suc (suc (suc zero))) h e d = false_no e
 others (suc (suc (suc (suc j)))) h e d = absurd (omega arith)
 
-near : Near 5 (plainInput whole_numbers docket 0) (plainInput whole_numbers (docket_on 8 6) 0)
+near : Near 5 (plain_input whole_numbers docket 0) (plain_input whole_numbers (docket_on 8 6) 0)
 unfolding computing
 near = record { up = omega arith; down = omega arith }
 

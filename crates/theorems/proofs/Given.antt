@@ -18,7 +18,7 @@ use Rattle.circuit.proofs.Valid.{valid}
 use Rattle.protocol.specs.Party.{input_of}
 use Rattle.protocol.specs.Ask.{ask_parties, fewest_parties}
 use Rattle.protocol.specs.Joint.{Joint, inputs_at, party}
-use Rattle.protocol.specs.Plain.{plainInput}
+use Rattle.protocol.specs.Plain.{plain_input}
 use Rattle.protocol.specs.Good.{Good, GoodRecord}
 use Rattle.protocol.proofs.Said.{below_part}
 use Rattle.theorems.specs.Premises.{Accepts, InputsPass, Honest}
@@ -28,7 +28,7 @@ pub record Given (O : Ops) (J : Joint) : Type 0 where
   pub valid : Valid J.parties O.size J.circuit
   pub some : 0 < J.parties
   pub good : (j : ℕ) → j < gates J.circuit → GoodRecord O J.parties J.circuit J.preps j (gate J.circuit j) (shape (gate J.circuit j)).class
-  pub inputs : (j : ℕ) → O.norm (plainInput O J j) ≡ plainInput O J j
+  pub inputs : (j : ℕ) → O.norm (plain_input O J j) ≡ plain_input O J j
 
 -- Where the number of parties is accepted there is a party.
 pub some_party : (n : ℕ) → ask_parties n ≡ Accepted → 0 < n
@@ -43,8 +43,8 @@ module _ {O : Ops} (F : Field O) (J : Joint) where
       below_part J.inputs (input_count J.circuit i) (inputs_at J.circuit i)
       (elements_below 11 O.size J.inputs (omega (arith, F.one_lt)) (then_right _ _ pass)) (input_at J.circuit i j)
 
-  pub input_normed : InputsPass O J.circuit J.inputs → (j : ℕ) → O.norm (plainInput O J j) ≡ plainInput O J j
-  unfolding plainInput
+  pub input_normed : InputsPass O J.circuit J.inputs → (j : ℕ) → O.norm (plain_input O J j) ≡ plain_input O J j
+  unfolding plain_input
   input_normed pass j = F.norm_of_lt (input_below pass (gate J.circuit j).first j)
 
   -- An accepted circuit on good preprocessing and inputs that pass is what an honest run is given.

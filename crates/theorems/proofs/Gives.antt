@@ -16,13 +16,13 @@ use Rattle.circuit.specs.Round.{Second, commits_in, check_count}
 use Rattle.circuit.proofs.Tests.{false_no}
 use Rattle.protocol.specs.Joint.{party}
 use Rattle.protocol.specs.Run.{State, Run, begun, whole}
-use Rattle.protocol.specs.Entry.{receiveAnswer}
+use Rattle.protocol.specs.Entry.{receive_answer}
 use Rattle.protocol.specs.Docket.{shows}
 use Rattle.protocol.specs.Good.{GoodRecord}
 use Rattle.protocol.proofs.Computing.{computing}
 use Rattle.theorems.specs.Premises.{Accepts, Enough, after}
-use Rattle.theorems.specs.Matching.{left_out, add_lists, only, plainly, inputMove, valueMove, moved, productMove, maskMove, maskRecordMove, recordMove, prepMove, match, rule}
-use Rattle.theorems.specs.Secrecy.{bandOf}
+use Rattle.theorems.specs.Matching.{left_out, add_lists, only, plainly, input_move, value_move, moved, product_move, mask_move, mask_record_move, record_move, prep_move, match, rule}
+use Rattle.theorems.specs.Secrecy.{band_of}
 use Rattle.theorems.specs.Gives.{A, circuit₁, preps₁, circuit, preps, matched, inputs₁, inputs₂, rooms₁, rooms, blank, unwritten, hearing, given₁, answered, giving, Gives}
 use Rattle.theorems.proofs.Known.{hashed}
 use Rattle.theorems.proofs.Hashed.{runs, state_is, whole_is, answer_is, left_alike, outputs_are, reveal_is, hashing}
@@ -73,9 +73,9 @@ abbrev before : ℕ → List ℕ
 before i = (runs hashed modular (given₁ modular) 3 (begun modular (given₁ modular) rooms₁)).last.scratch i
 
 -- What it is answered there.
-answered_is : (i : ℕ) → answered modular i ≡ receiveAnswer modular (party (given₁ modular) i) (before i) hearing (shows 4 ++ shows 2147483643)
+answered_is : (i : ℕ) → answered modular i ≡ receive_answer modular (party (given₁ modular) i) (before i) hearing (shows 4 ++ shows 2147483643)
 answered_is i =
-    ap (λ (s : State). receiveAnswer modular (party (given₁ modular) i) (s.scratch i) hearing (shows 4 ++ shows 2147483643))
+    ap (λ (s : State). receive_answer modular (party (given₁ modular) i) (s.scratch i) hearing (shows 4 ++ shows 2147483643))
     (state_is modular (given₁ modular) rooms₁ accepts₁ enough₁ 3)
 
 -- Both inputs of party 0 are 5.
@@ -86,7 +86,7 @@ agree (suc zero) l a = false_no a
 agree (suc (suc i)) l a = absurd (omega arith)
 
 computed : Gives modular
-unfolding hashing modular all_below after left_out add_lists only plainly inputMove valueMove moved productMove maskMove maskRecordMove recordMove prepMove match rule
+unfolding hashing modular all_below after left_out add_lists only plainly input_move value_move moved product_move mask_move mask_record_move record_move prep_move match rule
 computed =
     record {
       good₁ = record { long = refl; elements = below 2147483647 preps₁ tt; records = good-records₁ };
@@ -119,7 +119,7 @@ computed =
       same_words = words matched inputs₂;
       same_bands =
           left_alike modular (giving modular matched inputs₂) (giving modular preps inputs₁) rooms blank unwritten accepts (enough matched inputs₂) accepts
-          (enough preps inputs₁) (λ l. bandOf modular 2 circuit A l 0) refl;
+          (enough preps inputs₁) (λ l. band_of modular 2 circuit A l 0) refl;
       not_to_receiver = λ is. let e : ◌≡◌ {A = ℕ} 14 11 = ap (λ (l : List ℕ). get_or l 0 0) is.equal_scores in absurd (omega (arith, e));
     }
 

@@ -20,12 +20,12 @@ use Rattle.protocol.specs.Scratch.{layout, scratch_size, band, marks_of}
 use Rattle.protocol.specs.Position.{Stage, Send, Receive, Finished, Aborted, keep, when_sending, when_receiving}
 use Rattle.protocol.specs.Party.{Party}
 use Rattle.protocol.specs.Send.{revealed, mark, overwrite, sent, holds}
-use Rattle.protocol.specs.Receive.{Blame, Nobody, Blames, Ruling, Passed, passed, fits, first_blame, misfit, weighs, heardSum, ruling, scored, next, finds, left}
-use Rattle.protocol.specs.Ask.{askReceive}
-use Rattle.protocol.specs.Entry.{answer, leave, releases, concludes, outcome, receiveAnswer}
+use Rattle.protocol.specs.Receive.{Blame, Nobody, Blames, Ruling, Passed, passed, fits, first_blame, misfit, weighs, heard_sum, ruling, scored, next, finds, left}
+use Rattle.protocol.specs.Ask.{ask_receive}
+use Rattle.protocol.specs.Entry.{answer, leave, releases, concludes, outcome, receive_answer}
 use Rattle.protocol.specs.Joint.{Joint, joined, party, nonce_for}
-use Rattle.protocol.specs.Run.{State, Run, blamed, begun, takes, taken, said, notes, ends, step, released, still, ahead, run, whole, mostRounds}
-use Rattle.protocol.specs.JointEntry.{ended, jointly, verdict, jointAnswer, jointScratch, jointTranscript, jointOutputs}
+use Rattle.protocol.specs.Run.{State, Run, blamed, begun, takes, taken, said, notes, ends, step, released, still, ahead, run, whole, most_rounds}
+use Rattle.protocol.specs.JointEntry.{ended, jointly, verdict, joint_answer, joint_scratch, joint_transcript, joint_outputs}
 use Rattle.protocol.proofs.Computing.{computing}
 use Rattle.protocol.proofs.Marks.{ends_other}
 use Rattle.theorems.specs.Premises.{Accepts, Enough, after}
@@ -50,7 +50,7 @@ module _ (H : List ℕ → List ℕ) (O : Ops) (J : Joint) where
 
   -- how a round ends whose words are these
   unfoldable pub weighed : Round → List ℕ → Ruling
-  weighed r heard = cond (is_reveal r) (weighs Nobody (eqb (heardSum O J.parties reveal_words 0 heard) 0)) Passed
+  weighed r heard = cond (is_reveal r) (weighs Nobody (eqb (heard_sum O J.parties reveal_words 0 heard) 0)) Passed
 
   -- a round of these words that ends so
   unfoldable pub step_of : State → Round → List ℕ → Ruling → State
@@ -98,7 +98,7 @@ module _ (O : Ops) (J : Joint) (scratch : List ℕ) (accepts : Accepts O J.parti
   unfolding weighed
   ends_is s kept r e = by_cases (is_reveal r) reveals (λ z. rw z (ends_other O J s r z))
     where
-      reveals : is_reveal r ≡ true → ends O J s r ≡ cond (is_reveal r) (weighs Nobody (eqb (heardSum O J.parties reveal_words 0 (says digest O J s r)) 0)) Passed
+      reveals : is_reveal r ≡ true → ends O J s r ≡ cond (is_reveal r) (weighs Nobody (eqb (heard_sum O J.parties reveal_words 0 (says digest O J s r)) 0)) Passed
       reveals z = rw (z, ← said_is s r) (ends_sum O J s kept (some_party J.parties accepts.parties) r e z)
 
   run_is : (k : ℕ) (s : State) → Kept O J s → run O J k s ≡ runs digest O J k s
@@ -130,45 +130,45 @@ module _ (O : Ops) (J : Joint) (scratch : List ℕ) (accepts : Accepts O J.parti
   pub state_is : (k : ℕ) → after O J scratch k ≡ (runs hashed O J k (begun O J scratch)).last
   state_is k = sym (last_first O J scratch k) ∙ ap (λ (R : Run). R.last) (first_is k)
 
-  pub whole_is : whole O J scratch ≡ runs hashed O J (mostRounds O J * gates J.circuit) (begun O J scratch)
+  pub whole_is : whole O J scratch ≡ runs hashed O J (most_rounds O J * gates J.circuit) (begun O J scratch)
   unfolding whole
-  whole_is = first_is (mostRounds O J * gates J.circuit)
+  whole_is = first_is (most_rounds O J * gates J.circuit)
 
 module _ (O : Ops) (J : Joint) (scratch t o : List ℕ) (accepts : Accepts O J.parties J.circuit) (enough : Enough J scratch) where
   -- the run
   abbrev R : Run
-  R = runs hashed O J (mostRounds O J * gates J.circuit) (begun O J scratch)
+  R = runs hashed O J (most_rounds O J * gates J.circuit) (begun O J scratch)
 
   -- What a call of the joint run answers and leaves is what that run gives.
-  pub answer_is : jointAnswer O J scratch t o ≡ jointly (verdict O J scratch t o) (ended R.last.point.stage R.last.point.gate R.last.blame R.rounds)
-  unfolding jointAnswer
+  pub answer_is : joint_answer O J scratch t o ≡ jointly (verdict O J scratch t o) (ended R.last.point.stage R.last.point.gate R.last.blame R.rounds)
+  unfolding joint_answer
   answer_is =
       ap (λ (R : Run). jointly (verdict O J scratch t o) (ended R.last.point.stage R.last.point.gate R.last.blame R.rounds))
       (whole_is O J scratch accepts enough)
 
   -- the scratch that it leaves
-  abbrev pub leftBy : List ℕ
-  leftBy = leave (verdict O J scratch t o) (joined J.parties R.last.scratch ++ drop (J.parties * scratch_size J.parties J.circuit) scratch) scratch
+  abbrev pub left_by : List ℕ
+  left_by = leave (verdict O J scratch t o) (joined J.parties R.last.scratch ++ drop (J.parties * scratch_size J.parties J.circuit) scratch) scratch
 
-  pub scratch_is : jointScratch O J scratch t o ≡ leftBy
-  unfolding jointScratch
+  pub scratch_is : joint_scratch O J scratch t o ≡ left_by
+  unfolding joint_scratch
   scratch_is =
       ap (λ (R : Run). leave (verdict O J scratch t o) (joined J.parties R.last.scratch ++ drop (J.parties * scratch_size J.parties J.circuit) scratch) scratch)
       (whole_is O J scratch accepts enough)
 
-  pub transcript_is : jointTranscript O J scratch t o ≡ leave (verdict O J scratch t o) (overwrite R.transcript t) t
-  unfolding jointTranscript
+  pub transcript_is : joint_transcript O J scratch t o ≡ leave (verdict O J scratch t o) (overwrite R.transcript t) t
+  unfolding joint_transcript
   transcript_is = ap (λ (R : Run). leave (verdict O J scratch t o) (overwrite R.transcript t) t) (whole_is O J scratch accepts enough)
 
-  pub outputs_are : jointOutputs O J scratch t o ≡ leave (verdict O J scratch t o) (overwrite R.outputs o) o
-  unfolding jointOutputs
+  pub outputs_are : joint_outputs O J scratch t o ≡ leave (verdict O J scratch t o) (overwrite R.outputs o) o
+  unfolding joint_outputs
   outputs_are = ap (λ (R : Run). leave (verdict O J scratch t o) (overwrite R.outputs o) o) (whole_is O J scratch accepts enough)
 
 -- what is alike of the scratch that two runs leave, where it is computed
 pub left_alike : (O : Ops) (J K : Joint) (scratch t o : List ℕ) (accepts : Accepts O J.parties J.circuit) (enough : Enough J scratch)
     (accepts' : Accepts O K.parties K.circuit) (enough' : Enough K scratch) (f : List ℕ → List ℕ)
-    → f (leftBy O J scratch t o accepts enough) ≡ f (leftBy O K scratch t o accepts' enough')
-    → f (jointScratch O J scratch t o) ≡ f (jointScratch O K scratch t o)
+    → f (left_by O J scratch t o accepts enough) ≡ f (left_by O K scratch t o accepts' enough')
+    → f (joint_scratch O J scratch t o) ≡ f (joint_scratch O K scratch t o)
 left_alike O J K scratch t o accepts enough accepts' enough' f e =
     ap f (scratch_is O J scratch t o accepts enough) ∙ e ∙ sym (ap f (scratch_is O K scratch t o accepts' enough'))
 
@@ -186,15 +186,15 @@ misfit_is (suc n) marks heard =
 
 -- What is answered to the hearing of a reveal.
 pub reveal_is : (O : Ops) (P : Party) (l : List ℕ) (j held : ℕ) (k : Check) (heard : List ℕ)
-    → askReceive O.size P l (receiving_at j (Reveal k) held) heard ≡ Accepted
-    → receiveAnswer O P l (receiving_at j (Reveal k) held) heard
+    → ask_receive O.size P l (receiving_at j (Reveal k) held) heard ≡ Accepted
+    → receive_answer O P l (receiving_at j (Reveal k) held) heard
     ≡ concludes O P (scored O P l j) j held (Reveal k)
-    (weighs (misfits hashed P.parties (marks_of P.parties (layout P.circuit) l) heard) (eqb (heardSum O P.parties reveal_words 0 heard) 0))
-unfolding receiveAnswer answer when_receiving outcome finds ruling
+    (weighs (misfits hashed P.parties (marks_of P.parties (layout P.circuit) l) heard) (eqb (heard_sum O P.parties reveal_words 0 heard) 0))
+unfolding receive_answer answer when_receiving outcome finds ruling
 reveal_is O P l j held k heard ok =
     rw ok
     (ap
-    (λ (b : Blame). concludes O P (scored O P l j) j held (Reveal k) (weighs b (eqb (heardSum O P.parties reveal_words 0 heard) 0)))
+    (λ (b : Blame). concludes O P (scored O P l j) j held (Reveal k) (weighs b (eqb (heard_sum O P.parties reveal_words 0 heard) 0)))
     (misfit_is P.parties _ heard ∙ ap (λ (H : List ℕ → List ℕ). misfits H P.parties (marks_of P.parties (layout P.circuit) l) heard) hash_is))
 
 -- The definitions that a run with its marks computes by.

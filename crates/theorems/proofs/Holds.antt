@@ -25,7 +25,7 @@ use Rattle.protocol.specs.Scratch.{layout, slots_size, Value, ValueMac, read, wi
 use Rattle.protocol.specs.Position.{reach}
 use Rattle.protocol.specs.Party.{record_of, mask_at, a_at, b_at, c_at}
 use Rattle.protocol.specs.Send as Send
-use Rattle.protocol.specs.Receive.{operandOf, afterInput, putDifferences, afterOpening, afterOpenOutput, linear, putLinear, afterLinear, settle}
+use Rattle.protocol.specs.Receive.{operand_of, after_input, put_differences, after_opening, after_open_output, linear, put_linear, after_linear, settle}
 use Rattle.protocol.specs.Joint.{Joint, party}
 use Rattle.protocol.proofs.Tails.{SameSlots, wire_same}
 use Rattle.protocol.proofs.Slots.{length_put, length_opened, wire_put_same, wire_put_other, value_put}
@@ -33,7 +33,7 @@ use Rattle.protocol.proofs.Slots.{value_mac_put, wire_opened}
 use Rattle.protocol.proofs.Slots.{value_opened_same, value_mac_opened_same, value_opened_other, value_mac_opened_other}
 use Rattle.theorems.proofs.KindValues.{local_second}
 use Rattle.theorems.proofs.Closed.{Opening, Masked, Shown, shows, differences, openings, length_openings, openings_local, openings_owned, openings_opens}
-use Rattle.theorems.proofs.Closed.{keys, prepared, ownerWord, masked, sum_of, multiplied, wireBy, wires, opened, wires_are}
+use Rattle.theorems.proofs.Closed.{keys, prepared, owner_word, masked, sum_of, multiplied, wire_by, wires, opened, wires_are}
 
 -- There is room for one opened value.
 pub room_one : (c : List ℕ) → 1 ≤ capacity c
@@ -176,14 +176,14 @@ module _ (O : Ops) (J : Joint) where
   module _ (F : Field O) {n q : ℕ} (ok : Valid n q J.circuit) {i j : ℕ} {l : List ℕ} (lt : j < gates J.circuit) where
     -- The owner's word is received.
     pub holds_input : (e : ℕ) → Holds i j (openings J.circuit j) l → (shape (gate J.circuit j)).class ≡ Owned
-        → e ≡ ownerWord O J j (gate J.circuit j).first
-        → Holds i (suc j) (openings J.circuit (suc j)) (afterInput O i (keys O J i) (layout J.circuit) l j (record_of (party J i) j) e)
-    unfolding afterInput
+        → e ≡ owner_word O J j (gate J.circuit j).first
+        → Holds i (suc j) (openings J.circuit (suc j)) (after_input O i (keys O J i) (layout J.circuit) l j (record_of (party J i) j) e)
+    unfolding after_input
     holds_input e h k ee =
         rw (openings_owned J.circuit j k)
         (holds_wire _ h lt
         (ap (shift O i (keys O J i) (part_at (record_of (party J i) j) mask_at)) ee
-        ∙ (unfold wireBy prepared in ap (λ (w : ℕ → Part). w i) (sym (wires_are O J F ok j lt k)))))
+        ∙ (unfold wire_by prepared in ap (λ (w : ℕ → Part). w i) (sym (wires_are O J F ok j lt k)))))
 
     -- The differences of a product are received and written: two, or one.
     holds_differences : (x z k u e d : ℕ) → Holds i j (openings J.circuit j) l
@@ -195,8 +195,8 @@ module _ (O : Ops) (J : Joint) where
         → e ≡ sum_of O J (opened O J (Masked j x a_at))
         → d ≡ sum_of O J (opened O J (Masked j z (b_at k)))
         → Holds i j (openings J.circuit j ++ differences j x z k)
-        (putDifferences O (layout J.circuit) l x z (record_of (party J i) j) k u e d)
-    unfolding putDifferences differences
+        (put_differences O (layout J.circuit) l x z (record_of (party J i) j) k u e d)
+    unfolding put_differences differences
     holds_differences x z k u e d h rx rz some fits len ee ed =
         by_cases (eqb k 2)
         (λ b. let two : k ≡ 2 = eqb-true k 2 b in
@@ -218,13 +218,13 @@ module _ (O : Ops) (J : Joint) where
         → e ≡ sum_of O J (opened O J (Masked j (gate J.circuit j).first a_at))
         → d ≡ sum_of O J (opened O J (Masked j (factor (gate J.circuit j)) (b_at (shape (gate J.circuit j)).openings)))
         → Holds i (suc j) (openings J.circuit (suc j))
-        (afterOpening O i (keys O J i) (layout J.circuit) l j (gate J.circuit j).first (factor (gate J.circuit j)) (record_of (party J i) j)
+        (after_opening O i (keys O J i) (layout J.circuit) l j (gate J.circuit j).first (factor (gate J.circuit j)) (record_of (party J i) j)
         (shape (gate J.circuit j)).openings (unchecked J.circuit j) e d)
-    unfolding afterOpening
+    unfolding after_opening
     holds_product e d h k ee ed = rw (openings_opens J.circuit j k) (holds_wire _ both lt part)
       where
         both : Holds i j (openings J.circuit j ++ differences j (gate J.circuit j).first (factor (gate J.circuit j)) (shape (gate J.circuit j)).openings)
-            (putDifferences O (layout J.circuit) l (gate J.circuit j).first (factor (gate J.circuit j)) (record_of (party J i) j)
+            (put_differences O (layout J.circuit) l (gate J.circuit j).first (factor (gate J.circuit j)) (record_of (party J i) j)
             (shape (gate J.circuit j)).openings (unchecked J.circuit j) e d)
         both =
             holds_differences _ _ _ _ e d h (opens_named ok j lt k) (factor_named ok j lt k) (opens_facts (gate J.circuit j) k).some
@@ -236,27 +236,27 @@ module _ (O : Ops) (J : Joint) where
             (part_at (record_of (party J i) j) (c_at (shape (gate J.circuit j)).openings))
 
         part : made e d ≡ wires O J j i
-        part = ap₂ made ee ed ∙ (unfold wireBy multiplied prepared opened in ap (λ (w : ℕ → Part). w i) (sym (wires_are O J F ok j lt k)))
+        part = ap₂ made ee ed ∙ (unfold wire_by multiplied prepared opened in ap (λ (w : ℕ → Part). w i) (sym (wires_are O J F ok j lt k)))
 
     -- The shares of an output are received.
     pub holds_shown : (s : ℕ) → Holds i j [] l → (shape (gate J.circuit j)).class ≡ Output
         → s ≡ sum_of O J (opened O J (shows j (gate J.circuit j)))
-        → Holds i j (shows j (gate J.circuit j) ∷ []) (afterOpenOutput O (layout J.circuit) l (Send.showing O (party J i) l j) s)
-    unfolding afterOpenOutput
+        → Holds i j (shows j (gate J.circuit j) ∷ []) (after_open_output O (layout J.circuit) l (Send.showing O (party J i) l j) s)
+    unfolding after_open_output
     holds_shown s h k es =
         holds_opened (shows j (gate J.circuit j)) 0 s _ h (room_one J.circuit) refl es
         (ap (λ (p : Part). p.mac) (own_showing h (output_named ok j lt k)))
 
     -- A gate that needs no round is worked out.
     holds_linear : Holds i j (openings J.circuit j) l → (shape (gate J.circuit j)).class ≡ Local
-        → Holds i (suc j) (openings J.circuit (suc j)) (afterLinear O i (keys O J i) (layout J.circuit) l j (gate J.circuit j))
-    unfolding afterLinear putLinear
+        → Holds i (suc j) (openings J.circuit (suc j)) (after_linear O i (keys O J i) (layout J.circuit) l j (gate J.circuit j))
+    unfolding after_linear put_linear
     holds_linear h k =
         rw (openings_local J.circuit j k)
         (holds_wire _ h lt
-        (ap₂ (λ (x z : Part). linear O i (keys O J i) (gate J.circuit j).kind x z (operandOf O (gate J.circuit j)))
+        (ap₂ (λ (x z : Part). linear O i (keys O J i) (gate J.circuit j).kind x z (operand_of O (gate J.circuit j)))
         (own_shown _ h (local_named ok j lt k)) (own_shown _ h (local_second F ok j lt k))
-        ∙ (unfold wireBy opened in ap (λ (w : ℕ → Part). w i) (sym (wires_are O J F ok j lt k)))))
+        ∙ (unfold wire_by opened in ap (λ (w : ℕ → Part). w i) (sym (wires_are O J F ok j lt k)))))
 
   -- The gates up to the next stop are worked out.
   pub holds_settle : (F : Field O) {n q : ℕ} (ok : Valid n q J.circuit) (i left j : ℕ) (l : List ℕ) → j + left ≤ gates J.circuit

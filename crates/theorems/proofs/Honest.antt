@@ -25,14 +25,14 @@ use Rattle.protocol.specs.Part.{Part}
 use Rattle.protocol.specs.Scratch.{layout, scratch_size}
 use Rattle.protocol.specs.Position.{Point, Stage, Send, Receive, Finished, Aborted, finished, reach, resume, start, follow, keep}
 use Rattle.protocol.specs.Party.{a_at, b_at}
-use Rattle.protocol.specs.Send.{inputWord, checkShare, opening, own_words, sent, holds, noted}
-use Rattle.protocol.specs.Receive.{Nobody, Ruling, Passed, weighs, heardSum, onward, ownReceived, checkPassed, received, next, left}
+use Rattle.protocol.specs.Send.{input_word, check_share, opening, own_words, sent, holds, noted}
+use Rattle.protocol.specs.Receive.{Nobody, Ruling, Passed, weighs, heard_sum, onward, own_received, check_passed, received, next, left}
 use Rattle.protocol.specs.Joint.{Joint, party, nonce_for}
 use Rattle.protocol.specs.Run.{State, begun, taken, said, notes, ends, step}
 use Rattle.theorems.proofs.Given.{Given}
 use Rattle.theorems.proofs.Closed.{Opening, Masked, Shown, shows, openings, length_openings, openings_output, Every, every_at, keys}
-use Rattle.theorems.proofs.Closed.{ownerWord, sum_of, opened, CarriesOpened, carries_shown, carries_openings, check_zero}
-use Rattle.protocol.proofs.Words.{length_band, get_d_joined, heard_sum}
+use Rattle.theorems.proofs.Closed.{owner_word, sum_of, opened, CarriesOpened, carries_shown, carries_openings, check_zero}
+use Rattle.protocol.proofs.Words.{length_band, get_d_joined, heard_sum_lem}
 use Rattle.protocol.proofs.Said.{length_sent}
 use Rattle.protocol.proofs.Tails.{slots_room, nonce_room, nonce_length, marks_length}
 use Rattle.protocol.proofs.Marks.{ends_other}
@@ -42,7 +42,7 @@ use Rattle.theorems.proofs.Holds.{holds_shown, holds_settle}
 use Rattle.protocol.proofs.InOrder.{begins}
 use Rattle.protocol.proofs.Points.{Reached, reached, Entered, ended, begun as beginning, entered, Fits, FitsStage, goes_entered}
 use Rattle.protocol.proofs.Points.{sending, follow_stays, follow_leaves, fits_follow, entered_start}
-use Rattle.theorems.proofs.Sent.{said_by, sent_class, opening_first, opening_last, revealed_sum}
+use Rattle.theorems.proofs.Sent.{said_by, sent_class, opening_first, opening_last, revealed_sum_lem}
 
 -- what a check of gate j is of: what is opened and unchecked when it is reached, or what it shows
 unfoldable pub under_check : List ℕ → ℕ → Check → List Opening
@@ -161,11 +161,11 @@ module _ (O : Ops) (J : Joint) where
 
 module _ {O : Ops} (F : Field O) (J : Joint) (has : Given O J) where
   -- The check shares of what is opened sum to zero, whatever the coefficients.
-  check_sum : (j k : ℕ) (os : List Opening) (scratch : ℕ → List ℕ) (taken : List ℕ) → k ≡ length os
+  check_sum_lem : (j k : ℕ) (os : List Opening) (scratch : ℕ → List ℕ) (taken : List ℕ) → k ≡ length os
       → ((i : ℕ) → i < J.parties → Holds O J i j os (scratch i))
       → Every (CarriesOpened F J has) os
-      → sum O J.parties (λ i. checkShare O (layout J.circuit) (scratch i) k (keys O J i) taken) ≡ 0
-  check_sum j k os scratch taken e h every =
+      → sum O J.parties (λ i. check_share O (layout J.circuit) (scratch i) k (keys O J i) taken) ≡ 0
+  check_sum_lem j k os scratch taken e h every =
       sum_ext F J.parties _ _ own
       ∙ check_zero F J.parties k (keys O J) (λ t. get_or taken t 0) value (λ t i. mac i t) authentic
     where
@@ -181,10 +181,10 @@ module _ {O : Ops} (F : Field O) (J : Joint) (has : Given O J) where
           o.macs ∙ ap (O.mul (sum O J.parties (keys O J))) (unfold sum_of in sym o.shares)
 
       own : (i : ℕ) → i < J.parties
-          → checkShare O (layout J.circuit) (scratch i) k (keys O J i) taken
+          → check_share O (layout J.circuit) (scratch i) k (keys O J i) taken
           ≡ O.sub (sum O k (λ t. O.mul (get_or taken t 0) (mac i t))) (O.mul (keys O J i) (sum O k (λ t. O.mul (get_or taken t 0) (value t))))
       own i l =
-          unfold checkShare in
+          unfold check_share in
           ap₂ O.sub
           (sum_ext F k _ _ (λ t lt. ap (O.mul (get_or taken t 0)) ((h i l).macs t (omega arith))))
           (ap (O.mul (keys O J i)) (sum_ext F k _ _ (λ t lt. ap (O.mul (get_or taken t 0)) ((h i l).values t (omega arith)))))
@@ -209,7 +209,7 @@ module _ {O : Ops} (F : Field O) (J : Joint) (has : Given O J) where
       reveals : is_reveal r ≡ true → ends O J s r ≡ Passed
       reveals q =
           ends_sum O J s kept has.some r e q
-          ∙ ap (weighs Nobody) (eq-eqb _ 0 (revealed_sum F J s r q (kept_room O J s kept) ∙ checks_at O J s r e inv q))
+          ∙ ap (weighs Nobody) (eq-eqb _ 0 (revealed_sum_lem F J s r q (kept_room O J s kept) ∙ checks_at O J s r e inv q))
 
   -- The scratch after the gates that follow gate j up to the next stop.
   holds_onward : (i j : ℕ) (l : List ℕ) → j < gates J.circuit → Holds O J i (suc j) (openings J.circuit (suc j)) l
@@ -231,9 +231,9 @@ module _ {O : Ops} (F : Field O) (J : Joint) (has : Given O J) where
     later r i = received O (party J i) (notes O J s r i) at r (heard r)
 
     -- What party i receives in a gate's own round, by the gate's class.
-    later_class : (i : ℕ) {k : Class} → (shape (gate J.circuit at)).class ≡ k → later Own i ≡ ownReceived O (party J i) (s.scratch i) at (heard Own) k
+    later_class : (i : ℕ) {k : Class} → (shape (gate J.circuit at)).class ≡ k → later Own i ≡ own_received O (party J i) (s.scratch i) at (heard Own) k
     unfolding received party notes noted
-    later_class i e = ap (ownReceived O (party J i) (s.scratch i) at (heard Own)) e
+    later_class i e = ap (own_received O (party J i) (s.scratch i) at (heard Own)) e
 
     -- Every party sends the words of the round.
     sent_long : (r : Round) → s.point.stage ≡ Send r → (i : ℕ) → i < J.parties → length (said_by O J s r i) ≡ words (gate J.circuit at) r
@@ -245,16 +245,16 @@ module _ {O : Ops} (F : Field O) (J : Joint) (has : Given O J) where
     -- What is heard of the words t is what is opened, where each party sends its share of that.
     heard_opened : (r : Round) → s.point.stage ≡ Send r → (t : ℕ) (o : Opening) → t < words (gate J.circuit at) r
         → ((i : ℕ) → i < J.parties → get_or (said_by O J s r i) t 0 ≡ (opened O J o i).share)
-        → heardSum O J.parties (words (gate J.circuit at) r) t (heard r) ≡ sum_of O J (opened O J o)
+        → heard_sum O J.parties (words (gate J.circuit at) r) t (heard r) ≡ sum_of O J (opened O J o)
     unfolding said sum_of
     heard_opened r e t o lt h =
-        heard_sum F J.parties (words (gate J.circuit at) r) t (said_by O J s r)
+        heard_sum_lem F J.parties (words (gate J.circuit at) r) t (said_by O J s r)
         (sent_long r e) lt
         ∙ sum_ext F J.parties _ _ h
 
     -- What is heard of an input is the owner's word.
     heard_input : s.point.stage ≡ Send Own → (shape (gate J.circuit at)).class ≡ Owned
-        → get_or (heard Own) ((gate J.circuit at).first * words (gate J.circuit at) Own) 0 ≡ ownerWord O J at (gate J.circuit at).first
+        → get_or (heard Own) ((gate J.circuit at).first * words (gate J.circuit at) Own) 0 ≡ owner_word O J at (gate J.circuit at).first
     heard_input e k = ap (λ (t : ℕ). get_or (heard Own) t 0) place ∙ sent_by ∙ word
       where
         x : ℕ
@@ -273,14 +273,14 @@ module _ {O : Ops} (F : Field O) (J : Joint) (has : Given O J) where
             (sent_long Own e) x 0
             (owner_named has.valid at (fits_at O J s Own e inv).0 k) one
 
-        word : get_or (said_by O J s Own x) 0 0 ≡ ownerWord O J at x
-        word = ap (λ (ws : List ℕ). get_or ws 0 0) (sent_class O J x _ at _ _ _ k) ∙ (unfold own_words inputWord ownerWord party in rw (eq-eqb x x refl))
+        word : get_or (said_by O J s Own x) 0 0 ≡ owner_word O J at x
+        word = ap (λ (ws : List ℕ). get_or ws 0 0) (sent_class O J x _ at _ _ _ k) ∙ (unfold own_words input_word owner_word party in rw (eq-eqb x x refl))
 
     -- After the round of an input every scratch holds the owner's input.
-    after_input : s.point.stage ≡ Send Own → (shape (gate J.circuit at)).class ≡ Owned → (i : ℕ) → i < J.parties → Resumed O J i (suc at) (later Own i)
-    after_input e k i l =
+    after_input_lem : s.point.stage ≡ Send Own → (shape (gate J.circuit at)).class ≡ Owned → (i : ℕ) → i < J.parties → Resumed O J i (suc at) (later Own i)
+    after_input_lem e k i l =
         rw (later_class i k)
-        (unfold ownReceived party keys in
+        (unfold own_received party keys in
         holds_onward i at _ lt (holds_input O J F has.valid lt _ (unfold pending in holds_at O J s Own e inv i l) k (heard_input e k)))
       where
         lt : at < gates J.circuit
@@ -291,7 +291,7 @@ module _ {O : Ops} (F : Field O) (J : Joint) (has : Given O J) where
     unfolding party
     after_product e k i l =
         rw (later_class i k)
-        (unfold ownReceived party keys in
+        (unfold own_received party keys in
         holds_onward i at _ lt (holds_product O J F has.valid lt _ _ (own i l) k heard_first_lem heard_second_lem))
       where
         g : Gate
@@ -309,14 +309,14 @@ module _ {O : Ops} (F : Field O) (J : Joint) (has : Given O J) where
         word : (i t : ℕ) → get_or (said_by O J s Own i) t 0 ≡ get_or (opening O (party J i) (s.scratch i) at (shape g).openings) t 0
         word i t = ap (λ (ws : List ℕ). get_or ws t 0) (sent_class O J i _ at _ _ _ k) ∙ (unfold own_words party in refl)
 
-        heard_first_lem : heardSum O J.parties (words g Own) 0 (heard Own) ≡ sum_of O J (opened O J (Masked at g.first a_at))
+        heard_first_lem : heard_sum O J.parties (words g Own) 0 (heard Own) ≡ sum_of O J (opened O J (Masked at g.first a_at))
         heard_first_lem =
             heard_opened Own e 0 _ (omega (arith, many.0, many.1))
             (λ i l. word i 0
             ∙ opening_first O (party J i) (s.scratch i) at (shape g).openings
             ∙ ap (λ (p : Part). p.share) (own_masked O J _ (own i l) (opens_named has.valid at lt k) a_at))
 
-        heard_second_lem : heardSum O J.parties (words g Own) ((shape g).openings - 1) (heard Own)
+        heard_second_lem : heard_sum O J.parties (words g Own) ((shape g).openings - 1) (heard Own)
             ≡ sum_of O J (opened O J (Masked at (factor g) (b_at (shape g).openings)))
         heard_second_lem =
             heard_opened Own e ((shape g).openings - 1) _ (omega (arith, many.0, many.1))
@@ -341,7 +341,7 @@ module _ {O : Ops} (F : Field O) (J : Joint) (has : Given O J) where
         one : 0 < words (gate J.circuit at) Open
         one = unfold shape_words in omega (arith, (output_facts (gate J.circuit at) k).words)
 
-        heard_shown : heardSum O J.parties (words (gate J.circuit at) Open) 0 (heard Open) ≡ sum_of O J (opened O J (shows at (gate J.circuit at)))
+        heard_shown : heard_sum O J.parties (words (gate J.circuit at) Open) 0 (heard Open) ≡ sum_of O J (opened O J (shows at (gate J.circuit at)))
         heard_shown =
             heard_opened Open e 0 _ one
             (λ i l. unfold sent party in ap (λ (p : Part). p.share) (own_showing O J (own i l) (output_named has.valid at lt k)))
@@ -351,7 +351,7 @@ module _ {O : Ops} (F : Field O) (J : Joint) (has : Given O J) where
         → (i : ℕ)
         → i < J.parties
         → Resumed O J i (suc at) (later (Reveal Second) i)
-    unfolding received checkPassed party notes noted
+    unfolding received check_passed party notes noted
     after_output e k i l =
         holds_onward i at _ lt (rw (openings_output J.circuit at k) (holds_pass O J (holds_at O J s (Reveal Second) e inv i l) lt (rw out)))
       where
@@ -376,7 +376,7 @@ module _ {O : Ops} (F : Field O) (J : Joint) (has : Given O J) where
     unfolding keep holds party keys
     committed r e q taken =
         rw q
-        (check_sum at (opened_in (unchecked J.circuit at) r) (pending J.circuit at r) s.scratch taken
+        (check_sum_lem at (opened_in (unchecked J.circuit at) r) (pending J.circuit at r) s.scratch taken
         (sym (length_pending J.circuit at r)) (holds_at O J s r e inv) (carries_pending at r (fits_at O J s r e inv)))
 
     -- Round r of gate j is followed by round r' of it.
@@ -413,7 +413,7 @@ module _ {O : Ops} (F : Field O) (J : Joint) (has : Given O J) where
         go : (r : Round) → s.point.stage ≡ Send r → Order.RoundClass r (shape (gate J.circuit at)).class
             → following r (rounds J.circuit at) ≡ Order.after r
             → Sound O J (follow J.circuit at r) (λ i. keep r (holds O (party J i) (s.scratch i) at r taken)) (later r)
-        go Own e (inl k) f = leaves Own _ _ e f (after_input e k)
+        go Own e (inl k) f = leaves Own _ _ e f (after_input_lem e k)
         go Own e (inr k) f = leaves Own _ _ e f (after_product e k)
         go Open e k f =
             stays Open (Commit Second) _ _ _ e f (λ i l. unfold pending in after_open e k i l) (λ z. false_no z)
@@ -423,7 +423,7 @@ module _ {O : Ops} (F : Field O) (J : Joint) (has : Given O J) where
             (λ z. committed (Commit h) e refl taken)
         go (Reveal First) e k f =
             stays (Reveal First) Open _ _ _ e f
-            (λ i l. unfold received checkPassed notes noted pending in holds_checked O J (holds_at O J s (Reveal First) e inv i l))
+            (λ i l. unfold received check_passed notes noted pending in holds_checked O J (holds_at O J s (Reveal First) e inv i l))
             (λ z. false_no z)
         go (Reveal Second) e k f = leaves (Reveal Second) _ _ e f (after_output e k)
 

@@ -11,10 +11,10 @@ use Rattle.algebra.specs.Ops.{Ops}
 use Rattle.algebra.specs.Field.{Field}
 use Rattle.circuit.specs.Verdict.{Accepted}
 use Rattle.circuit.specs.Count.{prep_size, input_count}
-use Rattle.circuit.specs.Accept.{askCircuit}
+use Rattle.circuit.specs.Accept.{ask_circuit}
 use Rattle.circuit.specs.Valid.{Valid}
 use Rattle.protocol.specs.Scratch.{scratch_size, band}
-use Rattle.protocol.specs.Ask.{ask_parties, askLent}
+use Rattle.protocol.specs.Ask.{ask_parties, ask_lent}
 use Rattle.protocol.proofs.Accepted.{Lends, lends}
 use Rattle.protocol.specs.Joint.{joined, inputs_at, party}
 use Rattle.protocol.proofs.Inputs.{starts_suc, starts_mono}
@@ -54,7 +54,7 @@ module _ (c : List ℕ) (f : ℕ → List ℕ) where
           (earlier (omega arith))
 
 module _ {O : Ops} (F : Field O) (D : Apart) (coefficients nonces : List ℕ) (some : 0 < D.parties)
-    (lent : (i : ℕ) → i < D.parties → askLent O.size (party_in D i) (D.scratch i) ≡ Accepted) where
+    (lent : (i : ℕ) → i < D.parties → ask_lent O.size (party_in D i) (D.scratch i) ≡ Accepted) where
   open O use {size}
 
   -- What each party's questions make sure of.
@@ -62,7 +62,7 @@ module _ {O : Ops} (F : Field O) (D : Apart) (coefficients nonces : List ℕ) (s
   passed i h = lends (omega (arith, F.one_lt)) (party_in D i) (D.scratch i) (lent i h)
 
   -- The number of parties and the circuit are accepted.
-  pub circuit_accepted : askCircuit D.parties size D.circuit ≡ Accepted
+  pub circuit_accepted : ask_circuit D.parties size D.circuit ≡ Accepted
   circuit_accepted = (passed 0 some).circuit
 
   pub parties_accepted : ask_parties D.parties ≡ Accepted

@@ -14,7 +14,7 @@ use Rattle.circuit.specs.Round.{commits_in, check_count}
 use Rattle.theorems.proofs.Hashed.{answer_is, hashing}
 use Rattle.theorems.proofs.PartyOrder.{mended, up_to}
 use Rattle.protocol.specs.Joint.{Joint}
-use Rattle.protocol.specs.JointEntry.{JointAnswer, Refusal, Done, jointAnswer}
+use Rattle.protocol.specs.JointEntry.{JointAnswer, Refusal, Done, joint_answer}
 use Rattle.protocol.specs.Docket.{prep₀, prep₁}
 use Rattle.protocol.proofs.Computing.{computing}
 
@@ -40,7 +40,7 @@ joint_at k =
 -- fault 11: the scratch is too short. Faults 15 and 16: the transcript and then the list of outputs
 pub asks : Ops → ℕ → JointAnswer
 asks O k =
-    jointAnswer O (joint_at k) (replicate (mended k 11 76 75) size) (replicate (mended k 15 78 77) 0) (replicate (mended k 16 1 0) 0)
+    joint_answer O (joint_at k) (replicate (mended k 11 76 75) size) (replicate (mended k 15 78 77) 0) (replicate (mended k 16 1 0) 0)
 
 pub record InOrder (O : Ops) : Type 0 where
   pub joint :

@@ -18,7 +18,7 @@ use Rattle.circuit.proofs.KindLaws.{owned_no_out}
 use Rattle.circuit.proofs.Gates.{gate_zero, second_fits, local_named}
 use Rattle.protocol.specs.Part.{Part, plus, minus, scale, shift}
 use Rattle.protocol.specs.Receive.{linear}
-use Rattle.protocol.specs.Plain.{kindValue}
+use Rattle.protocol.specs.Plain.{kind_value}
 use Rattle.protocol.proofs.Wires.{Carries, carries_plus, carries_minus, carries_scale, carries_shift}
 
 module _ {O : Ops} (F : Field O) where
@@ -33,22 +33,22 @@ module _ {O : Ops} (F : Field O) where
         → 0 < n
         → Carries F n key x u
         → Carries F n key z v
-        → Carries F n key (λ i. linear O i (key i) k (x i) (z i) constant) (kindValue O k input u v constant)
+        → Carries F n key (λ i. linear O i (key i) k (x i) (z i) constant) (kind_value O k input u v constant)
     pub low : (i key : ℕ) (x z : Part) (constant : ℕ) → norm (linear O i key k x z constant).share ≡ (linear O i key k x z constant).share
 
   -- the plain value of a kind, by its class
   abbrev pub Computes : Class → Kind → Type 0
   Computes Local k = Linear k
-  Computes Owned k = (input x z constant : ℕ) → kindValue O k input x z constant ≡ input
-  Computes Opens k = (input x z constant : ℕ) → kindValue O k input x z constant ≡ mul x (cond (eqb (kind_shape k).openings 2) z x)
-  Computes Output k = (input x z constant : ℕ) → kindValue O k input x z constant ≡ 0
+  Computes Owned k = (input x z constant : ℕ) → kind_value O k input x z constant ≡ input
+  Computes Opens k = (input x z constant : ℕ) → kind_value O k input x z constant ≡ mul x (cond (eqb (kind_shape k).openings 2) z x)
+  Computes Output k = (input x z constant : ℕ) → kind_value O k input x z constant ≡ 0
 
   -- times and over multiply
   carries_multiple : (n : ℕ) (key : ℕ → ℕ) (x : ℕ → Part) (u k : ℕ) → Carries F n key x u → Carries F n key (λ i. scale O k (x i)) (mul u k)
   carries_multiple n key x u k p = rw (mul_comm u k) (carries_scale F n key k x u p)
 
   computes : (k : Kind) → Computes (kind_shape k).class k
-  unfolding kind_shape kindValue linear plus minus scale shift
+  unfolding kind_shape kind_value linear plus minus scale shift
   computes In = λ input x z k. refl
   computes Add =
       record {
@@ -86,8 +86,8 @@ module _ {O : Ops} (F : Field O) where
       }
 
   -- A plain value is an element where the input is.
-  pub value_normed : (k : Kind) (input x z constant : ℕ) → norm input ≡ input → norm (kindValue O k input x z constant) ≡ kindValue O k input x z constant
-  unfolding kindValue
+  pub value_normed : (k : Kind) (input x z constant : ℕ) → norm input ≡ input → norm (kind_value O k input x z constant) ≡ kind_value O k input x z constant
+  unfolding kind_value
   value_normed In input x z k e = e
   value_normed Add input x z k e = norm_add _ _
   value_normed Sub input x z k e = norm_sub F _ _
@@ -106,15 +106,15 @@ module _ {O : Ops} (F : Field O) where
     pub local_computes : (shape g).class ≡ Local → Linear g.kind
     local_computes = gate_computes
 
-    pub owned_value : (shape g).class ≡ Owned → (input x z k : ℕ) → kindValue O g.kind input x z k ≡ input
+    pub owned_value : (shape g).class ≡ Owned → (input x z k : ℕ) → kind_value O g.kind input x z k ≡ input
     owned_value = gate_computes
 
-    pub output_value : (shape g).class ≡ Output → (input x z k : ℕ) → kindValue O g.kind input x z k ≡ 0
+    pub output_value : (shape g).class ≡ Output → (input x z k : ℕ) → kind_value O g.kind input x z k ≡ 0
     output_value = gate_computes
 
     -- a gate that opens values is the product of its first and of its second factor
     pub opens_value : (shape g).class ≡ Opens → (input k : ℕ) (v : ℕ → ℕ)
-        → kindValue O g.kind input (v g.first) (v g.second) k ≡ mul (v g.first) (v (factor g))
+        → kind_value O g.kind input (v g.first) (v g.second) k ≡ mul (v g.first) (v (factor g))
     unfolding factor
     opens_value e input k v =
         let f : Computes Opens g.kind = gate_computes e in

@@ -12,7 +12,7 @@ use Rattle.protocol.specs.Position.{Stage, Send, Receive, Finished, Aborted, whe
 use Rattle.protocol.specs.Entry.{leave}
 use Rattle.protocol.specs.Joint.{Joint, joined}
 use Rattle.protocol.specs.Run.{State, begun, notes, step, still, ahead, run, whole}
-use Rattle.protocol.specs.JointEntry.{verdict, jointScratch}
+use Rattle.protocol.specs.JointEntry.{verdict, joint_scratch}
 use Rattle.protocol.proofs.Lengths.{length_left, length_noted}
 use Rattle.protocol.proofs.Words.{length_band, length_joined}
 use Rattle.protocol.proofs.Bands.{band_front, band_joined}
@@ -37,8 +37,8 @@ module _ (O : Ops) where
         → verdict O J scratch t o ≡ Accepted
         → (i : ℕ)
         → i < J.parties
-        → band (scratch_size J.parties J.circuit) (jointScratch O J scratch t o) i ≡ (whole O J scratch).last.scratch i
-    unfolding jointScratch leave
+        → band (scratch_size J.parties J.circuit) (joint_scratch O J scratch t o) i ≡ (whole O J scratch).last.scratch i
+    unfolding joint_scratch leave
     band_left scratch t o room e i l =
         rw e
         (band_front _ J.parties (joined J.parties (whole O J scratch).last.scratch) _ (length_joined _ _ _ lengths) i l

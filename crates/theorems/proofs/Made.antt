@@ -30,7 +30,7 @@ use Rattle.protocol.specs.Scratch.{layout, slots_size, scratch_size, wire, put_w
 use Rattle.protocol.specs.Position.{Point, Stage, Send, Receive, Finished, Aborted, finished, aborted, reach, resume}
 use Rattle.protocol.specs.Party.{Party, key}
 use Rattle.protocol.specs.Send.{noted}
-use Rattle.protocol.specs.Receive.{operandOf, afterInput, putDifferences, afterOpening, afterOpenOutput, linear, putLinear, afterLinear, settle, passed, onward, ownReceived, checkPassed, received, left}
+use Rattle.protocol.specs.Receive.{operand_of, after_input, put_differences, after_opening, after_open_output, linear, put_linear, after_linear, settle, passed, onward, own_received, check_passed, received, left}
 use Rattle.protocol.specs.Joint.{Joint, party}
 use Rattle.protocol.specs.Run.{State, begun, said, notes, ends, step}
 use Rattle.protocol.proofs.Writing.{Elements, shift_elements, product_elements}
@@ -44,7 +44,7 @@ use Rattle.theorems.specs.Premises.{Enough, after}
 use Rattle.theorems.proofs.KindValues.{local_second}
 use Rattle.theorems.proofs.Runs.{Idle, after_step, after_idle}
 use Rattle.theorems.proofs.Sealing.{Kept, kept_room, kept_after, said_long, going_at}
-use Rattle.theorems.proofs.Standing.{handedNonce, handed_long, notes_handed}
+use Rattle.theorems.proofs.Standing.{handed_nonce, handed_long, notes_handed}
 
 -- A gate of another class needs a round.
 not_local : {A : Type 0} {h : Class} (k : Class) → is_class Local k ≡ false → h ≡ k → h ≡ Local → A
@@ -59,7 +59,7 @@ module _ {O : Ops} (F : Field O) (P : Party) (ok : Valid P.parties O.size P.circ
 
   -- what a kind that needs no round makes of the gates that gate g names
   abbrev pub makes : List ℕ → Gate → Part
-  makes l g = linear O P.me (key P) g.kind (part l g.first) (part l g.second) (operandOf O g)
+  makes l g = linear O P.me (key P) g.kind (part l g.first) (part l g.second) (operand_of O g)
 
   pub record Made (l : List ℕ) (x : ℕ) : Type 0 where
     pub low : Elements size (part l x)
@@ -76,7 +76,7 @@ module _ {O : Ops} (F : Field O) (P : Party) (ok : Valid P.parties O.size P.circ
       → makes l (gate P.circuit x) ≡ makes l' (gate P.circuit x)
   makes_alike l l' x h k e =
       let g = gate P.circuit x in
-      ap₂ (λ (v w : Part). linear O P.me (key P) g.kind v w (operandOf O g))
+      ap₂ (λ (v w : Part). linear O P.me (key P) g.kind v w (operand_of O g))
       (sym (e g.first (local_named ok x h k).earlier)) (sym (e g.second (local_second F ok x h k).earlier))
 
   -- Where the gates before j read alike, they are made alike.
@@ -145,7 +145,7 @@ module _ {O : Ops} (F : Field O) (P : Party) (ok : Valid P.parties O.size P.circ
   -- The gates up to the next stop are worked out ..
   done_settle : (left j : ℕ) (l : List ℕ) → j + left ≤ gates P.circuit → Done l j
       → Done (settle O P.me (key P) P.circuit (layout P.circuit) left j l) (reach P.circuit left j)
-  unfolding reach settle afterLinear putLinear
+  unfolding reach settle after_linear put_linear
   done_settle zero j l b d = d
   done_settle (suc left) j l b d =
       by_cases (is_linear (gate P.circuit j))
@@ -176,8 +176,8 @@ module _ {O : Ops} (F : Field O) (P : Party) (ok : Valid P.parties O.size P.circ
     entries = unchecked_within P.circuit j lt
 
     differences_done : (x z : ℕ) (m : List ℕ) (k e f : ℕ) → k ≡ (shape (gate P.circuit j)).openings → 1 ≤ k
-        → Done (putDifferences O (layout P.circuit) l x z m k (unchecked P.circuit j) e f) j
-    unfolding putDifferences
+        → Done (put_differences O (layout P.circuit) l x z m k (unchecked P.circuit j) e f) j
+    unfolding put_differences
     differences_done x z m k e f q some =
         let one = done_opened (unchecked P.circuit j) e _ (omega (arith, entries)) d in
         by_cases (eqb k 2)
@@ -187,7 +187,7 @@ module _ {O : Ops} (F : Field O) (P : Party) (ok : Valid P.parties O.size P.circ
     -- A gate's own round is received, by its class.
     own_done : ((shape (gate P.circuit j)).class ≡ Owned) ⊎ ((shape (gate P.circuit j)).class ≡ Opens)
         → Done (received O P l j Own heard) (resume P.circuit (suc j)).gate
-    unfolding received ownReceived afterInput afterOpening is_class
+    unfolding received own_received after_input after_opening is_class
     own_done (inl k) =
         rw k (done_onward j _ (done_put _ d lt (shift_elements F _ _ _ _) (not_local Owned refl k)))
     own_done (inr k) =
@@ -198,7 +198,7 @@ module _ {O : Ops} (F : Field O) (P : Party) (ok : Valid P.parties O.size P.circ
     -- What is worked out stays where a round is received.
     received_done : (r : Round) → among r (rounds P.circuit j) ≡ true → length heard ≡ P.parties * words (gate P.circuit j) r
         → Done (received O P l j r heard) (followed P.circuit j r).gate
-    unfolding received checkPassed afterOpenOutput
+    unfolding received check_passed after_open_output
     received_done Own o e = own_done (class_at_round P.circuit j Own o)
     received_done Open o e = done_opened 0 _ _ (omega (arith, entries)) d
     received_done (Commit h) o e =
@@ -245,7 +245,7 @@ module _ {O : Ops} (F : Field O) (J : Joint) (ok : Valid J.parties O.size J.circ
       sent : Done F (party J i) party_valid (notes O J s r i) at
       sent =
           rw (notes_handed F J ok s kept r e fits i)
-          (noted_done F (party J i) party_valid (s.scratch i) at [] (kept_room O J s kept i l) fits.0 d r (handedNonce F J ok s kept r e fits i)
+          (noted_done F (party J i) party_valid (s.scratch i) at [] (kept_room O J s kept i l) fits.0 d r (handed_nonce F J ok s kept r e fits i)
           (handed_long F J ok s kept r e fits i l))
 
       room : scratch_size J.parties J.circuit ≤ length (notes O J s r i)

@@ -16,8 +16,8 @@ use Rattle.protocol.specs.Run.{Run, begun, whole}
 use Rattle.protocol.specs.Good.{GoodRecord}
 use Rattle.protocol.proofs.Computing.{computing}
 use Rattle.theorems.specs.Premises.{Accepts, Enough, after}
-use Rattle.theorems.specs.Matching.{left_out, add_lists, only, plainly, inputMove, valueMove, moved, productMove, maskMove, maskRecordMove, recordMove, prepMove, match, rule}
-use Rattle.theorems.specs.Secrecy.{bandOf}
+use Rattle.theorems.specs.Matching.{left_out, add_lists, only, plainly, input_move, value_move, moved, product_move, mask_move, mask_record_move, record_move, prep_move, match, rule}
+use Rattle.theorems.specs.Secrecy.{band_of}
 use Rattle.theorems.specs.Example.{A}
 use Rattle.theorems.specs.Gives.{blank, unwritten}
 use Rattle.theorems.specs.Overs.{circuit₁, preps₁, circuit, preps, matched, inputs₁, inputs₂, rooms₁, rooms, halving, dividing, Overs}
@@ -73,7 +73,7 @@ unfolding computing
 words m x = ap (λ (R : Run). R.transcript) (whole_is modular (dividing modular m x) rooms accepts (enough m x))
 
 computed : Overs modular
-unfolding hashing modular euclid all_below after left_out add_lists only plainly inputMove valueMove moved productMove maskMove maskRecordMove recordMove prepMove match rule
+unfolding hashing modular euclid all_below after left_out add_lists only plainly input_move value_move moved product_move mask_move mask_record_move record_move prep_move match rule
 computed =
     record {
       good₁ = record { long = refl; elements = below 2147483647 preps₁ tt; records = good-records₁ };
@@ -99,7 +99,7 @@ computed =
       same_words = words matched inputs₂;
       same_bands =
           left_alike modular (dividing modular matched inputs₂) (dividing modular preps inputs₁) rooms blank unwritten accepts (enough matched inputs₂) accepts
-          (enough preps inputs₁) (λ l. bandOf modular 2 circuit A l 1) refl;
+          (enough preps inputs₁) (λ l. band_of modular 2 circuit A l 1) refl;
     }
 
 -- at the operations that the contracts cite

@@ -15,7 +15,7 @@ use Rattle.circuit.specs.Round.{First, Commit, Reveal, nonce_in}
 use Rattle.protocol.specs.Position.{Position, Send, Receive, Aborted}
 use Rattle.protocol.specs.Party.{Party}
 use Rattle.protocol.specs.Receive.{Blames}
-use Rattle.protocol.specs.Entry.{Answer, Refusal, Next, Abort, sendAnswer, receiveAnswer}
+use Rattle.protocol.specs.Entry.{Answer, Refusal, Next, Abort, send_answer, receive_answer}
 use Rattle.protocol.proofs.Computing.{computing}
 use Rattle.theorems.proofs.Hashed.{reveal_is, hashing}
 
@@ -58,12 +58,12 @@ receiving_at k = record { gate = mended k 14 3 4; stage = mended k 15 (Receive (
 -- faults 17 and 18: a coefficient too many, and one that is no element. Fault 19: a byte too few in the nonce. Fault 20: no room for the words
 pub sends : Ops → ℕ → Answer
 sends O k =
-    sendAnswer O (party_at k) (scratch_at k) (sending_at k) ((1 ∷ mended k 18 2 size ∷ []) ++ mended k 17 [] (0 ∷ [])) (replicate (mended k 19 32 31) 0)
+    send_answer O (party_at k) (scratch_at k) (sending_at k) ((1 ∷ mended k 18 2 size ∷ []) ++ mended k 17 [] (0 ∷ [])) (replicate (mended k 19 32 31) 0)
     (mended k 20 8 7)
 
 -- fault 17: a word too many. Words of a commitment are any numbers
 pub receives : Ops → ℕ → Answer
-receives O k = receiveAnswer O (party_at k) (scratch_at k) (receiving_at k) (replicate 16 4294967295 ++ mended k 17 [] (0 ∷ []))
+receives O k = receive_answer O (party_at k) (scratch_at k) (receiving_at k) (replicate 16 4294967295 ++ mended k 17 [] (0 ∷ []))
 
 -- the reveal: faults 14 and 15 as before, and of its words fault 17, one too many, and fault 18, a check share that is no element. Nonce words are any
 -- numbers. Both reveals fit no mark, of which the lowest is told
@@ -72,7 +72,7 @@ revealing_at k = record { gate = mended k 14 3 4; stage = mended k 15 (Receive (
 
 pub reveals : Ops → ℕ → Answer
 reveals O k =
-    receiveAnswer O (party_at k) (scratch_at k) (revealing_at k)
+    receive_answer O (party_at k) (scratch_at k) (revealing_at k)
     ((1 ∷ replicate 8 4294967295) ++ (mended k 18 1 size ∷ replicate 8 4294967295) ++ mended k 17 [] (0 ∷ []))
 
 -- f 0, .., f (n - 1)

@@ -14,7 +14,7 @@ use Rattle.circuit.specs.Gate.{kind_mul, kind_out, kind_sq, kind_give, Gate, gat
 use Rattle.circuit.specs.Kind.{Class, Local, Owned, Opens, Output, shape, is_class, is_in, opens, is_out, is_give}
 use Rattle.circuit.specs.Count.{total, count, prep_at, prep_size, capacity, in_count, out_count, unchecked, unchecked_after}
 use Rattle.circuit.specs.Round.{Round, check_rounds, class_rounds, rounds, shape_words, words, coefficients_in, over_rounds, over_run, round_count, word_count, coefficient_count, commits_in, check_count, commit_words, reveal_words}
-use Rattle.circuit.specs.Accept.{fewest_gates, most_gates, askCircuit}
+use Rattle.circuit.specs.Accept.{fewest_gates, most_gates, ask_circuit}
 use Rattle.circuit.specs.Valid.{Valid}
 use Rattle.circuit.proofs.Tests.{by_cases}
 use Rattle.circuit.proofs.Counts.{unchecked_valued, unchecked_out}
@@ -254,7 +254,7 @@ longest opening output = 1 ∷ 0 ∷ 0 ∷ 0 ∷ (kind_pairs opening output 127 
 
 -- It is accepted, and it takes 766 rounds.
 pub record Longest (opening output : ℕ) : Type 0 where
-  pub accepted : askCircuit 2 size (longest opening output) ≡ Accepted
+  pub accepted : ask_circuit 2 size (longest opening output) ≡ Accepted
   pub rounds : round_formula (longest opening output) ≡ most_rounds_of_all
 
 -- With mul gates and with sq gates, by out gates and by gives.

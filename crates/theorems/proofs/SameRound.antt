@@ -20,17 +20,17 @@ use Rattle.circuit.proofs.Gates.{output_named, opens_named, factor_named}
 use Rattle.protocol.specs.Part.{Part}
 use Rattle.protocol.specs.Scratch.{layout}
 use Rattle.protocol.specs.Party.{key, record_of, input_of, whole_mask_at, a_at, b_at}
-use Rattle.protocol.specs.Send.{inputWord, masked, checkShare, opening, own_words, sent}
+use Rattle.protocol.specs.Send.{input_word, masked, check_share, opening, own_words, sent}
 use Rattle.protocol.specs.Joint.{Joint, party}
-use Rattle.theorems.proofs.Closed.{Opening, Every, keys, ownerWord, opened}
+use Rattle.theorems.proofs.Closed.{Opening, Every, keys, owner_word, opened}
 use Rattle.theorems.proofs.Holds.{Holds, own_masked, own_showing}
 use Rattle.theorems.proofs.Sent.{sent_class}
 use Rattle.theorems.proofs.SideBySide.{Pair, J as run, J' as run', Agrees, same_owner, same_words, agrees_differences, agrees_shown, sigma, same_check}
 
 -- A check share is that of the closed form.
 check_is : {O : Ops} (F : Field O) (J : Joint) {i j : ℕ} {os : List Opening} {l : List ℕ} → Holds O J i j os l → (taken : List ℕ)
-    → checkShare O (layout J.circuit) l (length os) (key (party J i)) taken ≡ sigma O J os (λ t. get_or taken t 0) i
-unfolding checkShare keys
+    → check_share O (layout J.circuit) l (length os) (key (party J i)) taken ≡ sigma O J os (λ t. get_or taken t 0) i
+unfolding check_share keys
 check_is {O} F J {i} {j} {os} p taken =
     ap₂ O.sub (sum_ext F (length os) _ _ (λ t lt. ap (O.mul (get_or taken t 0)) (p.macs t lt)))
     (ap (O.mul (key (party J i))) (sum_ext F (length os) _ _ (λ t lt. ap (O.mul (get_or taken t 0)) (p.values t lt))))
@@ -59,11 +59,11 @@ module _ {O : Ops} {F : Field O} (P : Pair F) where
           → ◌≡◌ {A = List ℕ} (cond (eqb i (gate c j).first) (word J') 0 ∷ []) (cond (eqb i (gate c j).first) (word J) 0 ∷ [])
       go (yes q) =
           rw q
-          (ap {B = List ℕ} (λ (w : ℕ). cond (eqb (gate c j).first (gate c j).first) w 0 ∷ []) (unfold ownerWord in same_owner P j lj e))
+          (ap {B = List ℕ} (λ (w : ℕ). cond (eqb (gate c j).first (gate c j).first) w 0 ∷ []) (unfold owner_word in same_owner P j lj e))
       go (no q) = rw (ne_eqb i (gate c j).first q)
 
       same : own_words O (party J' i) l' j Owned ≡ own_words O (party J i) l j Owned
-      same = unfold own_words inputWord party in go (ℕ_discrete i (gate c j).first)
+      same = unfold own_words input_word party in go (ℕ_discrete i (gate c j).first)
 
   module _ (i : ℕ) (li : i < n) {j : ℕ} {os : List Opening} {l l' : List ℕ} (p : Holds O J i j os l) (p' : Holds O J' i j os l') where
     -- Where a party's two parts of what is opened are those of the closed form, it sends the same share of it.
@@ -109,6 +109,6 @@ module _ {O : Ops} {F : Field O} (P : Pair F) where
 
     -- Every party holds the same check share.
     pub same_held : Every (Agrees P) os → (taken : List ℕ) (k : ℕ) → k ≡ length os
-        → checkShare O (layout c) l' k (key (party J' i)) taken ≡ checkShare O (layout c) l k (key (party J i)) taken
+        → check_share O (layout c) l' k (key (party J' i)) taken ≡ check_share O (layout c) l k (key (party J i)) taken
     same_held all taken k e =
         rw e (check_is F J' p' taken ∙ same_check P os all (λ t. get_or taken t 0) i li ∙ sym (check_is F J p taken))

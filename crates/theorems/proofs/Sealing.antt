@@ -21,11 +21,11 @@ use Rattle.circuit.proofs.Tests.{false_no}
 use Rattle.protocol.specs.Scratch.{layout, scratch_size, nonce_of, put_nonce, put_marks}
 use Rattle.protocol.specs.Position.{Point, Stage, Send, Receive, Finished, Aborted, aborted, start, follow, may_hold}
 use Rattle.protocol.specs.Send.{noted}
-use Rattle.protocol.specs.Receive.{Nobody, Passed, passed, fits, weighs, heardSum, next, received, finds, left}
+use Rattle.protocol.specs.Receive.{Nobody, Passed, passed, fits, weighs, heard_sum, next, received, finds, left}
 use Rattle.protocol.specs.Joint.{Joint, party, nonce_for}
 use Rattle.protocol.specs.Run.{State, begun, takes, said, notes, ends, step}
 use Rattle.protocol.proofs.Following.{ruling_other, next_holds, start_is}
-use Rattle.protocol.proofs.Points.{Fits, FitsStage, spentStage, spent, goes_start, fits_follow, spent_follow, spent_le}
+use Rattle.protocol.proofs.Points.{Fits, FitsStage, spent_stage, spent, goes_start, fits_follow, spent_follow, spent_le}
 use Rattle.protocol.proofs.Tails.{nonce_room, marks_room, nonce_length, nonce_put, nonce_marks, read_nonce, read_marks, SameSlots}
 use Rattle.protocol.proofs.Words.{length_band}
 use Rattle.protocol.proofs.Said.{length_said}
@@ -60,15 +60,15 @@ module _ (O : Ops) (J : Joint) where
   -- where a run stands: a round is about to be sent, with the coefficients and the nonces of those before it used; or the run has ended
   pub data Course (s : State) : Type 0 where
     going : (r : Round) → s.point.stage ≡ Send r → FitsStage J.circuit s.point.gate (Send r)
-        → s.used ≡ spentStage J.circuit taking s.point.gate (Send r)
-        → s.checks ≡ spentStage J.circuit begins s.point.gate (Send r)
+        → s.used ≡ spent_stage J.circuit taking s.point.gate (Send r)
+        → s.checks ≡ spent_stage J.circuit begins s.point.gate (Send r)
         → Course s
     over : Ended s.point.stage → Course s
 
   -- A round that is sent leads on, or the run ends.
   pub course_step : (s : State) (r : Round) → s.point.stage ≡ Send r → FitsStage J.circuit s.point.gate (Send r)
-      → s.used ≡ spentStage J.circuit taking s.point.gate (Send r)
-      → s.checks ≡ spentStage J.circuit begins s.point.gate (Send r)
+      → s.used ≡ spent_stage J.circuit taking s.point.gate (Send r)
+      → s.checks ≡ spent_stage J.circuit begins s.point.gate (Send r)
       → Course (step O J s r)
   course_step s r e fit used checks = go (passed (ends O J s r)) refl
     where
@@ -76,7 +76,7 @@ module _ (O : Ops) (J : Joint) where
       at = s.point.gate
 
       behind : (ℕ → Round → ℕ) → ℕ
-      behind f = spentStage J.circuit f at (Send r)
+      behind f = spent_stage J.circuit f at (Send r)
 
       after_passed : passed (ends O J s r) ≡ true → (step O J s r).point ≡ follow J.circuit at r
       after_passed h = unfold step next in rw h
@@ -91,9 +91,9 @@ module _ (O : Ops) (J : Joint) where
           → Course (step O J s r)
       on x q f more = stage x.stage refl
         where
-          moved : (f : ℕ → Round → ℕ) (t : Round) → x.stage ≡ Send t → behind f + f at r ≡ spentStage J.circuit f (step O J s r).point.gate (Send t)
+          moved : (f : ℕ → Round → ℕ) (t : Round) → x.stage ≡ Send t → behind f + f at r ≡ spent_stage J.circuit f (step O J s r).point.gate (Send t)
           moved f t z =
-              sym (more f) ∙ ap (spentStage J.circuit f x.gate) z ∙ ap (λ (y : Point). spentStage J.circuit f y.gate (Send t)) (sym q)
+              sym (more f) ∙ ap (spent_stage J.circuit f x.gate) z ∙ ap (λ (y : Point). spent_stage J.circuit f y.gate (Send t)) (sym q)
 
           stage : (g : Stage) → x.stage ≡ g → Course (step O J s r)
           stage (Send t) z =
@@ -125,23 +125,23 @@ module _ (O : Ops) (J : Joint) where
     course_begun scratch =
         let p : start J.circuit ≡ record { gate = 0; stage = Send Own } = start_is J.circuit n q ok in
         let g = goes_start J.circuit ok in
-        let none : (f : ℕ → Round → ℕ) → 0 ≡ spentStage J.circuit f (start J.circuit).gate (Send Own) =
-        (λ f. sym (g.spent_is f) ∙ ap (spent J.circuit f) p ∙ ap (λ (x : Point). spentStage J.circuit f x.gate (Send Own)) (sym p)) in
+        let none : (f : ℕ → Round → ℕ) → 0 ≡ spent_stage J.circuit f (start J.circuit).gate (Send Own) =
+        (λ f. sym (g.spent_is f) ∙ ap (spent J.circuit f) p ∙ ap (λ (x : Point). spent_stage J.circuit f x.gate (Send Own)) (sym p)) in
         going Own (ap (λ (x : Point). x.stage) p) (rw p (subst (Fits J.circuit) p g.fits)) (none taking) (none begins)
 
   -- Where a round is sent, the run is going.
   pub going_at : {A : Type 0} (s : State) → Course s → (r : Round) → s.point.stage ≡ Send r
       → (FitsStage J.circuit s.point.gate (Send r)
-      → s.used ≡ spentStage J.circuit taking s.point.gate (Send r)
-      → s.checks ≡ spentStage J.circuit begins s.point.gate (Send r)
+      → s.used ≡ spent_stage J.circuit taking s.point.gate (Send r)
+      → s.checks ≡ spent_stage J.circuit begins s.point.gate (Send r)
       → A)
       → A
   going_at s (going t q fit used checks) r e use-it =
       let z : Send t ≡ Send r = sym q ∙ e in
       let same : t ≡ r = cc in
       use-it (subst (λ (t : Round). FitsStage J.circuit s.point.gate (Send t)) same fit)
-      (used ∙ ap (λ (t : Round). spentStage J.circuit taking s.point.gate (Send t)) same)
-      (checks ∙ ap (λ (t : Round). spentStage J.circuit begins s.point.gate (Send t)) same)
+      (used ∙ ap (λ (t : Round). spent_stage J.circuit taking s.point.gate (Send t)) same)
+      (checks ∙ ap (λ (t : Round). spent_stage J.circuit begins s.point.gate (Send t)) same)
   going_at s (over end) r e use-it = absurd (subst Ended e end)
 
   -- what a run keeps
@@ -158,10 +158,10 @@ module _ (O : Ops) (J : Joint) where
 
     module _ (some : 0 < J.parties) (r : Round) (e : s.point.stage ≡ Send r) where
       -- "the sum alone decides"
-      pub ends_sum : is_reveal r ≡ true → ends O J s r ≡ weighs Nobody (eqb (heardSum O J.parties reveal_words 0 (said O J s r)) 0)
+      pub ends_sum : is_reveal r ≡ true → ends O J s r ≡ weighs Nobody (eqb (heard_sum O J.parties reveal_words 0 (said O J s r)) 0)
       ends_sum z = go r (kept.sealed r e z) z
         where
-          go : (r : Round) → Sealed O J s → is_reveal r ≡ true → ends O J s r ≡ weighs Nobody (eqb (heardSum O J.parties reveal_words 0 (said O J s r)) 0)
+          go : (r : Round) → Sealed O J s → is_reveal r ≡ true → ends O J s r ≡ weighs Nobody (eqb (heard_sum O J.parties reveal_words 0 (said O J s r)) 0)
           go Own sealed z = false_no z
           go Open sealed z = false_no z
           go (Commit k) sealed z = false_no z

@@ -23,12 +23,12 @@ use Rattle.circuit.proofs.KindLaws.{give_output}
 use Rattle.protocol.specs.Scratch.{band}
 use Rattle.protocol.specs.Joint.{Joint, party}
 use Rattle.protocol.specs.Run.{State, begun, run, whole}
-use Rattle.protocol.specs.JointEntry.{verdict, jointAnswer, jointScratch}
+use Rattle.protocol.specs.JointEntry.{verdict, joint_answer, joint_scratch}
 use Rattle.protocol.specs.Plain.{value, scores}
 use Rattle.protocol.specs.Good.{Good}
 use Rattle.theorems.specs.Premises.{Accepts, InputsPass, Enough, after}
-use Rattle.theorems.specs.Matching.{left_out, plainly, valueMove, match, rule}
-use Rattle.theorems.specs.Secrecy.{run_of, bandOf, Compared, Alike, Secret, Shows, Secrecy, Blindness, UnreadByOthers}
+use Rattle.theorems.specs.Matching.{left_out, plainly, value_move, match, rule}
+use Rattle.theorems.specs.Secrecy.{run_of, band_of, Compared, Alike, Secret, Shows, Secrecy, Blindness, UnreadByOthers}
 use Rattle.theorems.proofs.Given.{given}
 use Rattle.theorems.proofs.Lengths.{band_left}
 use Rattle.theorems.proofs.Matching.{matched_good, matched_kept, matched_back}
@@ -91,8 +91,8 @@ module _ {O : Ops} (F : Field O) (n : ℕ) (c : List ℕ) (A : ℕ → Bool) whe
         → value O (plainly n c x') (gate c j).first ≡ value O (plainly n c x) (gate c j).first
     equal_value = equal_outputs O n c A x x' (gates c) is.equal_scores
 
-    unmoved : (j : ℕ) → j < gates c → (shape (gate c j)).class ≡ Output → seen_by A (gate c j) ≡ true → valueMove O n c h x x' (gate c j).first ≡ 0
-    unfolding valueMove
+    unmoved : (j : ℕ) → j < gates c → (shape (gate c j)).class ≡ Output → seen_by A (gate c j) ≡ true → value_move O n c h x x' (gate c j).first ≡ 0
+    unfolding value_move
     unmoved j l k s = ap (λ (v : ℕ). O.sub v (value O (plainly n c x) (gate c j).first)) (equal_value j l k s) ∙ sub_self F _
 
     -- A's parts of the preprocessing are kept.
@@ -173,12 +173,12 @@ module _ {O : Ops} (F : Field O) (n : ℕ) (c : List ℕ) (A : ℕ → Bool) whe
         ends = twins_whole (pair m g co ns) A (known m g co ns) scratch (enough e)
 
         -- They give the same answer.
-        same_answer : jointAnswer O R' scratch t' o' ≡ jointAnswer O R scratch t o
-        unfolding jointAnswer
+        same_answer : joint_answer O R' scratch t' o' ≡ joint_answer O R scratch t o
+        unfolding joint_answer
         same_answer = rw (e, e', ends.rounds, ends.last.point, ends.last.blame)
 
         -- They leave the same numbers in the scratch of A's parties.
-        same_bands : (i : ℕ) → i < n → A i ≡ true → bandOf O n c A (jointScratch O R' scratch t' o') i ≡ bandOf O n c A (jointScratch O R scratch t o) i
+        same_bands : (i : ℕ) → i < n → A i ≡ true → band_of O n c A (joint_scratch O R' scratch t' o') i ≡ band_of O n c A (joint_scratch O R scratch t o) i
         same_bands i l a =
             band_left O R' scratch t' o' (enough e).room e' i l ∙ ends.last.bands i l a ∙ sym (band_left O R scratch t o (enough e).room e i l)
 

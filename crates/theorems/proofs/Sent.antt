@@ -20,11 +20,11 @@ use Rattle.circuit.proofs.KindLaws.{opens_facts}
 use Rattle.protocol.specs.Scratch.{layout, scratch_size, nonce_of}
 use Rattle.protocol.specs.Party.{Party, record_of, a_at, b_at}
 use Rattle.protocol.specs.Send.{masked, opening, own_words, revealed, sent}
-use Rattle.protocol.specs.Receive.{heardSum}
+use Rattle.protocol.specs.Receive.{heard_sum}
 use Rattle.protocol.specs.Joint.{Joint, party, nonce_for}
 use Rattle.protocol.specs.Run.{State, taken, said}
 use Rattle.protocol.proofs.Tails.{length_nonce, nonce_room}
-use Rattle.protocol.proofs.Words.{heard_sum}
+use Rattle.protocol.proofs.Words.{heard_sum_lem}
 
 module _ (O : Ops) (J : Joint) (s : State) (r : Round) where
   -- the words of party i
@@ -65,12 +65,12 @@ module _ (O : Ops) (P : Party) (l : List ℕ) (j : ℕ) where
       rw (b, one))
 
 -- At a reveal the sum of what is heard is that of the check shares held.
-pub revealed_sum : {O : Ops} (F : Field O) (J : Joint) (s : State) (r : Round) → is_reveal r ≡ true
+pub revealed_sum_lem : {O : Ops} (F : Field O) (J : Joint) (s : State) (r : Round) → is_reveal r ≡ true
     → ((i : ℕ) → i < J.parties → scratch_size J.parties J.circuit ≤ length (s.scratch i))
-    → heardSum O J.parties reveal_words 0 (said O J s r) ≡ sum O J.parties s.held
+    → heard_sum O J.parties reveal_words 0 (said O J s r) ≡ sum O J.parties s.held
 unfolding said
-revealed_sum {O} F J s r e long =
-    heard_sum F J.parties reveal_words 0 _ (λ i l. (shown i l).0) (omega arith) ∙ sum_ext F J.parties _ _ (λ i l. (shown i l).1)
+revealed_sum_lem {O} F J s r e long =
+    heard_sum_lem F J.parties reveal_words 0 _ (λ i l. (shown i l).0) (omega arith) ∙ sum_ext F J.parties _ _ (λ i l. (shown i l).1)
   where
     word : (P : Party) (l : List ℕ) (j held : ℕ) (coefficients nonce : List ℕ) (r : Round) → is_reveal r ≡ true
         → sent O P l j held coefficients nonce r ≡ revealed held (nonce_of (layout P.circuit) l)

@@ -23,13 +23,13 @@ use Rattle.circuit.specs.Valid.{Valid, Ref}
 use Rattle.protocol.specs.Part.{Part, plus, minus, shift, product}
 use Rattle.protocol.specs.Party.{key, record_of, input_of, mask_at, whole_mask_at, a_at, b_at, c_at}
 use Rattle.protocol.specs.Joint.{Joint, party}
-use Rattle.protocol.specs.Plain.{plainInput, values, value, scoreOf, scoresSeen}
-use Rattle.protocol.specs.Good.{Good, recordAt, shareSum}
-use Rattle.theorems.specs.Matching.{plainly, inputMove, valueMove, match}
+use Rattle.protocol.specs.Plain.{plain_input, values, value, score_of, scores_seen}
+use Rattle.protocol.specs.Good.{Good, record_at, share_sum}
+use Rattle.theorems.specs.Matching.{plainly, input_move, value_move, match}
 use Rattle.theorems.proofs.Course.{strong}
 use Rattle.theorems.proofs.Given.{Given}
 use Rattle.theorems.proofs.KindValues.{local_computes, local_second}
-use Rattle.theorems.proofs.Closed.{Opening, Masked, Shown, shows, openings, Every, every_at, Both, every_opening, keys, prepared, ownerWord, masked, sum_of, multiplied, wireBy, wires, opened, openedValue, wires_are, CarriesOpened, carries_differences, carries_shown, check_zero}
+use Rattle.theorems.proofs.Closed.{Opening, Masked, Shown, shows, openings, Every, every_at, Both, every_opening, keys, prepared, owner_word, masked, sum_of, multiplied, wire_by, wires, opened, opened_value, wires_are, CarriesOpened, carries_differences, carries_shown, check_zero}
 use Rattle.theorems.proofs.Matching.{Moved, MovedMask, MovedTriple, same_key, moved_mask, moved_give, moved_triple}
 
 -- a joint run of n parties
@@ -43,12 +43,12 @@ Beside n h w w' = (i : ℕ) → i < n → i ≢ h → w' i ≡ w i
 
 -- A value on plain inputs depends on the circuit and the inputs alone.
 pub plain_value : (O : Ops) (n : ℕ) (c m x co ns : List ℕ) (j : ℕ) → value O (run_with n c m x co ns) j ≡ value O (plainly n c x) j
-unfolding value values plainInput plainly input_of party
+unfolding value values plain_input plainly input_of party
 plain_value O n c m x co ns j = refl
 
 -- So do the scores.
-pub plain_scores : (O : Ops) (n : ℕ) (c m x co ns : List ℕ) (A : ℕ → Bool) (j : ℕ) → scoresSeen O (run_with n c m x co ns) A j ≡ scoresSeen O (plainly n c x) A j
-unfolding scoresSeen scoreOf value values plainInput plainly input_of party
+pub plain_scores : (O : Ops) (n : ℕ) (c m x co ns : List ℕ) (A : ℕ → Bool) (j : ℕ) → scores_seen O (run_with n c m x co ns) A j ≡ scores_seen O (plainly n c x) A j
+unfolding scores_seen score_of value values plain_input plainly input_of party
 plain_scores O n c m x co ns A j = refl
 
 -- party i's check share of what is opened in os, with coefficients r
@@ -104,20 +104,20 @@ module _ {O : Ops} {F : Field O} (P : Pair F) where
 
   -- What has moved is the same at every party but h ..
   beside_prepared : (j k d : ℕ) → Moved F n c h x x' m good j k d → Beside n h (prepared O J j k) (prepared O J' j k)
-  unfolding prepared record_of party recordAt
+  unfolding prepared record_of party record_at
   beside_prepared j k d v i l ne = v.kept i l ne
 
   -- .. and its sum moves.
   sum_prepared : (j k d : ℕ) → Moved F n c h x x' m good j k d → sum_of O J' (prepared O J' j k) ≡ add (sum_of O J (prepared O J j k)) d
-  unfolding prepared record_of party recordAt sum_of shareSum
+  unfolding prepared record_of party record_at sum_of share_sum
   sum_prepared j k d v = v.shares
 
   -- The mask of an in gate, that of a give, and the triple of a product have moved.
-  mask_moves : (j : ℕ) → j < gates c → (shape (gate c j)).class ≡ Owned → MovedMask F n c h x x' m good j (gate c j).first (inputMove O n c h x x' j)
+  mask_moves : (j : ℕ) → j < gates c → (shape (gate c j)).class ≡ Owned → MovedMask F n c h x x' m good j (gate c j).first (input_move O n c h x x' j)
   mask_moves j l e = moved_mask F n c h x x' m good j e l h_lt (owner_named has.valid j l e)
 
   give_moves : (j : ℕ) → j < gates c → is_give (gate c j) ≡ true
-      → MovedMask F n c h x x' m good j (gate c j).second (valueMove O n c h x x' (gate c j).first)
+      → MovedMask F n c h x x' m good j (gate c j).second (value_move O n c h x x' (gate c j).first)
   give_moves j l g = moved_give F n c h x x' m good j g l h_lt (second_fits has.valid j l (give_second (gate c j) g))
 
   triple_moves : (j : ℕ) → j < gates c → (shape (gate c j)).class ≡ Opens
@@ -125,20 +125,20 @@ module _ {O : Ops} {F : Field O} (P : Pair F) where
   triple_moves j l e = moved_triple F n c h x x' m good j e l h_lt
 
   -- The owner of an in gate sends the same word.
-  pub same_owner : (j : ℕ) → j < gates c → (shape (gate c j)).class ≡ Owned → ownerWord O J' j (gate c j).first ≡ ownerWord O J j (gate c j).first
-  unfolding ownerWord record_of party recordAt inputMove
+  pub same_owner : (j : ℕ) → j < gates c → (shape (gate c j)).class ≡ Owned → owner_word O J' j (gate c j).first ≡ owner_word O J j (gate c j).first
+  unfolding owner_word record_of party record_at input_move
   same_owner j l e =
       ap₂ sub (sym (own x' (match O n c h x x' m))) (mask_moves j l e).whole
-      ∙ sub_moved F (plainInput O (plainly n c x) j) (plainInput O (plainly n c x') j) _
+      ∙ sub_moved F (plain_input O (plainly n c x) j) (plain_input O (plainly n c x') j) _
       ∙ ap (λ (u : ℕ). sub u (get_or (record_of (party J (gate c j).first) j) whole_mask_at 0)) (own x m)
     where
-      own : (x m : List ℕ) → plainInput O (plainly n c x) j ≡ input_of (party (run_with n c m x co ns) (gate c j).first) j
-      own x m = unfold plainInput plainly input_of party in refl
+      own : (x m : List ℕ) → plain_input O (plainly n c x) j ≡ input_of (party (run_with n c m x co ns) (gate c j).first) j
+      own x m = unfold plain_input plainly input_of party in refl
 
   -- What hides a value moves with it, so that what is opened is the same.
-  same_masked : (j y k : ℕ) → Moved F n c h x x' m good j k (valueMove O n c h x x' y)
-      → openedValue O J' (Masked j y k) ≡ openedValue O J (Masked j y k)
-  unfolding openedValue valueMove
+  same_masked : (j y k : ℕ) → Moved F n c h x x' m good j k (value_move O n c h x x' y)
+      → opened_value O J' (Masked j y k) ≡ opened_value O J (Masked j y k)
+  unfolding opened_value value_move
   same_masked j y k v =
       ap₂ sub (plain_value O n c (match O n c h x x' m) x' co ns y) (sum_prepared j k _ v)
       ∙ sub_moved F (value O (plainly n c x) y) (value O (plainly n c x') y) _
@@ -148,7 +148,7 @@ module _ {O : Ops} {F : Field O} (P : Pair F) where
   pub record SameValue (o : Opening) : Type 0 where
     pub carries : CarriesOpened F J has o
     pub carries' : CarriesOpened F J' has' o
-    pub values : openedValue O J' o ≡ openedValue O J o
+    pub values : opened_value O J' o ≡ opened_value O J o
 
   -- What is heard is the same.
   pub same_sum : (o : Opening) → SameValue o → sum_of O J' (opened O J' o) ≡ sum_of O J (opened O J o)
@@ -168,8 +168,8 @@ module _ {O : Ops} {F : Field O} (P : Pair F) where
   -- A gate's parts are the same at every party but h where those are that it names.
   beside_gate : (j : ℕ) → j < gates c → (k : Class) → (shape (gate c j)).class ≡ k
       → ((y : ℕ) → Ref c j y → Beside n h (wires O J y) (wires O J' y))
-      → Beside n h (wireBy O J j (wires O J) (gate c j) k) (wireBy O J' j (wires O J') (gate c j) k)
-  unfolding wireBy
+      → Beside n h (wire_by O J j (wires O J) (gate c j) k) (wire_by O J' j (wires O J') (gate c j) k)
+  unfolding wire_by
   beside_gate j l Local e earlier i li ne =
       let x = earlier (gate c j).first (local_named has.valid j l e) i li ne in
       let z = earlier (gate c j).second (local_second F has.valid j l e) i li ne in
@@ -209,8 +209,8 @@ module _ {O : Ops} {F : Field O} (P : Pair F) where
   -- The shares of a gate are elements ..
   reduced_gate : (J : Joint) (j : ℕ) (w : ℕ → ℕ → Part) (k : Class) → (shape (gate J.circuit j)).class ≡ k
       → (i : ℕ)
-      → norm (wireBy O J j w (gate J.circuit j) k i).share ≡ (wireBy O J j w (gate J.circuit j) k i).share
-  unfolding wireBy multiplied plus shift product
+      → norm (wire_by O J j w (gate J.circuit j) k i).share ≡ (wire_by O J j w (gate J.circuit j) k i).share
+  unfolding wire_by multiplied plus shift product
   reduced_gate J j w Local e i = (local_computes F (gate J.circuit j) e).low _ _ _ _ _
   reduced_gate J j w Owned e i = norm_add _ _
   reduced_gate J j w Opens e i = norm_add _ _
@@ -240,7 +240,7 @@ module _ {O : Ops} {F : Field O} (P : Pair F) where
       go (no ne) = ap (λ (p : Part). p.share) (a.others i l ne)
 
   -- What is left of a wire once a mask that moves with it is taken away.
-  agrees_masked : (j y k : ℕ) → j < gates c → Ref c j y → Moved F n c h x x' m good j k (valueMove O n c h x x' y) → SameValue (Masked j y k)
+  agrees_masked : (j y k : ℕ) → j < gates c → Ref c j y → Moved F n c h x x' m good j k (value_move O n c h x x' y) → SameValue (Masked j y k)
       → Agrees (Masked j y k)
   unfolding opened masked minus
   agrees_masked j y k l r v s =
@@ -281,7 +281,7 @@ module _ {O : Ops} {F : Field O} (P : Pair F) where
         carries = rw g at here;
         carries' = rw g at there;
         values =
-            unfold openedValue in
+            unfold opened_value in
             plain_value O n c (match O n c h x x' m) x' co ns y ∙ outputs j l e g ∙ sym (plain_value O n c m x co ns y);
       })))
     where

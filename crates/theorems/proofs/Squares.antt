@@ -16,8 +16,8 @@ use Rattle.protocol.specs.Run.{Run, begun, whole}
 use Rattle.protocol.specs.Good.{GoodRecord}
 use Rattle.protocol.proofs.Computing.{computing}
 use Rattle.theorems.specs.Premises.{Accepts, Enough, after}
-use Rattle.theorems.specs.Matching.{left_out, add_lists, only, plainly, inputMove, valueMove, moved, productMove, maskMove, maskRecordMove, recordMove, prepMove, match, rule}
-use Rattle.theorems.specs.Secrecy.{bandOf}
+use Rattle.theorems.specs.Matching.{left_out, add_lists, only, plainly, input_move, value_move, moved, product_move, mask_move, mask_record_move, record_move, prep_move, match, rule}
+use Rattle.theorems.specs.Secrecy.{band_of}
 use Rattle.theorems.specs.Example.{A, blank, unwritten}
 use Rattle.theorems.specs.Squares.{circuit, preps, matched, inputs₁, inputs₂, rooms, squaring, Squares}
 use Rattle.theorems.proofs.Known.{hashed}
@@ -47,7 +47,7 @@ unfolding computing
 words m x = ap (λ (R : Run). R.transcript) (whole_is modular (squaring modular m x) rooms accepts (enough m x))
 
 computed : Squares modular
-unfolding hashing modular all_below after left_out add_lists only plainly inputMove valueMove moved productMove maskMove maskRecordMove recordMove prepMove match rule
+unfolding hashing modular all_below after left_out add_lists only plainly input_move value_move moved product_move mask_move mask_record_move record_move prep_move match rule
 computed =
     record {
       good = record { long = refl; elements = below 2147483647 preps tt; records = good_records };
@@ -63,7 +63,7 @@ computed =
       same_words = words matched inputs₂;
       same_bands =
           left_alike modular (squaring modular matched inputs₂) (squaring modular preps inputs₁) rooms blank unwritten accepts (enough matched inputs₂) accepts
-          (enough preps inputs₁) (λ l. bandOf modular 2 circuit A l 1) refl;
+          (enough preps inputs₁) (λ l. band_of modular 2 circuit A l 1) refl;
     }
 
 -- at the operations that the contracts cite

@@ -19,8 +19,8 @@ use Rattle.circuit.proofs.Counts.{unchecked_fits}
 use Rattle.protocol.specs.Scratch.{layout, Value, read}
 use Rattle.protocol.specs.Position.{Point, Stage, Send, Receive, Finished, Aborted, finished, aborted, reach, resume, start, keep, may_hold}
 use Rattle.protocol.specs.Party.{key}
-use Rattle.protocol.specs.Send.{checkShare, holds, noted}
-use Rattle.protocol.specs.Receive.{afterOpenOutput, passed, received, left}
+use Rattle.protocol.specs.Send.{check_share, holds, noted}
+use Rattle.protocol.specs.Receive.{after_open_output, passed, received, left}
 use Rattle.protocol.specs.Joint.{Joint, party, nonce_for}
 use Rattle.protocol.specs.Run.{State, begun, said, notes, ends, step}
 use Rattle.protocol.proofs.InOrder.{begins}
@@ -96,21 +96,21 @@ module _ {O : Ops} (F : Field O) (J : Joint) (ok : Valid J.parties O.size J.circ
         }
 
     -- the nonce that party i is handed: at a commitment its own, and none elsewhere
-    abbrev pub handedNonce : ℕ → List ℕ
-    handedNonce i = cond (is_commit r) (nonce_for J s.checks i) []
+    abbrev pub handed_nonce : ℕ → List ℕ
+    handed_nonce i = cond (is_commit r) (nonce_for J s.checks i) []
 
-    pub handed_long : (i : ℕ) → i < J.parties → length (handedNonce i) ≡ nonce_in r
+    pub handed_long : (i : ℕ) → i < J.parties → length (handed_nonce i) ≡ nonce_in r
     unfolding nonce_in
     handed_long i l = by_cases (is_commit r) (λ z. rw z (kept.nonces r e z i l)) (λ z. rw z)
 
     -- Elsewhere a nonce does not matter.
-    pub notes_handed : (i : ℕ) → notes O J s r i ≡ noted O (party J i) (s.scratch i) r (handedNonce i)
+    pub notes_handed : (i : ℕ) → notes O J s r i ≡ noted O (party J i) (s.scratch i) r (handed_nonce i)
     unfolding notes noted
     notes_handed i = by_cases (is_commit r) (λ z. rw z) (λ z. rw z)
 
     pub stood_noted : (i : ℕ) → i < J.parties → Sound s i → Stood J.parties size J.circuit (notes O J s r i) s.point.gate r
     unfolding party
-    stood_noted i l k = rw (notes_handed i) (noted_stood F (party J i) (s.scratch i) s.point.gate [] r (handedNonce i) (handed_long i l) (stood i l k))
+    stood_noted i l k = rw (notes_handed i) (noted_stood F (party J i) (s.scratch i) s.point.gate [] r (handed_nonce i) (handed_long i l) (stood i l k))
 
     -- the words of all
     abbrev heard : List ℕ
@@ -118,10 +118,10 @@ module _ {O : Ops} (F : Field O) (J : Joint) (ok : Valid J.parties O.size J.circ
 
     -- A check share is an element, and 0 where none is held.
     pub holds_low : (i : ℕ) (taken : List ℕ) → holds O (party J i) (s.scratch i) s.point.gate r taken < size
-    unfolding holds checkShare party
+    unfolding holds check_share party
     holds_low i taken = go (is_commit r)
       where
-        go : (b : Bool) → cond b (checkShare O (layout J.circuit) (s.scratch i) (opened_in (unchecked J.circuit s.point.gate) r) (key (party J i)) taken) 0 < size
+        go : (b : Bool) → cond b (check_share O (layout J.circuit) (s.scratch i) (opened_in (unchecked J.circuit s.point.gate) r) (key (party J i)) taken) 0 < size
         go true = sub_lt F _ _
         go false = omega (arith, F.one_lt)
 
@@ -136,7 +136,7 @@ module _ {O : Ops} (F : Field O) (J : Joint) (ok : Valid J.parties O.size J.circ
         (received O (party J 0) (notes O J s t 0) s.point.gate t (said O J s t))
     shown_next Own q i l l₀ k = shown_resumed J.circuit (suc s.point.gate) _ _ fits.0
     shown_next Open q i l l₀ k =
-        λ z. unfold received afterOpenOutput party notes noted in
+        λ z. unfold received after_open_output party notes noted in
         value_opened_same (layout J.circuit) (s.scratch i) 0 _ _ (slots_room J.parties J.circuit (kept_room O J s kept i l)) some
         ∙ sym (value_opened_same (layout J.circuit) (s.scratch 0) 0 _ _ (slots_room J.parties J.circuit (kept_room O J s kept 0 l₀)) some)
       where

@@ -19,15 +19,15 @@ use Rattle.protocol.specs.Scratch.{layout, read, Value}
 use Rattle.protocol.specs.Position.{Stage, Send, Receive, Finished, Aborted, when_sending, when_receiving}
 use Rattle.protocol.specs.Party.{Party}
 use Rattle.protocol.specs.Send.{holds, noted}
-use Rattle.protocol.specs.Ask.{askLent, askSendRound, askSend, askReceive}
-use Rattle.protocol.specs.Entry.{Answer, Refusal, Next, Output, Abort, answer, sendAnswer, sendScratch, receiveAnswer, receiveScratch}
+use Rattle.protocol.specs.Ask.{ask_lent, ask_send_round, ask_send, ask_receive}
+use Rattle.protocol.specs.Entry.{Answer, Refusal, Next, Output, Abort, answer, send_answer, send_scratch, receive_answer, receive_scratch}
 use Rattle.protocol.proofs.Accepted.{lends}
 use Rattle.protocol.proofs.Tails.{nonce_room, read_nonce}
 use Rattle.protocol.proofs.Words.{joined_ext}
-use Rattle.theorems.specs.Apart.{Apart, party_in, Local, moved, Unrefused, sends, writes, receives, written, heardIn, round, apart}
+use Rattle.theorems.specs.Apart.{Apart, party_in, Local, moved, Unrefused, sends, writes, receives, written, heard_in, round, apart}
 use Rattle.theorems.specs.Binding as Binding
-use Rattle.theorems.specs.Binding.{sending_at, receiving_at, stopped_at, Decides, lastAnswer}
-use Rattle.theorems.specs.Transit.{transit, hearsIn, Commits, share_in, Ruled, InTransit, Unaltered}
+use Rattle.theorems.specs.Binding.{sending_at, receiving_at, stopped_at, Decides, last_answer}
+use Rattle.theorems.specs.Transit.{transit, hears_in, Commits, share_in, Ruled, InTransit, Unaltered}
 use Rattle.theorems.proofs.Holds.{room_one}
 use Rattle.theorems.proofs.Calls.{local_at, sends_is}
 use Rattle.theorems.proofs.Binding.{goes_on_alike, hears_commit, alterable, binding}
@@ -90,29 +90,29 @@ module _ (O : Ops) (P : Party) (l : List ℕ) (j held : ℕ) (r : Round) (answer
   open O use {size}
 
   -- one call, whatever it is answered
-  send_turn : (coefficients nonce out : List ℕ) (a : Answer) → sendAnswer O P l (sending_at j r held) coefficients nonce (length out) ≡ a
+  send_turn : (coefficients nonce out : List ℕ) (a : Answer) → send_answer O P l (sending_at j r held) coefficients nonce (length out) ≡ a
       → sends O P coefficients nonce out (local_at (sending_at j r held) l answers)
-      ≡ local_at (moved (sending_at j r held) a) (sendScratch O P l (sending_at j r held) coefficients nonce (length out)) (answers ++ (a ∷ []))
+      ≡ local_at (moved (sending_at j r held) a) (send_scratch O P l (sending_at j r held) coefficients nonce (length out)) (answers ++ (a ∷ []))
   unfolding sends when_sending
   send_turn coefficients nonce out a e =
-      ap (λ (a : Answer). local_at (moved (sending_at j r held) a) (sendScratch O P l (sending_at j r held) coefficients nonce (length out)) (answers ++ (a ∷ []))) e
+      ap (λ (a : Answer). local_at (moved (sending_at j r held) a) (send_scratch O P l (sending_at j r held) coefficients nonce (length out)) (answers ++ (a ∷ []))) e
 
-  receive_turn : (heard : List ℕ) (a : Answer) → receiveAnswer O P l (receiving_at j r held) heard ≡ a
+  receive_turn : (heard : List ℕ) (a : Answer) → receive_answer O P l (receiving_at j r held) heard ≡ a
       → receives O P heard (local_at (receiving_at j r held) l answers)
-      ≡ local_at (moved (receiving_at j r held) a) (receiveScratch O P l (receiving_at j r held) heard) (answers ++ (a ∷ []))
+      ≡ local_at (moved (receiving_at j r held) a) (receive_scratch O P l (receiving_at j r held) heard) (answers ++ (a ∷ []))
   unfolding receives when_receiving
   receive_turn heard a e =
-      ap (λ (a : Answer). local_at (moved (receiving_at j r held) a) (receiveScratch O P l (receiving_at j r held) heard) (answers ++ (a ∷ []))) e
+      ap (λ (a : Answer). local_at (moved (receiving_at j r held) a) (receive_scratch O P l (receiving_at j r held) heard) (answers ++ (a ∷ []))) e
 
   -- one that is not refused
   send_asked : (coefficients nonce out : List ℕ) → Unrefused (sends O P coefficients nonce out (local_at (sending_at j r held) l answers)).answers
-      → askSend size P l (sending_at j r held) coefficients nonce (length out) ≡ Accepted
-  unfolding sends when_sending sendAnswer
+      → ask_send size P l (sending_at j r held) coefficients nonce (length out) ≡ Accepted
+  unfolding sends when_sending send_answer
   send_asked coefficients nonce out h = accepted_of _ _ (unrefused_back answers _ h)
 
   receive_asked : (heard : List ℕ) → Unrefused (receives O P heard (local_at (receiving_at j r held) l answers)).answers
-      → askReceive size P l (receiving_at j r held) heard ≡ Accepted
-  unfolding receives when_receiving receiveAnswer
+      → ask_receive size P l (receiving_at j r held) heard ≡ Accepted
+  unfolding receives when_receiving receive_answer
   receive_asked heard h = accepted_of _ _ (unrefused_back answers _ h)
 
 module _ {O : Ops} (F : Field O) (D : Apart) (way : ℕ → ℕ → List ℕ → List ℕ) (k i j held : ℕ) (c : Check) (ok : Commits O D way k i j held c) where
@@ -129,10 +129,10 @@ module _ {O : Ops} (F : Field O) (D : Apart) (way : ℕ → ℕ → List ℕ →
   before = (transit O D way k i).answers
 
   abbrev ms : List ℕ
-  ms = hearsIn O D way k i
+  ms = hears_in O D way k i
 
   abbrev ws : List ℕ
-  ws = hearsIn O D way (suc k) i
+  ws = hears_in O D way (suc k) i
 
   abbrev share : ℕ
   share = share_in O D way k i j c
@@ -171,7 +171,7 @@ module _ {O : Ops} (F : Field O) (D : Apart) (way : ℕ → ℕ → List ℕ →
   here : transit O D way k i ≡ local_at (sending_at j (Commit c) held) l before
   here = λ t. record { position = ok.stands t; scratch = l; answers = before }
 
-  commit_asked : askSend size P l (sending_at j (Commit c) held) (D.coefficients k i) (D.nonces k i) (length (D.out k i)) ≡ Accepted
+  commit_asked : ask_send size P l (sending_at j (Commit c) held) (D.coefficients k i) (D.nonces k i) (length (D.out k i)) ≡ Accepted
   commit_asked =
       send_asked O P l j held (Commit c) before _ _ _
       (subst (λ (s : Local). Unrefused (sends O P (D.coefficients k i) (D.nonces k i) (D.out k i) s).answers) here first)
@@ -188,13 +188,13 @@ module _ {O : Ops} (F : Field O) (D : Apart) (way : ℕ → ℕ → List ℕ →
       ∙ sends_is O P l j held (Commit c) before (D.coefficients k i) (D.nonces k i) (D.out k i) commit_asked
 
   -- .. hears the marks ..
-  marks_asked : askReceive size P l₁ (receiving_at j (Commit c) share) ms ≡ Accepted
+  marks_asked : ask_receive size P l₁ (receiving_at j (Commit c) share) ms ≡ Accepted
   marks_asked =
       receive_asked O P l₁ j share (Commit c) as₁ ms
       (subst (λ (s : Local). Unrefused (receives O P ms s).answers) committed second)
 
   abbrev l₂ : List ℕ
-  l₂ = receiveScratch O P l₁ (receiving_at j (Commit c) share) ms
+  l₂ = receive_scratch O P l₁ (receiving_at j (Commit c) share) ms
 
   abbrev as₂ : List Answer
   as₂ = as₁ ++ (Next (sending_at j (Reveal c) share) ∷ [])
@@ -206,37 +206,37 @@ module _ {O : Ops} (F : Field O) (D : Apart) (way : ℕ → ℕ → List ℕ →
       ∙ receive_turn O P l₁ j share (Commit c) as₁ ms _ (hears_commit O P l₁ j share c ms marks_asked)
 
   -- .. reveals, with nothing handed over ..
-  reveal_handed : askSend size P l₂ (sending_at j (Reveal c) share) (D.coefficients (suc k) i) (D.nonces (suc k) i) (length (D.out (suc k) i)) ≡ Accepted
+  reveal_handed : ask_send size P l₂ (sending_at j (Reveal c) share) (D.coefficients (suc k) i) (D.nonces (suc k) i) (length (D.out (suc k) i)) ≡ Accepted
   reveal_handed =
       send_asked O P l₂ j share (Reveal c) as₂ _ _ _
       (subst (λ (s : Local). Unrefused (sends O P (D.coefficients (suc k) i) (D.nonces (suc k) i) (D.out (suc k) i) s).answers) heard_marks third)
 
   no_coefficients : D.coefficients (suc k) i ≡ []
-  unfolding askSend askSendRound when_sending coefficients_in
+  unfolding ask_send ask_send_round when_sending coefficients_in
   no_coefficients =
       empty_of _
-      (eqb-true _ _ (ask_true 16 0 _ (then_left _ _ (then_right _ _ (then_right _ _ (then_right (askLent size P l₂) _ reveal_handed))))))
+      (eqb-true _ _ (ask_true 16 0 _ (then_left _ _ (then_right _ _ (then_right _ _ (then_right (ask_lent size P l₂) _ reveal_handed))))))
 
   no_nonce : D.nonces (suc k) i ≡ []
-  unfolding askSend askSendRound when_sending nonce_in
+  unfolding ask_send ask_send_round when_sending nonce_in
   no_nonce =
       empty_of _
       (eqb-true _ _
-      (ask_true 25 0 _ (then_left _ _ (then_right _ _ (then_right _ _ (then_right _ _ (then_right _ _ (then_right (askLent size P l₂) _ reveal_handed))))))))
+      (ask_true 25 0 _ (then_left _ _ (then_right _ _ (then_right _ _ (then_right _ _ (then_right _ _ (then_right (ask_lent size P l₂) _ reveal_handed))))))))
 
   abbrev room : ℕ
   room = length (D.out (suc k) i)
 
-  reveal_asked : askSend size P l₂ (sending_at j (Reveal c) share) [] [] room ≡ Accepted
+  reveal_asked : ask_send size P l₂ (sending_at j (Reveal c) share) [] [] room ≡ Accepted
   reveal_asked =
-      ap₂ (λ (xs ys : List ℕ). askSend size P l₂ (sending_at j (Reveal c) share) xs ys room) (sym no_coefficients) (sym no_nonce) ∙ reveal_handed
+      ap₂ (λ (xs ys : List ℕ). ask_send size P l₂ (sending_at j (Reveal c) share) xs ys room) (sym no_coefficients) (sym no_nonce) ∙ reveal_handed
 
-  reveal_sent : sendAnswer O P l₂ (sending_at j (Reveal c) share) [] [] room ≡ Next (receiving_at j (Reveal c) 0)
-  unfolding sendAnswer answer when_sending holds
+  reveal_sent : send_answer O P l₂ (sending_at j (Reveal c) share) [] [] room ≡ Next (receiving_at j (Reveal c) 0)
+  unfolding send_answer answer when_sending holds
   reveal_sent = rw reveal_asked
 
   abbrev l₃ : List ℕ
-  l₃ = sendScratch O P l₂ (sending_at j (Reveal c) share) [] [] room
+  l₃ = send_scratch O P l₂ (sending_at j (Reveal c) share) [] [] room
 
   abbrev as₃ : List Answer
   as₃ = as₂ ++ (Next (receiving_at j (Reveal c) 0) ∷ [])
@@ -249,7 +249,7 @@ module _ {O : Ops} (F : Field O) (D : Apart) (way : ℕ → ℕ → List ℕ →
       ∙ send_turn O P l₂ j share (Reveal c) as₂ [] [] (D.out (suc k) i) _ reveal_sent
 
   -- .. and hears the reveal.
-  words_asked : askReceive size P l₃ (receiving_at j (Reveal c) 0) ws ≡ Accepted
+  words_asked : ask_receive size P l₃ (receiving_at j (Reveal c) 0) ws ≡ Accepted
   words_asked =
       receive_asked O P l₃ j 0 (Reveal c) as₃ ws
       (subst (λ (s : Local). Unrefused (receives O P ws s).answers) revealed fourth)
@@ -258,20 +258,20 @@ module _ {O : Ops} (F : Field O) (D : Apart) (way : ℕ → ℕ → List ℕ →
   unrefused = record { hears = marks_asked; sends = reveal_asked; hears_reveal = words_asked }
 
   abbrev last : Answer
-  last = lastAnswer O P l₁ j share c room ms ws
+  last = last_answer O P l₁ j share c room ms ws
 
   answered : s₄.answers ≡ as₃ ++ (last ∷ [])
   answered = ap (λ (s : Local). s.answers) (ap (receives O P ws) revealed ∙ receive_turn O P l₃ j 0 (Reveal c) as₃ ws _ refl)
 
   -- The nonce that it noted is no opened value.
   value_noted : read (layout P.circuit) l₁ (Value 0) ≡ read (layout P.circuit) l (Value 0)
-  unfolding noted askSend askSendRound when_sending nonce_in
+  unfolding noted ask_send ask_send_round when_sending nonce_in
   value_noted =
       read_nonce (layout P.circuit) l (words_of (D.nonces k i))
       (length_words nonce_words (D.nonces k i)
       (eqb-true _ _
-      (ask_true 25 0 _ (then_left _ _ (then_right _ _ (then_right _ _ (then_right _ _ (then_right _ _ (then_right (askLent size P l) _ commit_asked)))))))))
-      (nonce_room P.parties P.circuit (lends (omega (arith, F.one_lt)) P l (then_left (askLent size P l) _ commit_asked)).room)
+      (ask_true 25 0 _ (then_left _ _ (then_right _ _ (then_right _ _ (then_right _ _ (then_right _ _ (then_right (ask_lent size P l) _ commit_asked)))))))))
+      (nonce_room P.parties P.circuit (lends (omega (arith, F.one_lt)) P l (then_left (ask_lent size P l) _ commit_asked)).room)
       (Value 0) (unfold layout in room_one P.circuit)
 
   pub ruled : Ruled O D way k i j c last
@@ -294,7 +294,7 @@ in_transit {O} F D way k i j held c ok = (last F D way k i j held c ok, ruled F 
 
 -- Where nothing is altered these are the parties apart.
 pub unaltered : (O : Ops) → Unaltered O
-unfolding transit apart round heardIn written
+unfolding transit apart round heard_in written
 unaltered O D zero i = refl
 unaltered O D (suc k) i =
     ap₂ (λ (heard : List ℕ) (s : Local). receives O (party_in D i) heard (sends O (party_in D i) (D.coefficients k i) (D.nonces k i) (D.out k i) s))

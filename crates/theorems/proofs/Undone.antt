@@ -19,13 +19,13 @@ use Rattle.circuit.proofs.KindLaws.{local_no_out}
 use Rattle.protocol.specs.Part.{Part, scale}
 use Rattle.protocol.specs.Over.{over, Undoes}
 use Rattle.protocol.specs.Party.{key}
-use Rattle.protocol.specs.Receive.{operandOf, operand, linear}
+use Rattle.protocol.specs.Receive.{operand_of, operand, linear}
 use Rattle.protocol.specs.Joint.{Joint, party}
-use Rattle.protocol.specs.Plain.{kindValue, plainInput, value}
+use Rattle.protocol.specs.Plain.{kind_value, plain_input, value}
 use Rattle.protocol.proofs.Writing.{Elements}
 use Rattle.protocol.proofs.Overs.{undoes}
 use Rattle.theorems.specs.Premises.{Accepts, InputsPass, Enough, after}
-use Rattle.theorems.specs.Undone.{EitherOrder, partAfter, Undone, UndoneValues}
+use Rattle.theorems.specs.Undone.{EitherOrder, part_after, Undone, UndoneValues}
 use Rattle.theorems.proofs.Given.{input_normed}
 use Rattle.theorems.proofs.KindValues.{value_normed}
 use Rattle.theorems.proofs.Values.{value_is}
@@ -49,7 +49,7 @@ module _ {O : Ops} (F : Field O) (J : Joint) (ok : Valid J.parties O.size J.circ
 
     -- party i's part of a gate after r rounds
     abbrev part : ℕ → Part
-    part = partAfter O J scratch r i
+    part = part_after O J scratch r i
 
     within : done ≤ gates J.circuit
     unfolding party
@@ -57,12 +57,12 @@ module _ {O : Ops} (F : Field O) (J : Joint) (ok : Valid J.parties O.size J.circ
 
     -- What a gate that needs no round comes to, where it is g.
     part_is : (u : ℕ) → u < done → (g : Gate) → gate J.circuit u ≡ g → (shape g).class ≡ Local
-        → part u ≡ linear O i (key (party J i)) g.kind (part g.first) (part g.second) (operandOf O g)
+        → part u ≡ linear O i (key (party J i)) g.kind (part g.first) (part g.second) (operand_of O g)
     unfolding party
     part_is u h g e k =
         let local : (shape (gate J.circuit u)).class ≡ Local = ap (λ (g : Gate). (shape g).class) e ∙ k in
         ((done_after F J ok i l scratch enough r).made u h (rw (local_no_out local))).is local
-        ∙ ap (λ (g : Gate). linear O i (key (party J i)) g.kind (part g.first) (part g.second) (operandOf O g)) e
+        ∙ ap (λ (g : Gate). linear O i (key (party J i)) g.kind (part g.first) (part g.second) (operand_of O g)) e
 
     part_times : (x u k : ℕ) → u < done → gate J.circuit u ≡ gate_of Times x 0 k → part u ≡ scale O k (part x)
     unfolding linear operand kind_shape
@@ -78,17 +78,17 @@ module _ {O : Ops} (F : Field O) (J : Joint) (ok : Valid J.parties O.size J.circ
 
   -- The value of a gate that is g.
   value_of : (u : ℕ) → u < gates J.circuit → (g : Gate) → gate J.circuit u ≡ g
-      → value O J u ≡ kindValue O g.kind (plainInput O J u) (value O J g.first) (value O J g.second) (operandOf O g)
+      → value O J u ≡ kind_value O g.kind (plain_input O J u) (value O J g.first) (value O J g.second) (operand_of O g)
   value_of u h g e =
       value_is F J ok u h
-      ∙ ap (λ (g : Gate). kindValue O g.kind (plainInput O J u) (value O J g.first) (value O J g.second) (operandOf O g)) e
+      ∙ ap (λ (g : Gate). kind_value O g.kind (plain_input O J u) (value O J g.first) (value O J g.second) (operand_of O g)) e
 
   value_times : (x u k : ℕ) → u < gates J.circuit → gate J.circuit u ≡ gate_of Times x 0 k → value O J u ≡ mul k (value O J x)
-  unfolding kindValue operand kind_shape
+  unfolding kind_value operand kind_shape
   value_times x u k h e = value_of u h (gate_of Times x 0 k) e ∙ F.mul_comm _ _
 
   value_over : (x u k : ℕ) → u < gates J.circuit → gate J.circuit u ≡ gate_of Over x 0 k → value O J u ≡ mul (inv k) (value O J x)
-  unfolding kindValue operand kind_shape
+  unfolding kind_value operand kind_shape
   value_over x u k h e = value_of u h (gate_of Over x 0 k) e ∙ F.mul_comm _ _
 
   -- the two gates of the constant k: each names an earlier gate, and k is "from 1 to p − 1"
@@ -115,7 +115,7 @@ module _ {O : Ops} (F : Field O) (J : Joint) (ok : Valid J.parties O.size J.circ
     -- Both gates together give a party's part back,
     parts_back : (scratch : List ℕ) (enough : Enough J scratch) (r i : ℕ) (l : i < J.parties) (x t u k : ℕ) → u < (after O J scratch r).point.gate
         → EitherOrder J.circuit x t u k
-        → partAfter O J scratch r i u ≡ partAfter O J scratch r i x
+        → part_after O J scratch r i u ≡ part_after O J scratch r i x
     parts_back scratch enough r i l x t u k h w = go w
       where
         p : Pair x t u k
@@ -124,10 +124,10 @@ module _ {O : Ops} (F : Field O) (J : Joint) (ok : Valid J.parties O.size J.circ
         ht : t < (after O J scratch r).point.gate
         ht = omega (arith, p.earlier)
 
-        back : Undoes O k (partAfter O J scratch r i x)
+        back : Undoes O k (part_after O J scratch r i x)
         back = undoes F I k p.low p.high _ (part_low scratch enough r i l x t ht p.named)
 
-        go : EitherOrder J.circuit x t u k → partAfter O J scratch r i u ≡ partAfter O J scratch r i x
+        go : EitherOrder J.circuit x t u k → part_after O J scratch r i u ≡ part_after O J scratch r i x
         go (inl w) =
             part_over scratch enough r i l t u 0 k h w.other_is
             ∙ ap (over O k) (part_times scratch enough r i l x t k ht w.one_is)
@@ -138,7 +138,7 @@ module _ {O : Ops} (F : Field O) (J : Joint) (ok : Valid J.parties O.size J.circ
             ∙ back.over_then_times
 
     -- and the value.
-    values_back : ((j : ℕ) → norm (plainInput O J j) ≡ plainInput O J j) → UndoneValues O J
+    values_back : ((j : ℕ) → norm (plain_input O J j) ≡ plain_input O J j) → UndoneValues O J
     values_back inputs x t u k h w = go w ∙ rw (value_is F J ok x (omega (arith, p.named.earlier, ht))) (value_normed F _ _ _ _ _ (inputs x))
       where
         p : Pair x t u k

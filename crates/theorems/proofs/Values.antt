@@ -10,8 +10,8 @@ use Rattle.circuit.specs.Kind.{Class, Local, Owned, Opens, Output, shape, factor
 use Rattle.circuit.specs.Valid.{Valid}
 use Rattle.circuit.proofs.Gates.{local_named, opens_named, factor_named}
 use Rattle.protocol.specs.Joint.{Joint}
-use Rattle.protocol.specs.Receive.{operandOf}
-use Rattle.protocol.specs.Plain.{kindValue, value_of, plainInput, values, value}
+use Rattle.protocol.specs.Receive.{operand_of}
+use Rattle.protocol.specs.Plain.{kind_value, value_of, plain_input, values, value}
 use Rattle.theorems.proofs.Course.{before, before_at, course}
 use Rattle.theorems.proofs.KindValues.{local_second, owned_value, output_value, opens_value}
 
@@ -20,7 +20,7 @@ module _ {O : Ops} (F : Field O) (J : Joint) where
   value_step : ℕ → (ℕ → ℕ) → ℕ
   value_step j v =
       let g = gate J.circuit j in
-      kindValue O g.kind (plainInput O J j) (v g.first) (v g.second) (operandOf O g)
+      kind_value O g.kind (plain_input O J j) (v g.first) (v g.second) (operand_of O g)
 
   -- The list of values is that of the recursion on all earlier gates.
   values_are : (j : ℕ) → values O J j ≡ before 0 value_step j
@@ -43,10 +43,10 @@ module _ {O : Ops} (F : Field O) (J : Joint) where
         g = gate J.circuit j
 
         go : (k : Class) → (shape g).class ≡ k
-            → kindValue O g.kind (plainInput O J j) (f g.first) (f g.second) (operandOf O g)
-            ≡ kindValue O g.kind (plainInput O J j) (h g.first) (h g.second) (operandOf O g)
+            → kind_value O g.kind (plain_input O J j) (f g.first) (f g.second) (operand_of O g)
+            ≡ kind_value O g.kind (plain_input O J j) (h g.first) (h g.second) (operand_of O g)
         go Local k =
-            ap₂ (λ (x z : ℕ). kindValue O g.kind (plainInput O J j) x z (operandOf O g))
+            ap₂ (λ (x z : ℕ). kind_value O g.kind (plain_input O J j) x z (operand_of O g))
             (e g.first (local_named ok j l k).earlier) (e g.second (local_second F ok j l k).earlier)
         go Owned k = owned_value F g k _ _ _ _ ∙ sym (owned_value F g k _ _ _ _)
         go Opens k =
@@ -57,8 +57,8 @@ module _ {O : Ops} (F : Field O) (J : Joint) where
 
     -- Value j is made of the values that gate j names.
     pub value_is : value O J j
-        ≡ kindValue O (gate J.circuit j).kind (plainInput O J j) (value O J (gate J.circuit j).first) (value O J (gate J.circuit j).second)
-        (operandOf O (gate J.circuit j))
+        ≡ kind_value O (gate J.circuit j).kind (plain_input O J j) (value O J (gate J.circuit j).first) (value O J (gate J.circuit j).second)
+        (operand_of O (gate J.circuit j))
     unfolding course value_step
     value_is =
         value_course j l

@@ -5,16 +5,16 @@ use Rattle.std.specs.Prelude.{ℕ, suc, ◌≡◌, true, List, ◌++◌}
 use Rattle.algebra.specs.Ops.{Ops}
 use Rattle.circuit.specs.Round.{Round, is_reveal, reveal_words}
 use Rattle.protocol.specs.Position.{Send, finished, aborted}
-use Rattle.protocol.specs.Receive.{Blame, Nobody, heardSum}
+use Rattle.protocol.specs.Receive.{Blame, Nobody, heard_sum}
 use Rattle.protocol.specs.Joint.{Joint}
 use Rattle.protocol.specs.Run.{said, run, begun, whole}
-use Rattle.protocol.specs.JointEntry.{Aborted, jointAnswer}
+use Rattle.protocol.specs.JointEntry.{Aborted, joint_answer}
 use Rattle.theorems.specs.Premises.{after}
 
 module _ (O : Ops) (J : Joint) (scratch : List ℕ) where
   -- the sum of the check shares revealed in round r after k rounds
   abbrev pub revealed : ℕ → Round → ℕ
-  revealed k r = heardSum O J.parties reveal_words 0 (said O J (after O J scratch k) r)
+  revealed k r = heard_sum O J.parties reveal_words 0 (said O J (after O J scratch k) r)
 
   -- round k is a check whose revealed check shares do not sum to zero
   pub record Fails (k : ℕ) (r : Round) : Type 0 where
@@ -42,5 +42,5 @@ module _ (O : Ops) (J : Joint) (scratch : List ℕ) where
 abbrev pub NamesNobody : Ops → Type 0
 NamesNobody O =
     (J : Joint) (scratch transcript outputs : List ℕ) (gate : ℕ) (blame : Blame) (rounds : ℕ)
-    → jointAnswer O J scratch transcript outputs ≡ Aborted gate blame rounds
+    → joint_answer O J scratch transcript outputs ≡ Aborted gate blame rounds
     → blame ≡ Nobody

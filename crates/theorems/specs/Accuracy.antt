@@ -12,7 +12,7 @@ use Rattle.protocol.specs.Position.{finished, when_sending}
 use Rattle.protocol.specs.Joint.{Joint}
 use Rattle.protocol.specs.Run.{whole}
 use Rattle.protocol.specs.Plain.{value, scores}
-use Rattle.protocol.specs.Good.{wholeKey}
+use Rattle.protocol.specs.Good.{whole_key}
 use Rattle.protocol.specs.Formula.{round_formula, most_rounds_of_all}
 use Rattle.theorems.specs.Premises.{after}
 
@@ -20,15 +20,15 @@ module _ (O : Ops) (J : Joint) (scratch : List ℕ) where
   open O use {mul}
 
   -- the key, and party i's scratch after k rounds
-  abbrev pub theKey : ℕ
-  theKey = wholeKey O J.parties J.circuit J.preps
+  abbrev pub the_key : ℕ
+  the_key = whole_key O J.parties J.circuit J.preps
 
-  abbrev pub scratchAfter : ℕ → ℕ → List ℕ
-  scratchAfter k i = (after O J scratch k).scratch i
+  abbrev pub scratch_after : ℕ → ℕ → List ℕ
+  scratch_after k i = (after O J scratch k).scratch i
 
   -- how many entries are opened and unchecked after k rounds
-  abbrev pub openAfter : ℕ → ℕ
-  openAfter k =
+  abbrev pub open_after : ℕ → ℕ
+  open_after k =
       when_sending (after O J scratch k).point.stage 0 (opened_in (unchecked J.circuit (after O J scratch k).point.gate))
 
   pub record Accurate : Type 0 where
@@ -36,22 +36,22 @@ module _ (O : Ops) (J : Joint) (scratch : List ℕ) where
     pub shares : (k x : ℕ)
         → x < (after O J scratch k).point.gate
         → has_value (gate J.circuit x) ≡ true
-        → sum O J.parties (λ i. (wire (layout J.circuit) (scratchAfter k i) x).share) ≡ value O J x
+        → sum O J.parties (λ i. (wire (layout J.circuit) (scratch_after k i) x).share) ≡ value O J x
     -- .. and "the MAC shares of a line sum to the key times its value"
     pub macs : (k x : ℕ)
         → x < (after O J scratch k).point.gate
         → has_value (gate J.circuit x) ≡ true
-        → sum O J.parties (λ i. (wire (layout J.circuit) (scratchAfter k i) x).mac) ≡ mul theKey (value O J x)
+        → sum O J.parties (λ i. (wire (layout J.circuit) (scratch_after k i) x).mac) ≡ mul the_key (value O J x)
     -- opened values are alike at all parties ..
     pub opened_alike : (k t i : ℕ)
-        → t < openAfter k
+        → t < open_after k
         → i < J.parties
-        → read (layout J.circuit) (scratchAfter k i) (Value t) ≡ read (layout J.circuit) (scratchAfter k 0) (Value t)
+        → read (layout J.circuit) (scratch_after k i) (Value t) ≡ read (layout J.circuit) (scratch_after k 0) (Value t)
     -- .. and their MAC shares sum to the key times them
     pub opened_macs : (k t : ℕ)
-        → t < openAfter k
-        → sum O J.parties (λ i. read (layout J.circuit) (scratchAfter k i) (ValueMac t))
-        ≡ mul theKey (read (layout J.circuit) (scratchAfter k 0) (Value t))
+        → t < open_after k
+        → sum O J.parties (λ i. read (layout J.circuit) (scratch_after k i) (ValueMac t))
+        ≡ mul the_key (read (layout J.circuit) (scratch_after k 0) (Value t))
     -- no check stops the run: it finishes
     pub finishes : (whole O J scratch).last.point ≡ finished J.circuit
     -- "each score is the circuit's value on the plain inputs", of out gates and of gives, whose receivers' scores are listed

@@ -12,8 +12,8 @@ use Rattle.protocol.specs.Position.{Stage, Send, Receive, Finished, Aborted, Pos
 use Rattle.protocol.specs.Party.{Party, party_of}
 use Rattle.protocol.specs.Send.{sent, holds}
 use Rattle.protocol.specs.Receive.{Nobody}
-use Rattle.protocol.specs.Ask.{askLent}
-use Rattle.protocol.specs.Entry.{Answer, Refusal, Next, Output, Abort, openAnswer, sendAnswer, sendOut, sendScratch, receiveAnswer, receiveScratch}
+use Rattle.protocol.specs.Ask.{ask_lent}
+use Rattle.protocol.specs.Entry.{Answer, Refusal, Next, Output, Abort, open_answer, send_answer, send_out, send_scratch, receive_answer, receive_scratch}
 use Rattle.protocol.specs.Joint.{Joint, joined, nonce_for}
 use Rattle.protocol.specs.Run.{State, begun, taken, released, run}
 use Rattle.theorems.specs.Premises.{after}
@@ -74,7 +74,7 @@ module _ (O : Ops) (P : Party) where
   -- opening a run. A party that is refused has no position: it calls nothing, as at an ended one
   unfoldable pub opens : List ℕ → Local
   opens scratch =
-      let a = openAnswer O P scratch in
+      let a = open_answer O P scratch in
       record { position = moved (holding (aborted 0) 0) a; scratch = scratch; answers = a ∷ [] }
 
   -- at a sending half the party sends; elsewhere it does not
@@ -82,10 +82,10 @@ module _ (O : Ops) (P : Party) where
   sends coefficients nonce out s =
       when_sending s.position.stage s
       (λ r.
-      let a = sendAnswer O P s.scratch s.position coefficients nonce (length out) in
+      let a = send_answer O P s.scratch s.position coefficients nonce (length out) in
       record {
         position = moved s.position a;
-        scratch = sendScratch O P s.scratch s.position coefficients nonce (length out);
+        scratch = send_scratch O P s.scratch s.position coefficients nonce (length out);
         answers = s.answers ++ (a ∷ []);
       })
 
@@ -94,18 +94,18 @@ module _ (O : Ops) (P : Party) where
   writes coefficients nonce out s =
       when_sending s.position.stage []
       (λ r.
-      unless_refused (sendAnswer O P s.scratch s.position coefficients nonce (length out))
-      (take (words (gate P.circuit s.position.gate) r) (sendOut O P s.scratch s.position coefficients nonce out)))
+      unless_refused (send_answer O P s.scratch s.position coefficients nonce (length out))
+      (take (words (gate P.circuit s.position.gate) r) (send_out O P s.scratch s.position coefficients nonce out)))
 
   -- at a receiving half it receives the words of all; elsewhere it does not
   unfoldable pub receives : List ℕ → Local → Local
   receives heard s =
       when_receiving s.position.stage s
       (λ r.
-      let a = receiveAnswer O P s.scratch s.position heard in
+      let a = receive_answer O P s.scratch s.position heard in
       record {
         position = moved s.position a;
-        scratch = receiveScratch O P s.scratch s.position heard;
+        scratch = receive_scratch O P s.scratch s.position heard;
         answers = s.answers ++ (a ∷ []);
       })
 
@@ -115,12 +115,12 @@ module _ (O : Ops) (D : Apart) where
   written k s i = writes O (party_in D i) (D.coefficients k i) (D.nonces k i) (D.out k i) (s i)
 
   -- the words of all, in party order
-  unfoldable pub heardIn : ℕ → (ℕ → Local) → List ℕ
-  heardIn k s = joined D.parties (written k s)
+  unfoldable pub heard_in : ℕ → (ℕ → Local) → List ℕ
+  heard_in k s = joined D.parties (written k s)
 
   -- round k: every party sends, and every party receives the words of all
   unfoldable pub round : ℕ → (ℕ → Local) → ℕ → Local
-  round k s i = receives O (party_in D i) (heardIn k s) (sends O (party_in D i) (D.coefficients k i) (D.nonces k i) (D.out k i) (s i))
+  round k s i = receives O (party_in D i) (heard_in k s) (sends O (party_in D i) (D.coefficients k i) (D.nonces k i) (D.out k i) (s i))
 
   -- all parties after k rounds, from their own openings on
   unfoldable pub apart : ℕ → ℕ → Local
@@ -130,7 +130,7 @@ module _ (O : Ops) (D : Apart) where
   -- the words of the first k rounds
   unfoldable pub spoken : ℕ → List ℕ
   spoken zero = []
-  spoken (suc k) = spoken k ++ heardIn k (apart k)
+  spoken (suc k) = spoken k ++ heard_in k (apart k)
 
 -- the joint run of the same lists, joined in party order, on all coefficients in order of use and all nonces in order of checks
 abbrev pub jointly : Apart → List ℕ → List ℕ → Joint
@@ -178,17 +178,17 @@ module _ (O : Ops) (D : Apart) (coefficients nonces : List ℕ) where
   open O use {size}
 
   -- the joint run after k rounds, and where it leaves party i
-  abbrev pub theJoint : Joint
-  theJoint = jointly D coefficients nonces
+  abbrev pub the_joint : Joint
+  the_joint = jointly D coefficients nonces
 
   abbrev pub place_of : ℕ → ℕ → Position
-  place_of k i = holding (after O theJoint (bands D) k).point ((after O theJoint (bands D) k).held i)
+  place_of k i = holding (after O the_joint (bands D) k).point ((after O the_joint (bands D) k).held i)
 
   -- what is asked of the parties' lists: each passes its own questions; the coefficients and nonces of the joint run pass 16, 17 and 25, and each
   -- party is handed the coefficients of its round and, at a commitment, its own nonce; and the lists for the words hold them
   pub record Meets : Type 0 where
     pub some : 0 < D.parties
-    pub lent : (i : ℕ) → i < D.parties → askLent size (party_in D i) (D.scratch i) ≡ Accepted
+    pub lent : (i : ℕ) → i < D.parties → ask_lent size (party_in D i) (D.scratch i) ≡ Accepted
     pub enough :
         (ask 16 0 (eqb (length coefficients) (coefficient_count D.circuit))
         then elements 17 size coefficients
@@ -196,16 +196,16 @@ module _ (O : Ops) (D : Apart) (coefficients nonces : List ℕ) where
         ≡ Accepted
     pub handed : (k i : ℕ) (r : Round)
         → i < D.parties
-        → (after O theJoint (bands D) k).point.stage ≡ Send r
-        → D.coefficients k i ≡ taken O theJoint (after O theJoint (bands D) k) r
+        → (after O the_joint (bands D) k).point.stage ≡ Send r
+        → D.coefficients k i ≡ taken O the_joint (after O the_joint (bands D) k) r
     pub noncing : (k i : ℕ) (r : Round)
         → i < D.parties
-        → (after O theJoint (bands D) k).point.stage ≡ Send r
-        → D.nonces k i ≡ cond (is_commit r) (nonce_for theJoint (after O theJoint (bands D) k).checks i) []
+        → (after O the_joint (bands D) k).point.stage ≡ Send r
+        → D.nonces k i ≡ cond (is_commit r) (nonce_for the_joint (after O the_joint (bands D) k).checks i) []
     pub room : (k i : ℕ) (r : Round)
         → i < D.parties
-        → (after O theJoint (bands D) k).point.stage ≡ Send r
-        → words (gate D.circuit (after O theJoint (bands D) k).point.gate) r ≤ length (D.out k i)
+        → (after O the_joint (bands D) k).point.stage ≡ Send r
+        → words (gate D.circuit (after O the_joint (bands D) k).point.gate) r ≤ length (D.out k i)
 
   -- the parties apart are the joint run, whatever the preprocessing
   pub record Together : Type 0 where
@@ -216,39 +216,39 @@ module _ (O : Ops) (D : Apart) (coefficients nonces : List ℕ) where
     -- .. has the joint run's band as its scratch, and beyond it what was there ..
     pub scratch : (k i : ℕ)
         → i < D.parties
-        → (apart O D k i).scratch ≡ (after O theJoint (bands D) k).scratch i ++ drop (scratch_size D.parties D.circuit) (D.scratch i)
+        → (apart O D k i).scratch ≡ (after O the_joint (bands D) k).scratch i ++ drop (scratch_size D.parties D.circuit) (D.scratch i)
     -- .. and writes its part of the joint run's words
     pub words : (k i : ℕ) (r : Round)
         → i < D.parties
-        → (after O theJoint (bands D) k).point.stage ≡ Send r
+        → (after O the_joint (bands D) k).point.stage ≡ Send r
         → written O D k (apart O D k) i
-        ≡ sent O (party_in D i) ((after O theJoint (bands D) k).scratch i) (after O theJoint (bands D) k).point.gate ((after O theJoint (bands D) k).held i)
+        ≡ sent O (party_in D i) ((after O the_joint (bands D) k).scratch i) (after O the_joint (bands D) k).point.gate ((after O the_joint (bands D) k).held i)
         (D.coefficients k i) (D.nonces k i) r
     -- all together they write the joint run's transcript
-    pub transcript : (k : ℕ) → spoken O D k ≡ (run O theJoint k (begun O theJoint (bands D))).transcript
+    pub transcript : (k : ℕ) → spoken O D k ≡ (run O the_joint k (begun O the_joint (bands D))).transcript
     -- a round of the joint run is two answers at every party: the position to receive at; and then the output exactly where the joint run
     -- releases one that the party sees, the abort exactly where the joint run is aborted, and else the next position
     pub answers : (k i : ℕ) (r : Round)
         → i < D.parties
-        → (after O theJoint (bands D) k).point.stage ≡ Send r
+        → (after O the_joint (bands D) k).point.stage ≡ Send r
         → (apart O D (suc k) i).answers
         ≡ (apart O D k i).answers
         ++ (Next (record {
-          gate = (after O theJoint (bands D) k).point.gate;
+          gate = (after O the_joint (bands D) k).point.gate;
           stage = Receive r;
           held =
-              holds O (party_in D i) ((after O theJoint (bands D) k).scratch i) (after O theJoint (bands D) k).point.gate r
+              holds O (party_in D i) ((after O the_joint (bands D) k).scratch i) (after O the_joint (bands D) k).point.gate r
               (D.coefficients k i);
         })
-        ∷ told (released_to O theJoint (alone i) (after O theJoint (bands D) k) r) (place_of (suc k) i)
+        ∷ told (released_to O the_joint (alone i) (after O the_joint (bands D) k) r) (place_of (suc k) i)
         ∷ [])
     -- and where the joint run has ended nothing is called
     pub over : (k i : ℕ)
         → i < D.parties
-        → ((r : Round) → (after O theJoint (bands D) k).point.stage ≡ Send r → ⊥)
+        → ((r : Round) → (after O the_joint (bands D) k).point.stage ≡ Send r → ⊥)
         → apart O D (suc k) i ≡ apart O D k i
     -- so the outputs of every party are those of the joint run that it sees, which lists all
     pub outputs : (k i : ℕ)
         → i < D.parties
-        → outputs_in (apart O D k i).answers ≡ outputs_to O theJoint (bands D) (alone i) k
-    pub listed : (k : ℕ) → outputs_to O theJoint (bands D) everyone k ≡ (run O theJoint k (begun O theJoint (bands D))).outputs
+        → outputs_in (apart O D k i).answers ≡ outputs_to O the_joint (bands D) (alone i) k
+    pub listed : (k : ℕ) → outputs_to O the_joint (bands D) everyone k ≡ (run O the_joint k (begun O the_joint (bands D))).outputs

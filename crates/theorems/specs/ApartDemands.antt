@@ -8,12 +8,12 @@ use Rattle.circuit.specs.Count.{prep_size, input_count}
 use Rattle.protocol.specs.Position.{holding, finished}
 use Rattle.protocol.specs.Scratch.{band}
 use Rattle.protocol.specs.Joint.{joined}
-use Rattle.protocol.specs.Plain.{scoresSeen}
+use Rattle.protocol.specs.Plain.{scores_seen}
 use Rattle.protocol.specs.Good.{Good}
 use Rattle.protocol.specs.Formula.{round_formula}
 use Rattle.theorems.specs.Matching.{rule}
 use Rattle.theorems.specs.Secrecy.{Compared}
-use Rattle.theorems.specs.Apart.{Apart, party_in, outputs_in, apart, heardIn, jointly, Meets}
+use Rattle.theorems.specs.Apart.{Apart, party_in, outputs_in, apart, heard_in, jointly, Meets}
 
 -- "each score is the circuit's value on the plain inputs": after the rounds of the formula every party is finished and has released the scores that
 -- it sees, those of out gates and of the gives whose receiver it is
@@ -21,7 +21,7 @@ pub record Scored (O : Ops) (D : Apart) (coefficients nonces : List ℕ) : Type 
   pub finishes : (i : ℕ) → i < D.parties → (apart O D (round_formula D.circuit) i).position ≡ holding (finished D.circuit) 0
   pub outputs : (i : ℕ)
       → i < D.parties
-      → outputs_in (apart O D (round_formula D.circuit) i).answers ≡ scoresSeen O (jointly D coefficients nonces) (alone i) (gates D.circuit)
+      → outputs_in (apart O D (round_formula D.circuit) i).answers ≡ scores_seen O (jointly D coefficients nonces) (alone i) (gates D.circuit)
 
 -- the good preprocessing of all parties
 abbrev pub GoodApart : Ops → Apart → Type 0
@@ -60,7 +60,7 @@ pub record AlikeApart (O : Ops) (D D' : Apart) (A : ℕ → Bool) (coefficients 
   -- A's parties lend the same lists ..
   pub parties : (i : ℕ) → i < D.parties → A i ≡ true → party_in D' i ≡ party_in D i
   -- .. in every round the words of all are the same ..
-  pub words : (k : ℕ) → heardIn O D' k (apart O D' k) ≡ heardIn O D k (apart O D k)
+  pub words : (k : ℕ) → heard_in O D' k (apart O D' k) ≡ heard_in O D k (apart O D k)
   -- .. and so are, after any number of rounds, position, scratch and answers of A's parties
   pub locals : (k i : ℕ) → i < D.parties → A i ≡ true → apart O D' k i ≡ apart O D k i
 

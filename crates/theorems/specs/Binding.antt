@@ -14,9 +14,9 @@ use Rattle.protocol.specs.Scratch.{layout, band, marks_of}
 use Rattle.protocol.specs.Position.{Position, Send, Receive, Aborted, holding, follow}
 use Rattle.protocol.specs.Party.{Party}
 use Rattle.protocol.specs.Send.{revealed, mark, holds}
-use Rattle.protocol.specs.Receive.{Nobody, Blames, heardSum, scored}
-use Rattle.protocol.specs.Ask.{askSend, askReceive}
-use Rattle.protocol.specs.Entry.{Answer, Next, Output, Abort, sendAnswer, sendOut, sendScratch, receiveAnswer, receiveScratch}
+use Rattle.protocol.specs.Receive.{Nobody, Blames, heard_sum, scored}
+use Rattle.protocol.specs.Ask.{ask_send, ask_receive}
+use Rattle.protocol.specs.Entry.{Answer, Next, Output, Abort, send_answer, send_out, send_scratch, receive_answer, receive_scratch}
 
 -- a party about to send round r of gate j, about to receive it, and stopped there
 abbrev pub sending_at : ℕ → Round → ℕ → Position
@@ -44,15 +44,15 @@ module _ (O : Ops) (n : ℕ) (marks heard : List ℕ) where
   AllFit = (i : ℕ) → i < n → Fits i
 
   -- the sum of the check shares that are revealed
-  abbrev pub checkSum : ℕ
-  checkSum = heardSum O n reveal_words 0 heard
+  abbrev pub check_sum : ℕ
+  check_sum = heard_sum O n reveal_words 0 heard
 
   -- "A reveal whose hash is not the mark written for its seat stops the run before the sum is asked, naming the lowest such seat beside the line;
   -- else the sum alone decides": what is answered, where on is the answer of a check that passes
   pub record Decides (stopped : Position) (on a : Answer) : Type 0 where
     pub named : (i : ℕ) → (a ≡ Abort (Blames i) stopped) ↔ Lowest i
-    pub unnamed : (a ≡ Abort Nobody stopped) ↔ (AllFit × (checkSum ≡ 0 → ⊥))
-    pub passed : (a ≡ on) ↔ (AllFit × (checkSum ≡ 0))
+    pub unnamed : (a ≡ Abort Nobody stopped) ↔ (AllFit × (check_sum ≡ 0 → ⊥))
+    pub passed : (a ≡ on) ↔ (AllFit × (check_sum ≡ 0))
 
 -- the answer of a check of gate j that passes: the second releases the score, where this party sees it
 abbrev pub goes_on : Ops → Party → List ℕ → ℕ → Check → Answer
@@ -67,34 +67,34 @@ goes_on O P l j Second =
 abbrev pub RevealDecides : Ops → Type 0
 RevealDecides O =
     (P : Party) (l : List ℕ) (j held : ℕ) (k : Check) (heard : List ℕ)
-    → askReceive O.size P l (receiving_at j (Reveal k) held) heard ≡ Accepted
+    → ask_receive O.size P l (receiving_at j (Reveal k) held) heard ≡ Accepted
     → Decides O P.parties (marks_of P.parties (layout P.circuit) l) heard (stopped_at j) (goes_on O P l j k)
-    (receiveAnswer O P l (receiving_at j (Reveal k) held) heard)
+    (receive_answer O P l (receiving_at j (Reveal k) held) heard)
 
 -- three calls of party P, whatever it hears between them: it sends a commitment, hears the words ms of all, and sends its reveal
 module _ (O : Ops) (P : Party) (l : List ℕ) (j : ℕ) (k : Check) (coefficients nonce out ms out' : List ℕ) where
   open O use {size}
 
   -- the check share that it holds then, and its scratch once it sent the commitment and once it heard the marks
-  abbrev pub ownShare : ℕ
-  ownShare = holds O P l j (Commit k) coefficients
+  abbrev pub own_share : ℕ
+  own_share = holds O P l j (Commit k) coefficients
 
   abbrev pub noting : List ℕ
-  noting = sendScratch O P l (sending_at j (Commit k) 0) coefficients nonce (length out)
+  noting = send_scratch O P l (sending_at j (Commit k) 0) coefficients nonce (length out)
 
   abbrev pub hearing : List ℕ
-  hearing = receiveScratch O P noting (receiving_at j (Commit k) ownShare) ms
+  hearing = receive_scratch O P noting (receiving_at j (Commit k) own_share) ms
 
   -- no call is refused
   pub record Speaks : Type 0 where
-    pub commits : askSend size P l (sending_at j (Commit k) 0) coefficients nonce (length out) ≡ Accepted
-    pub hears : askReceive size P noting (receiving_at j (Commit k) ownShare) ms ≡ Accepted
-    pub reveals : askSend size P hearing (sending_at j (Reveal k) ownShare) [] [] (length out') ≡ Accepted
+    pub commits : ask_send size P l (sending_at j (Commit k) 0) coefficients nonce (length out) ≡ Accepted
+    pub hears : ask_receive size P noting (receiving_at j (Commit k) own_share) ms ≡ Accepted
+    pub reveals : ask_send size P hearing (sending_at j (Reveal k) own_share) [] [] (length out') ≡ Accepted
 
   -- it reveals what it committed to, so that its reveal fits its mark where both are heard as it sent them
   pub record KeepsTo : Type 0 where
-    pub committed : take commit_words (sendOut O P l (sending_at j (Commit k) 0) coefficients nonce out) ≡ mark (revealed ownShare (words_of nonce))
-    pub shown : take reveal_words (sendOut O P hearing (sending_at j (Reveal k) ownShare) [] [] out') ≡ revealed ownShare (words_of nonce)
+    pub committed : take commit_words (send_out O P l (sending_at j (Commit k) 0) coefficients nonce out) ≡ mark (revealed own_share (words_of nonce))
+    pub shown : take reveal_words (send_out O P hearing (sending_at j (Reveal k) own_share) [] [] out') ≡ revealed own_share (words_of nonce)
 
 abbrev pub Keeping : Ops → Type 0
 Keeping O =
@@ -135,26 +135,26 @@ module _ (O : Ops) (P : Party) (l : List ℕ) (j held : ℕ) (k : Check) (room :
 
   -- its scratch once it heard the commitment, and once it sent its reveal
   abbrev pub marked : List ℕ
-  marked = receiveScratch O P l (receiving_at j (Commit k) held) ms
+  marked = receive_scratch O P l (receiving_at j (Commit k) held) ms
 
   abbrev pub revealing : List ℕ
-  revealing = sendScratch O P marked (sending_at j (Reveal k) held) [] [] room
+  revealing = send_scratch O P marked (sending_at j (Reveal k) held) [] [] room
 
   -- what it is answered at last
-  abbrev pub lastAnswer : Answer
-  lastAnswer = receiveAnswer O P revealing (receiving_at j (Reveal k) 0) ws
+  abbrev pub last_answer : Answer
+  last_answer = receive_answer O P revealing (receiving_at j (Reveal k) 0) ws
 
   -- no call is refused
   pub record Unrefused : Type 0 where
-    pub hears : askReceive size P l (receiving_at j (Commit k) held) ms ≡ Accepted
-    pub sends : askSend size P marked (sending_at j (Reveal k) held) [] [] room ≡ Accepted
-    pub hears_reveal : askReceive size P revealing (receiving_at j (Reveal k) 0) ws ≡ Accepted
+    pub hears : ask_receive size P l (receiving_at j (Commit k) held) ms ≡ Accepted
+    pub sends : ask_send size P marked (sending_at j (Reveal k) held) [] [] room ≡ Accepted
+    pub hears_reveal : ask_receive size P revealing (receiving_at j (Reveal k) 0) ws ≡ Accepted
 
   -- whatever the words are, the marks that decide are those that it heard
   pub record Altered : Type 0 where
-    pub heard_commit : receiveAnswer O P l (receiving_at j (Commit k) held) ms ≡ Next (sending_at j (Reveal k) held)
-    pub sent_reveal : sendAnswer O P marked (sending_at j (Reveal k) held) [] [] room ≡ Next (receiving_at j (Reveal k) 0)
-    pub heard_reveal : Decides O P.parties ms ws (stopped_at j) (goes_on O P l j k) lastAnswer
+    pub heard_commit : receive_answer O P l (receiving_at j (Commit k) held) ms ≡ Next (sending_at j (Reveal k) held)
+    pub sent_reveal : send_answer O P marked (sending_at j (Reveal k) held) [] [] room ≡ Next (receiving_at j (Reveal k) 0)
+    pub heard_reveal : Decides O P.parties ms ws (stopped_at j) (goes_on O P l j k) last_answer
 
 abbrev pub Alterable : Ops → Type 0
 Alterable O =
@@ -169,4 +169,4 @@ Binding O =
     → Unrefused O P l j held k room ms ws
     → (i share : ℕ) (nonce : List ℕ)
     → Changes P.parties ms ws i share nonce
-    → FoundOut P.parties ms ws (stopped_at j) (lastAnswer O P l j held k room ms ws) i share nonce
+    → FoundOut P.parties ms ws (stopped_at j) (last_answer O P l j held k room ms ws) i share nonce

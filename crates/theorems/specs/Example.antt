@@ -8,11 +8,11 @@ use Rattle.circuit.specs.Count.{prep_size}
 use Rattle.protocol.specs.Scratch.{band}
 use Rattle.protocol.specs.Joint.{Joint}
 use Rattle.protocol.specs.Run.{whole}
-use Rattle.protocol.specs.JointEntry.{Done, verdict, jointAnswer, jointScratch}
+use Rattle.protocol.specs.JointEntry.{Done, verdict, joint_answer, joint_scratch}
 use Rattle.protocol.specs.Good.{Good}
 use Rattle.protocol.specs.Docket.{circuit, prep₀, prep₁, docket, rooms, shows, marks₁}
 use Rattle.theorems.specs.Matching.{rule}
-use Rattle.theorems.specs.Secrecy.{run_of, bandOf, Compared, Secret}
+use Rattle.theorems.specs.Secrecy.{run_of, band_of, Compared, Secret}
 
 -- A has party 1 alone
 abbrev pub A : ℕ → Bool
@@ -53,16 +53,16 @@ abbrev pub unwritten : List ℕ
 unwritten = 9 ∷ []
 
 module _ (O : Ops) where
-  abbrev pub exampleRun : List ℕ → List ℕ → Joint
-  exampleRun m x = run_of O 2 circuit A m x docket.coefficients docket.nonces
+  abbrev pub example_run : List ℕ → List ℕ → Joint
+  example_run m x = run_of O 2 circuit A m x docket.coefficients docket.nonces
 
   -- the words of a run on preprocessing m and inputs x
-  abbrev pub wordsOn : List ℕ → List ℕ → List ℕ
-  wordsOn m x = (whole O (exampleRun m x) rooms).transcript
+  abbrev pub words_on : List ℕ → List ℕ → List ℕ
+  words_on m x = (whole O (example_run m x) rooms).transcript
 
   -- party 1's band of the scratch after it
-  abbrev pub bandOn : List ℕ → List ℕ → List ℕ
-  bandOn m x = bandOf O 2 circuit A (jointScratch O (exampleRun m x) rooms blank unwritten) 1
+  abbrev pub band_on : List ℕ → List ℕ → List ℕ
+  band_on m x = band_of O 2 circuit A (joint_scratch O (example_run m x) rooms blank unwritten) 1
 
   pub record Example : Type 0 where
     -- demand 3's premises hold: the inputs agree at party 1 and give equal scores, and party 0 is outside A
@@ -80,22 +80,22 @@ module _ (O : Ops) where
     -- .. with the same numbers at party 1
     pub match_keeps : band (prep_size circuit) matched 1 ≡ band (prep_size circuit) preps 1
     -- the run on the first inputs finishes after 8 rounds ..
-    pub first_answer : jointAnswer O (exampleRun preps inputs₁) rooms blank unwritten ≡ Done 8
+    pub first_answer : joint_answer O (example_run preps inputs₁) rooms blank unwritten ≡ Done 8
     -- .. and so does the run on the second with the match
-    pub second_answer : jointAnswer O (exampleRun matched inputs₂) rooms blank unwritten ≡ Done 8
+    pub second_answer : joint_answer O (example_run matched inputs₂) rooms blank unwritten ≡ Done 8
     -- the first sends these words ..
-    pub first_words : wordsOn preps inputs₁ ≡ transcript
+    pub first_words : words_on preps inputs₁ ≡ transcript
     -- .. and the second sends the same
-    pub second_words : wordsOn matched inputs₂ ≡ transcript
+    pub second_words : words_on matched inputs₂ ≡ transcript
     -- party 1's scratch is the same after both
-    pub same_bands : bandOn matched inputs₂ ≡ bandOn preps inputs₁
+    pub same_bands : band_on matched inputs₂ ≡ band_on preps inputs₁
     -- the first run is not refused ..
-    pub first_accepted : verdict O (exampleRun preps inputs₁) rooms blank unwritten ≡ Accepted
+    pub first_accepted : verdict O (example_run preps inputs₁) rooms blank unwritten ≡ Accepted
     -- .. and neither is the run on the second inputs without the match
-    pub unmatched_accepted : verdict O (exampleRun preps inputs₂) rooms blank unwritten ≡ Accepted
+    pub unmatched_accepted : verdict O (example_run preps inputs₂) rooms blank unwritten ≡ Accepted
     -- but there party 0's first in word is 9 − 2, where the first run has 5 − 2 ..
-    pub unmatched_word : get_or (wordsOn preps inputs₂) 0 0 ≡ 7
+    pub unmatched_word : get_or (words_on preps inputs₂) 0 0 ≡ 7
     -- .. so that the words differ
-    pub unmatched_differs : wordsOn preps inputs₂ ≢ wordsOn preps inputs₁
+    pub unmatched_differs : words_on preps inputs₂ ≢ words_on preps inputs₁
     -- so "An identity matching that ignores the inputs" is none that demand 3 asks for
     pub no_identity : Secret O 2 circuit A inputs₁ inputs₂ (λ m. m) (λ m. m) → ⊥

@@ -10,13 +10,13 @@ use Rattle.circuit.specs.Count.{out_count}
 use Rattle.protocol.specs.Send.{overwrite}
 use Rattle.protocol.specs.Joint.{Joint}
 use Rattle.protocol.specs.Run.{whole}
-use Rattle.protocol.specs.JointEntry.{verdict, jointOutputs}
-use Rattle.protocol.specs.Plain.{scoresSeen, scores}
+use Rattle.protocol.specs.JointEntry.{verdict, joint_outputs}
+use Rattle.protocol.specs.Plain.{scores_seen, scores}
 use Rattle.protocol.specs.Formula.{round_formula}
 use Rattle.protocol.specs.Docket.{circuit, docket, rooms}
 use Rattle.ranges.specs.Move.{Change, Nothing, Of}
-use Rattle.ranges.specs.Entry.{Leaves, fitAnswer}
-use Rattle.ranges.specs.Whole.{whole_numbers, InRange, asking, ItFits, Near, Changed, moveTold}
+use Rattle.ranges.specs.Entry.{Leaves, fit_answer}
+use Rattle.ranges.specs.Whole.{whole_numbers, InRange, asking, ItFits, Near, Changed, move_told}
 use Rattle.theorems.specs.Premises.{Honest}
 use Rattle.theorems.specs.Apart.{Apart, outputs_in, apart, jointly, Meets}
 use Rattle.theorems.specs.ApartDemands.{GoodApart}
@@ -33,7 +33,7 @@ module _ (O : Ops) where
     pub outputs : (whole O J scratch).outputs ≡ scores whole_numbers J (gates J.circuit)
     pub written : (t o : List ℕ)
         → verdict O J scratch t o ≡ Accepted
-        → jointOutputs O J scratch t o ≡ overwrite (scores whole_numbers J (gates J.circuit)) o
+        → joint_outputs O J scratch t o ≡ overwrite (scores whole_numbers J (gates J.circuit)) o
 
   abbrev pub RunsWhole : Type 0
   RunsWhole =
@@ -51,7 +51,7 @@ module _ (O : Ops) where
       → Changed J K line amount
       → (s : ℕ)
       → s < out_count J.circuit
-      → Near (moveTold O J ranges (Of line amount) es ms s) (get_or (whole O J scratch).outputs s 0) (get_or (whole O K scratch').outputs s 0)
+      → Near (move_told O J ranges (Of line amount) es ms s) (get_or (whole O J scratch).outputs s 0) (get_or (whole O K scratch').outputs s 0)
 
   -- parties apart: each releases the whole numbers of the scores that it sees
   abbrev pub ApartWhole : Type 0
@@ -63,7 +63,7 @@ module _ (O : Ops) where
       → ItFits O (jointly D coefficients nonces) ranges change es ms
       → (i : ℕ)
       → i < D.parties
-      → outputs_in (apart O D (round_formula D.circuit) i).answers ≡ scoresSeen whole_numbers (jointly D coefficients nonces) (alone i) (gates D.circuit)
+      → outputs_in (apart O D (round_formula D.circuit) i).answers ≡ scores_seen whole_numbers (jointly D coefficients nonces) (alone i) (gates D.circuit)
 
 -- the docket on other inputs
 abbrev pub docket_on : ℕ → ℕ → Joint
@@ -96,7 +96,7 @@ pub record FittedDocket (O : Ops) : Type 0 where
   pub changed : Changed docket (docket_on 8 6) 0 5
   pub score : (whole O docket rooms).outputs ≡ 30 ∷ []
   pub score' : (whole O (docket_on 8 6) rooms).outputs ≡ 48 ∷ []
-  pub told : moveTold O docket counts (Of 0 5) places place 0 ≡ 5000
-  pub leaves : fitAnswer O.size (asking docket (0 ∷ 46341 ∷ 0 ∷ 46341 ∷ []) Nothing) 8 0 ≡ Leaves 2
+  pub told : move_told O docket counts (Of 0 5) places place 0 ≡ 5000
+  pub leaves : fit_answer O.size (asking docket (0 ∷ 46341 ∷ 0 ∷ 46341 ∷ []) Nothing) 8 0 ≡ Leaves 2
   pub wraps : scores O (docket_on 46341 46341) (gates circuit) ≡ 4634 ∷ []
   pub unwrapped : scores whole_numbers (docket_on 46341 46341) (gates circuit) ≡ 2147488281 ∷ []

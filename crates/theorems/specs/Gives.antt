@@ -9,15 +9,15 @@ use Rattle.protocol.specs.Scratch.{layout, read, Value, ValueMac}
 use Rattle.protocol.specs.Position.{Position, Receive, Finished}
 use Rattle.protocol.specs.Joint.{Joint, party}
 use Rattle.protocol.specs.Run.{whole}
-use Rattle.protocol.specs.Entry.{Answer, Next, Output, receiveAnswer}
-use Rattle.protocol.specs.JointEntry.{Done, jointAnswer, jointScratch, jointOutputs}
+use Rattle.protocol.specs.Entry.{Answer, Next, Output, receive_answer}
+use Rattle.protocol.specs.JointEntry.{Done, joint_answer, joint_scratch, joint_outputs}
 use Rattle.protocol.specs.Good.{Good}
-use Rattle.protocol.specs.Plain.{scores, scoresSeen}
+use Rattle.protocol.specs.Plain.{scores, scores_seen}
 use Rattle.protocol.specs.Formula.{round_formula}
 use Rattle.protocol.specs.Docket.{shows}
 use Rattle.theorems.specs.Premises.{after}
 use Rattle.theorems.specs.Matching.{plainly, rule}
-use Rattle.theorems.specs.Secrecy.{run_of, bandOf, Compared}
+use Rattle.theorems.specs.Secrecy.{run_of, band_of, Compared}
 
 -- A has party 0 alone
 abbrev pub A : ℕ → Bool
@@ -94,15 +94,15 @@ module _ (O : Ops) where
   scratch₁ k i = (after O given₁ rooms₁ k).scratch i
 
   abbrev pub answered : ℕ → Answer
-  answered i = receiveAnswer O (party given₁ i) (scratch₁ 3 i) hearing (shows 4 ++ shows 2147483643)
+  answered i = receive_answer O (party given₁ i) (scratch₁ 3 i) hearing (shows 4 ++ shows 2147483643)
 
   -- a run on preprocessing m and inputs x
   abbrev pub giving : List ℕ → List ℕ → Joint
   giving m x = run_of O 2 circuit A m x (1 ∷ []) (replicate 64 0)
 
   -- party 0's band of the scratch after it
-  abbrev pub bandOn : List ℕ → List ℕ → List ℕ
-  bandOn m x = bandOf O 2 circuit A (jointScratch O (giving m x) rooms blank unwritten) 0
+  abbrev pub band_on : List ℕ → List ℕ → List ℕ
+  band_on m x = band_of O 2 circuit A (joint_scratch O (giving m x) rooms blank unwritten) 0
 
   pub record Gives : Type 0 where
     pub good₁ : Good O 2 circuit₁ preps₁
@@ -110,26 +110,26 @@ module _ (O : Ops) where
     pub shown₁ : (read (layout circuit₁) (scratch₁ 2 0) (Value 0) ≡ 2147483642) × (read (layout circuit₁) (scratch₁ 2 1) (Value 0) ≡ 2147483642)
     pub macs₁ : (read (layout circuit₁) (scratch₁ 2 0) (ValueMac 0) ≡ 2147483636) × (read (layout circuit₁) (scratch₁ 2 1) (ValueMac 0) ≡ 2147483623)
     pub words₁ : (whole O given₁ rooms₁).transcript ≡ transcript₁
-    pub rounds₁ : jointAnswer O given₁ rooms₁ blank unwritten ≡ Done 4
+    pub rounds₁ : joint_answer O given₁ rooms₁ blank unwritten ≡ Done 4
     pub formula₁ : round_formula circuit₁ ≡ 4
-    pub output₁ : jointOutputs O given₁ rooms₁ blank unwritten ≡ 5 ∷ []
+    pub output₁ : joint_outputs O given₁ rooms₁ blank unwritten ≡ 5 ∷ []
     -- party 1 is answered the score, party 0 that the run is finished
     pub receiver₁ : answered 1 ≡ Output 5 over
     pub other₁ : answered 0 ≡ Next over
     -- the second circuit
     pub good : Good O 2 circuit preps
-    pub rounds : jointAnswer O (giving preps inputs₁) rooms blank unwritten ≡ Done 5
-    pub output : jointOutputs O (giving preps inputs₁) rooms blank unwritten ≡ 11 ∷ []
+    pub rounds : joint_answer O (giving preps inputs₁) rooms blank unwritten ≡ Done 5
+    pub output : joint_outputs O (giving preps inputs₁) rooms blank unwritten ≡ 11 ∷ []
     pub words : (whole O (giving preps inputs₁) rooms).transcript ≡ transcript
     -- on plain inputs the scores differ, and party 0 sees none of them
     pub first_score : scores O (plainly 2 circuit inputs₁) 4 ≡ 11 ∷ []
     pub second_score : scores O (plainly 2 circuit inputs₂) 4 ≡ 14 ∷ []
-    pub unseen : scoresSeen O (plainly 2 circuit inputs₁) A 4 ≡ []
+    pub unseen : scores_seen O (plainly 2 circuit inputs₁) A 4 ≡ []
     -- demand 3: the second inputs with the match
     pub compared : Compared O 2 circuit A inputs₁ inputs₂
     pub match_is : rule O 2 circuit A inputs₁ inputs₂ preps ≡ matched
-    pub other_output : jointOutputs O (giving matched inputs₂) rooms blank unwritten ≡ 14 ∷ []
+    pub other_output : joint_outputs O (giving matched inputs₂) rooms blank unwritten ≡ 14 ∷ []
     pub same_words : (whole O (giving matched inputs₂) rooms).transcript ≡ transcript
-    pub same_bands : bandOn matched inputs₂ ≡ bandOn preps inputs₁
+    pub same_bands : band_on matched inputs₂ ≡ band_on preps inputs₁
     -- to the receiver the two are not alike
     pub not_to_receiver : Compared O 2 circuit (alone 1) inputs₁ inputs₂ → ⊥

@@ -8,13 +8,13 @@ use Rattle.protocol.specs.Scratch.{layout, wire}
 use Rattle.protocol.specs.Part.{Part}
 use Rattle.protocol.specs.Joint.{Joint}
 use Rattle.protocol.specs.Run.{whole}
-use Rattle.protocol.specs.JointEntry.{Done, jointAnswer, jointScratch, jointOutputs}
+use Rattle.protocol.specs.JointEntry.{Done, joint_answer, joint_scratch, joint_outputs}
 use Rattle.protocol.specs.Good.{Good}
 use Rattle.protocol.specs.Formula.{round_formula}
 use Rattle.protocol.specs.Docket.{part}
 use Rattle.theorems.specs.Premises.{after}
 use Rattle.theorems.specs.Matching.{rule}
-use Rattle.theorems.specs.Secrecy.{run_of, bandOf, Compared}
+use Rattle.theorems.specs.Secrecy.{run_of, band_of, Compared}
 use Rattle.theorems.specs.Example.{A}
 use Rattle.theorems.specs.Gives.{check, blank, unwritten}
 
@@ -74,8 +74,8 @@ module _ (O : Ops) where
   dividing m x = run_of O 2 circuit A m x (2 ∷ []) (replicate 64 0)
 
   -- party 1's band of the scratch after it
-  abbrev pub bandOn : List ℕ → List ℕ → List ℕ
-  bandOn m x = bandOf O 2 circuit A (jointScratch O (dividing m x) rooms blank unwritten) 1
+  abbrev pub band_on : List ℕ → List ℕ → List ℕ
+  band_on m x = band_of O 2 circuit A (joint_scratch O (dividing m x) rooms blank unwritten) 1
 
   -- party i's part of gate x after the inputs' rounds
   abbrev pub parts : ℕ → ℕ → Part
@@ -87,9 +87,9 @@ module _ (O : Ops) where
     pub input₁ : (parts₁ 0 0 ≡ part 4 19) × (parts₁ 0 1 ≡ part 1 16)
     pub half₁ : (parts₁ 1 0 ≡ part 2 1073741833) × (parts₁ 1 1 ≡ part 1073741824 8)
     pub words₁ : (whole O halving rooms₁).transcript ≡ transcript₁
-    pub rounds₁ : jointAnswer O halving rooms₁ blank unwritten ≡ Done 4
+    pub rounds₁ : joint_answer O halving rooms₁ blank unwritten ≡ Done 4
     pub formula₁ : round_formula circuit₁ ≡ 4
-    pub output₁ : jointOutputs O halving rooms₁ blank unwritten ≡ 1073741826 ∷ []
+    pub output₁ : joint_outputs O halving rooms₁ blank unwritten ≡ 1073741826 ∷ []
     -- the second circuit: gate 3 is gate 0 again, and gate 5 gate 1
     pub good : Good O 2 circuit preps
     pub first_input : (parts 0 0 ≡ part 4 19) × (parts 0 1 ≡ part 1 16)
@@ -99,11 +99,11 @@ module _ (O : Ops) where
     pub third : (parts 4 0 ≡ part 0 6) × (parts 4 1 ≡ part 2 8)
     pub over_then_times : (parts 5 0 ≡ part 0 18) × (parts 5 1 ≡ part 6 24)
     pub half : (parts 7 0 ≡ part 2 1073741842) × (parts 7 1 ≡ part 1073741827 20)
-    pub rounds : jointAnswer O (dividing preps inputs₁) rooms blank unwritten ≡ Done 5
-    pub output : jointOutputs O (dividing preps inputs₁) rooms blank unwritten ≡ 1073741829 ∷ []
+    pub rounds : joint_answer O (dividing preps inputs₁) rooms blank unwritten ≡ Done 5
+    pub output : joint_outputs O (dividing preps inputs₁) rooms blank unwritten ≡ 1073741829 ∷ []
     pub words : (whole O (dividing preps inputs₁) rooms).transcript ≡ transcript
     -- demand 3: the second inputs with the match
     pub compared : Compared O 2 circuit A inputs₁ inputs₂
     pub match_is : rule O 2 circuit A inputs₁ inputs₂ preps ≡ matched
     pub same_words : (whole O (dividing matched inputs₂) rooms).transcript ≡ transcript
-    pub same_bands : bandOn matched inputs₂ ≡ bandOn preps inputs₁
+    pub same_bands : band_on matched inputs₂ ≡ band_on preps inputs₁

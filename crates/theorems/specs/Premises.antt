@@ -5,7 +5,7 @@ use Rattle.algebra.specs.Ops.{Ops}
 use Rattle.circuit.specs.Verdict.{Accepted, ask, ◌then◌, elements}
 use Rattle.circuit.specs.Count.{in_count}
 use Rattle.circuit.specs.Round.{nonce_size, check_count}
-use Rattle.circuit.specs.Accept.{askCircuit}
+use Rattle.circuit.specs.Accept.{ask_circuit}
 use Rattle.protocol.specs.Position.{when_sending}
 use Rattle.protocol.specs.Scratch.{scratch_size}
 use Rattle.protocol.specs.Ask.{ask_parties}
@@ -16,7 +16,7 @@ use Rattle.protocol.specs.Good.{Good}
 -- the number of parties and the circuit "pass 1 and 3 to 7"
 pub record Accepts (O : Ops) (n : ℕ) (c : List ℕ) : Type 0 where
   pub parties : ask_parties n ≡ Accepted
-  pub circuit : askCircuit n O.size c ≡ Accepted
+  pub circuit : ask_circuit n O.size c ≡ Accepted
 
 -- inputs that "pass 10 and 11"
 abbrev pub InputsPass : Ops → List ℕ → List ℕ → Type 0

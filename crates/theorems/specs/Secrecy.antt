@@ -8,8 +8,8 @@ use Rattle.circuit.specs.Count.{prep_size}
 use Rattle.protocol.specs.Scratch.{scratch_size, band}
 use Rattle.protocol.specs.Joint.{Joint, party}
 use Rattle.protocol.specs.Run.{whole}
-use Rattle.protocol.specs.JointEntry.{verdict, jointAnswer, jointScratch}
-use Rattle.protocol.specs.Plain.{scores, scoresSeen}
+use Rattle.protocol.specs.JointEntry.{verdict, joint_answer, joint_scratch}
+use Rattle.protocol.specs.Plain.{scores, scores_seen}
 use Rattle.protocol.specs.Good.{Good}
 use Rattle.theorems.specs.Premises.{Accepts, InputsPass}
 use Rattle.theorems.specs.Matching.{plainly, rule}
@@ -20,8 +20,8 @@ module _ (O : Ops) (n : ℕ) (c : List ℕ) (A : ℕ → Bool) where
       record { parties = n; circuit = c; preps = preps; inputs = inputs; coefficients = coefficients; nonces = nonces }
 
   -- A party's numbers of A in the joined scratch
-  abbrev pub bandOf : List ℕ → ℕ → List ℕ
-  bandOf l i = band (scratch_size n c) l i
+  abbrev pub band_of : List ℕ → ℕ → List ℕ
+  band_of l i = band (scratch_size n c) l i
 
   -- what is asked: A leaves out at least one party, and the two sets of inputs agree at A's parties and give equal scores. "equal scores now means
   -- at out lines and at give lines whose receiver is in A"
@@ -31,14 +31,14 @@ module _ (O : Ops) (n : ℕ) (c : List ℕ) (A : ℕ → Bool) where
     pub first : InputsPass O c x
     pub second : InputsPass O c x'
     pub agree : (i : ℕ) → i < n → A i ≡ true → (party (plainly n c x') i).inputs ≡ (party (plainly n c x) i).inputs
-    pub equal_scores : scoresSeen O (plainly n c x') A (gates c) ≡ scoresSeen O (plainly n c x) A (gates c)
+    pub equal_scores : scores_seen O (plainly n c x') A (gates c) ≡ scores_seen O (plainly n c x) A (gates c)
 
   -- two calls of the joint run, alike in coefficients, nonces and starting scratch; t, o and t', o' are their transcript and output lists before
   pub record Alike (J J' : Joint) (scratch t o t' o' : List ℕ) : Type 0 where
     -- "If each of these lists is as long in one run as in the other, both runs get the same refusal and index, or neither gets one"
     pub refusals : length t ≡ length t' → length o ≡ length o' → verdict O J' scratch t' o' ≡ verdict O J scratch t o
     -- two runs that are not refused: "Equal are the number of rounds ..
-    pub answers : verdict O J scratch t o ≡ Accepted → verdict O J' scratch t' o' ≡ Accepted → jointAnswer O J' scratch t' o' ≡ jointAnswer O J scratch t o
+    pub answers : verdict O J scratch t o ≡ Accepted → verdict O J' scratch t' o' ≡ Accepted → joint_answer O J' scratch t' o' ≡ joint_answer O J scratch t o
     pub rounds : verdict O J scratch t o ≡ Accepted → verdict O J' scratch t' o' ≡ Accepted → (whole O J' scratch).rounds ≡ (whole O J scratch).rounds
     -- .. every word the two runs write into their transcripts ..
     pub words : verdict O J scratch t o ≡ Accepted → verdict O J' scratch t' o' ≡ Accepted → (whole O J' scratch).transcript ≡ (whole O J scratch).transcript
@@ -48,7 +48,7 @@ module _ (O : Ops) (n : ℕ) (c : List ℕ) (A : ℕ → Bool) where
         → (i : ℕ)
         → i < n
         → A i ≡ true
-        → bandOf (jointScratch O J' scratch t' o') i ≡ bandOf (jointScratch O J scratch t o) i
+        → band_of (joint_scratch O J' scratch t' o') i ≡ band_of (joint_scratch O J scratch t o) i
 
   -- "one rule matches good material one for one with good material, A's part being the same, so that a joint run on the first inputs with any
   -- good material and one on the second with its match, whatever the draws and starting scratch (alike in both), post the same words"; "secrecy
@@ -69,7 +69,7 @@ module _ (O : Ops) (n : ℕ) (c : List ℕ) (A : ℕ → Bool) where
     pub owns : (i : ℕ) → i < n → A i ≡ true → band (prep_size c) J.preps i ≡ preps i
     pub accepted : verdict O J scratch t o ≡ Accepted
     pub says : (whole O J scratch).transcript ≡ words
-    pub leaves : (i : ℕ) → i < n → A i ≡ true → bandOf (jointScratch O J scratch t o) i ≡ bands i
+    pub leaves : (i : ℕ) → i < n → A i ≡ true → band_of (joint_scratch O J scratch t o) i ≡ bands i
 
   -- a view tells nothing of the inputs: the good preprocessing that shows it on the first inputs corresponds one for one with that which
   -- shows it on the second

@@ -6,13 +6,13 @@ use Rattle.algebra.specs.Ops.{Ops}
 use Rattle.protocol.specs.Scratch.{layout, wire, read, Value, ValueMac}
 use Rattle.protocol.specs.Joint.{Joint}
 use Rattle.protocol.specs.Run.{whole}
-use Rattle.protocol.specs.JointEntry.{Done, jointAnswer, jointScratch, jointOutputs}
+use Rattle.protocol.specs.JointEntry.{Done, joint_answer, joint_scratch, joint_outputs}
 use Rattle.protocol.specs.Good.{Good}
 use Rattle.protocol.specs.Formula.{round_formula}
 use Rattle.protocol.specs.Docket.{part, shows}
 use Rattle.theorems.specs.Premises.{after}
 use Rattle.theorems.specs.Matching.{rule}
-use Rattle.theorems.specs.Secrecy.{run_of, bandOf, Compared}
+use Rattle.theorems.specs.Secrecy.{run_of, band_of, Compared}
 use Rattle.theorems.specs.Example.{A, blank, unwritten}
 
 -- in, sq, out
@@ -56,8 +56,8 @@ module _ (O : Ops) where
   squaring m x = run_of O 2 circuit A m x (2 ∷ 5 ∷ []) (replicate 128 0)
 
   -- party 1's band of the scratch after it
-  abbrev pub bandOn : List ℕ → List ℕ → List ℕ
-  bandOn m x = bandOf O 2 circuit A (jointScratch O (squaring m x) rooms blank unwritten) 1
+  abbrev pub band_on : List ℕ → List ℕ → List ℕ
+  band_on m x = band_of O 2 circuit A (joint_scratch O (squaring m x) rooms blank unwritten) 1
 
   -- party i's scratch after the square's round
   abbrev pub squared : ℕ → List ℕ
@@ -70,12 +70,12 @@ module _ (O : Ops) where
     pub macs_of_E : (read (layout circuit) (squared 0) (ValueMac 0) ≡ 8) × (read (layout circuit) (squared 1) (ValueMac 0) ≡ 6)
     -- the shares of 25 are 12 and 13, the MAC shares 96 and 79
     pub square : (wire (layout circuit) (squared 0) 1 ≡ part 12 96) × (wire (layout circuit) (squared 1) 1 ≡ part 13 79)
-    pub rounds : jointAnswer O (squaring preps inputs₁) rooms blank unwritten ≡ Done 7
+    pub rounds : joint_answer O (squaring preps inputs₁) rooms blank unwritten ≡ Done 7
     pub formula : round_formula circuit ≡ 7
-    pub output : jointOutputs O (squaring preps inputs₁) rooms blank unwritten ≡ 25 ∷ []
+    pub output : joint_outputs O (squaring preps inputs₁) rooms blank unwritten ≡ 25 ∷ []
     pub words : (whole O (squaring preps inputs₁) rooms).transcript ≡ transcript
     -- demand 3: the second inputs with the match
     pub compared : Compared O 2 circuit A inputs₁ inputs₂
     pub match_is : rule O 2 circuit A inputs₁ inputs₂ preps ≡ matched
     pub same_words : (whole O (squaring matched inputs₂) rooms).transcript ≡ transcript
-    pub same_bands : bandOn matched inputs₂ ≡ bandOn preps inputs₁
+    pub same_bands : band_on matched inputs₂ ≡ band_on preps inputs₁

@@ -6,7 +6,7 @@ use Rattle.algebra.specs.Ops.{Ops}
 use Rattle.circuit.specs.Round.{Check, Commit, Reveal}
 use Rattle.protocol.specs.Send.{holds}
 use Rattle.protocol.specs.Entry.{Answer, Next}
-use Rattle.theorems.specs.Apart.{Apart, party_in, Local, Unrefused, opens, sends, receives, heardIn, apart}
+use Rattle.theorems.specs.Apart.{Apart, party_in, Local, Unrefused, opens, sends, receives, heard_in, apart}
 use Rattle.theorems.specs.Binding.{sending_at, receiving_at, stopped_at, Decides, goes_on, Changes, FoundOut}
 
 -- what party i hears in round k is way k i of the words of all
@@ -15,11 +15,11 @@ module _ (O : Ops) (D : Apart) (way : ℕ → ℕ → List ℕ → List ℕ) whe
   unfoldable pub transit : ℕ → ℕ → Local
   transit zero i = opens O (party_in D i) (D.scratch i)
   transit (suc k) i =
-      receives O (party_in D i) (way k i (heardIn O D k (transit k)))
+      receives O (party_in D i) (way k i (heard_in O D k (transit k)))
       (sends O (party_in D i) (D.coefficients k i) (D.nonces k i) (D.out k i) (transit k i))
 
-  abbrev pub hearsIn : ℕ → ℕ → List ℕ
-  hearsIn k i = way k i (heardIn O D k (transit k))
+  abbrev pub hears_in : ℕ → ℕ → List ℕ
+  hears_in k i = way k i (heard_in O D k (transit k))
 
   -- in round k party i commits to its check share of gate j, and no call of its is refused until it has heard the reveal, in the round after
   pub record Commits (k i j held : ℕ) (c : Check) : Type 0 where
@@ -40,11 +40,11 @@ module _ (O : Ops) (D : Apart) (way : ℕ → ℕ → List ℕ → List ℕ) whe
         ∷ a
         ∷ [])
     -- the marks heard in round k and the words heard in the round after decide ..
-    pub decides : Decides O D.parties (hearsIn k i) (hearsIn (suc k) i) (stopped_at j) (goes_on O (party_in D i) (transit k i).scratch j c) a
+    pub decides : Decides O D.parties (hears_in k i) (hears_in (suc k) i) (stopped_at j) (goes_on O (party_in D i) (transit k i).scratch j c) a
     -- .. and whoever is heard to reveal something else than it committed to is found out
     pub binds : (t share : ℕ) (nonce : List ℕ)
-        → Changes D.parties (hearsIn k i) (hearsIn (suc k) i) t share nonce
-        → FoundOut D.parties (hearsIn k i) (hearsIn (suc k) i) (stopped_at j) a t share nonce
+        → Changes D.parties (hears_in k i) (hears_in (suc k) i) t share nonce
+        → FoundOut D.parties (hears_in k i) (hears_in (suc k) i) (stopped_at j) a t share nonce
 
 -- whatever the preprocessing, and whatever is heard in this round or any other
 abbrev pub InTransit : Ops → Type 0

@@ -10,7 +10,7 @@ use Rattle.protocol.specs.Over.{over}
 use Rattle.protocol.specs.Joint.{Joint}
 use Rattle.protocol.specs.Plain.{value}
 use Rattle.theorems.specs.Premises.{after}
-use Rattle.theorems.specs.Accuracy.{scratchAfter}
+use Rattle.theorems.specs.Accuracy.{scratch_after}
 
 -- gate t is of kind one and names gate x, gate u is of kind other and names gate t, and both have the constant k; their second is unused
 pub record InTurn (c : List ℕ) (one other : Kind) (x t u k : ℕ) : Type 0 where
@@ -24,8 +24,8 @@ EitherOrder c x t u k = InTurn c Times Over x t u k ⊎ InTurn c Over Times x t 
 module _ (O : Ops) (J : Joint) where
   module _ (scratch : List ℕ) where
     -- party i's part of gate x after r rounds
-    abbrev pub partAfter : ℕ → ℕ → ℕ → Part
-    partAfter r i x = wire (layout J.circuit) (scratchAfter O J scratch r i) x
+    abbrev pub part_after : ℕ → ℕ → ℕ → Part
+    part_after r i x = wire (layout J.circuit) (scratch_after O J scratch r i) x
 
     -- gate u is worked out after r rounds
     abbrev pub WorkedOut : ℕ → ℕ → Type 0
@@ -38,13 +38,13 @@ module _ (O : Ops) (J : Joint) where
           → WorkedOut r u
           → i < J.parties
           → (gate J.circuit u).kind ≡ Over
-          → partAfter r i u ≡ over O (gate J.circuit u).constant (partAfter r i (gate J.circuit u).first)
+          → part_after r i u ≡ over O (gate J.circuit u).constant (part_after r i (gate J.circuit u).first)
       -- the share and the MAC share of gate x come back
       pub parts : (r i x t u k : ℕ)
           → WorkedOut r u
           → i < J.parties
           → EitherOrder J.circuit x t u k
-          → partAfter r i u ≡ partAfter r i x
+          → part_after r i u ≡ part_after r i x
 
   -- "the two in either order give the line's value again": on plain inputs
   abbrev pub UndoneValues : Type 0

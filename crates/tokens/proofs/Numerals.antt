@@ -12,7 +12,7 @@ use lib.Dec.{leb}
 use borrow.Author.Tests.{eq-eqb, ne_eqb, not-true, not-false}
 use Rattle.circuit.specs.Accept.{most_gates}
 use Rattle.field.specs.Words.{largest}
-use Rattle.forms.specs.Form.{Form, named, numberFits, closing, naught, ten}
+use Rattle.forms.specs.Form.{Form, named, number_fits, closing, naught, ten}
 use Rattle.forms.specs.Machine.{
   Frame,
   Numbered,
@@ -22,7 +22,7 @@ use Rattle.forms.specs.Machine.{
   digit,
   is_digit,
   name_lives,
-  numberLives,
+  number_lives,
   step,
   when,
   read,
@@ -67,8 +67,8 @@ still rows stack p v c = record { shallow = c.shallow; few = c.few }
 module _ (text table : List ℕ) (naming : Bool) where
   -- the machine's tests are the table's
   module _ (rows : List Form) (stack : List Frame) (p : Numbered) (w : Wanted table naming rows stack p) where
-    pub lives_at : (v : ℕ) → numberLives largest rows (whose p) v ≡ lives_as table naming v
-    unfolding numberLives numberFits lives_as
+    pub lives_at : (v : ℕ) → number_lives largest rows (whose p) v ≡ lives_as table naming v
+    unfolding number_lives number_fits lives_as
     lives_at v = rw (w.naming_is, w.marked) (go naming)
       where
         go : (c : Bool) → cond c (name_lives (known table) 0 v) (cond c (named (known table) v) (leb v largest))
@@ -76,8 +76,8 @@ module _ (text table : List ℕ) (naming : Bool) where
         go true = refl
         go false = refl
 
-    pub fits_at : (v : ℕ) → numberFits largest rows (whose p) v ≡ fits_as table naming v
-    unfolding numberFits fits_as
+    pub fits_at : (v : ℕ) → number_fits largest rows (whose p) v ≡ fits_as table naming v
+    unfolding number_fits fits_as
     fits_at v = rw (w.naming_is, w.marked)
 
   module _ (from : ℕ) where

@@ -12,7 +12,7 @@ use lib.Dec.{ltb}
 use borrow.Author.Tests.{ltb-true, ltb-false}
 use Rattle.field.specs.Words.{largest}
 use Rattle.forms.specs.Form.{Form, decimal, closing, naught, ten}
-use Rattle.forms.specs.Machine.{Frame, Numbered, whose, at, number, digit, is_digit, numberLives, step, when, read}
+use Rattle.forms.specs.Machine.{Frame, Numbered, whose, at, number, digit, is_digit, number_lives, step, when, read}
 use Rattle.forms.proofs.Decimal.{is_digit_lem, digit_most, decimal_last, decimal_tens, decimal_digit, decimal_more}
 use Rattle.forms.proofs.Numerals.{fits_lives, lives_tens, digit_next}
 use Rattle.tokens.specs.Code.{part, Calm, fits_as, NumberIs, DigitsAre, DigitsRead}
@@ -64,18 +64,18 @@ module _ (text : List ℕ) (from : ℕ) where
 -- the machine over a decimal ----------------------------------------------------------------------------------------------
 
 module _ (top : ℕ) (rows : List Form) (stack : List Frame) (p : Numbered) (quiet : Calm (at rows stack (number p))) where
-  digit_first : (n : ℕ) → n < ten → numberLives top rows (whose p) n ≡ true →
+  digit_first : (n : ℕ) → n < ten → number_lives top rows (whose p) n ≡ true →
       step top (at rows stack (number p)) (naught + n) ≡ some (at rows stack (digit p n))
   unfolding step when
   digit_first n h e = let z : naught + n - naught ≡ n = omega arith in rw (is_digit_lem n h, z, e)
 
-  through_last : (n : ℕ) → n < ten → numberLives top rows (whose p) n ≡ true → (rest : List ℕ) (i : ℕ) →
+  through_last : (n : ℕ) → n < ten → number_lives top rows (whose p) n ≡ true → (rest : List ℕ) (i : ℕ) →
       read top (at rows stack (number p)) (decimal n ++ rest) i ≡ read top (at rows stack (digit p n)) rest (i + length (decimal n))
   through_last n h e rest i =
       rw (decimal_last n h, add-one i)
       (read_on top (at rows stack (number p)) (at rows stack (digit p n)) (naught + n) rest i (digit_first n h e) (still rows stack p n quiet))
 
-  through_within : (k n : ℕ) → n ≤ k → numberLives top rows (whose p) n ≡ true → (rest : List ℕ) (i : ℕ) →
+  through_within : (k n : ℕ) → n ≤ k → number_lives top rows (whose p) n ≡ true → (rest : List ℕ) (i : ℕ) →
       read top (at rows stack (number p)) (decimal n ++ rest) i ≡ read top (at rows stack (digit p n)) rest (i + length (decimal n))
   through_within zero n l e rest i = through_last n (omega arith) e rest i
   through_within (suc k) n l e rest i =
@@ -100,7 +100,7 @@ module _ (top : ℕ) (rows : List Form) (stack : List Frame) (p : Numbered) (qui
           (still rows stack p n quiet))
 
   -- the digits of a number that lives
-  pub reads_decimal : (n : ℕ) → numberLives top rows (whose p) n ≡ true → (rest : List ℕ) (i : ℕ) →
+  pub reads_decimal : (n : ℕ) → number_lives top rows (whose p) n ≡ true → (rest : List ℕ) (i : ℕ) →
       read top (at rows stack (number p)) (decimal n ++ rest) i ≡ read top (at rows stack (digit p n)) rest (i + length (decimal n))
   reads_decimal n e rest i = through_within n n (omega arith) e rest i
 

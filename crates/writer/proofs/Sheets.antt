@@ -10,7 +10,7 @@ use lib.ListN.{length, take, drop, length-append}
 use borrow.Author.Tests.{le-leb, lt-leb}
 use Rattle.field.specs.Words.{size}
 use Rattle.circuit.specs.Gate.{gate_size, gates}
-use Rattle.circuit.specs.Accept.{most_gates, askCircuit}
+use Rattle.circuit.specs.Accept.{most_gates, ask_circuit}
 use Rattle.circuit.specs.Verdict.{Accepted, Refused, ask, ◌then◌}
 use Rattle.circuit.specs.Valid.{Valid}
 use Rattle.circuit.proofs.Valid.{valid}
@@ -21,7 +21,7 @@ use Rattle.protocol.specs.Send.{overwrite}
 use Rattle.protocol.specs.Entry.{leave}
 use Rattle.forms.specs.Form.{Form, print_rows}
 use Rattle.forms.specs.Entry as E
-use Rattle.forms.specs.Entry.{answer, row_of, rows_up_to, rows_of, sheet_of, askWrite, writeAnswer, writeText}
+use Rattle.forms.specs.Entry.{answer, row_of, rows_up_to, rows_of, sheet_of, ask_write, write_answer, write_text}
 use Rattle.forms.proofs.Lengths.{print_more}
 use Rattle.forms.specs.Code.{answer_of}
 use Rattle.forms.specs.declared.Answer.{Answer}
@@ -110,24 +110,24 @@ module _ (c : List ℕ) (k : ℕ) (text : List ℕ) where
 
 -- what the writer answers, and what the list for the text holds then
 abbrev pub Written : ℕ → List ℕ → List ℕ → E.Answer → List ℕ → Type 0
-Written n c text a later = (a ≡ writeAnswer n size c (length text)) × (later ≡ writeText n size c text)
+Written n c text a later = (a ≡ write_answer n size c (length text)) × (later ≡ write_text n size c text)
 
 module _ (n : ℕ) (c text : List ℕ) where
   -- questions 1 and 3 to 7, and then 18
-  asks : (room : ℕ) → askWrite n size c room ≡ ((ask_parties n then askCircuit n size c) then ask 18 0 (leb (length (sheet_of c)) room))
-  unfolding askWrite
-  asks room = sym (then_assoc (ask_parties n) (askCircuit n size c) (ask 18 0 (leb (length (sheet_of c)) room)))
+  asks : (room : ℕ) → ask_write n size c room ≡ ((ask_parties n then ask_circuit n size c) then ask 18 0 (leb (length (sheet_of c)) room))
+  unfolding ask_write
+  asks room = sym (then_assoc (ask_parties n) (ask_circuit n size c) (ask 18 0 (leb (length (sheet_of c)) room)))
 
-  pub setting_refused : {number index : ℕ} → Refused number index ≡ (ask_parties n then askCircuit n size c)
+  pub setting_refused : {number index : ℕ} → Refused number index ≡ (ask_parties n then ask_circuit n size c)
       → Written n c text (E.Refusal number index) text
-  unfolding writeAnswer writeText answer leave
+  unfolding write_answer write_text answer leave
   setting_refused e =
       let r = asks (length text) ∙ then_refused (ask 18 0 (leb (length (sheet_of c)) (length text))) (sym e) in
       (rw r, rw r)
 
-  module _ (e : Accepted ≡ (ask_parties n then askCircuit n size c)) where
+  module _ (e : Accepted ≡ (ask_parties n then ask_circuit n size c)) where
     accepted : Valid n size c
-    accepted = valid n size c (then_right (ask_parties n) (askCircuit n size c) (sym e))
+    accepted = valid n size c (then_right (ask_parties n) (ask_circuit n size c) (sym e))
 
     pub gates_fit : gate_size * (length c / gate_size) ≤ length c
     gates_fit = omega arith
@@ -136,10 +136,10 @@ module _ (n : ℕ) (c text : List ℕ) where
     unfolding gates
     gates_few = accepted.few
 
-    asked : askWrite n size c (length text) ≡ ask_room c (length c / gate_size) (length text)
+    asked : ask_write n size c (length text) ≡ ask_room c (length c / gate_size) (length text)
     unfolding ask_room sheet_of rows_of gates
     asked = asks (length text) ∙ then_passed (ask 18 0 (leb (length (sheet_of c)) (length text))) (sym e)
 
     pub handed_written : (r : Answer) {later : List ℕ} → Handed c (length c / gate_size) text later r → Written n c text (answer_of r) later
-    unfolding writeAnswer writeText sheet_of rows_of gates
+    unfolding write_answer write_text sheet_of rows_of gates
     handed_written r h = (rw asked h.answers, rw asked h.leaves)

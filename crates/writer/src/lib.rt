@@ -7,7 +7,7 @@ mod writing;
 
 ghost use Rattle.std.specs.Prelude.{◌≡◌, ◌*◌, ◌≤◌, length};
 ghost use Rattle.field.specs.Words.{size};
-ghost use Rattle.forms.specs.Entry.{writeAnswer, writeText};
+ghost use Rattle.forms.specs.Entry.{write_answer, write_text};
 ghost use Rattle.forms.specs.Code.{answer_of};
 ghost use Rattle.circuit.specs.Gate.{gate_size};
 ghost use Rattle.writer.specs.Code.{row_room, Handed};
@@ -55,8 +55,8 @@ fn hand_over(sheet: &mut [u8], c: &[Word], gates: usize, text: &mut [u8]) -> Ans
 // Writes a circuit as a sheet. Where there is room whatever the rows are, they are put at once; else over a list of the writer's own, so that
 // nothing is written on a refusal.
 pub fn write_sheet(parties: usize, c: &[Word], text: &mut [u8]) -> Answer
-    ensures { (answer_of result ≡ writeAnswer parties size c.now (length text.old))
-        × (text.new ≡ writeText parties size c.now text.old) }
+    ensures { (answer_of result ≡ write_answer parties size c.now (length text.old))
+        × (text.new ≡ write_text parties size c.now text.old) }
 {
     match party::asking::ask_setting(parties, c) {
         Verdict::Refused { number, index } => {

@@ -23,6 +23,6 @@ pub returns : goal.returns
 returns c =
     let x = c.args.x in
     elim c.if-s-lt-SIZE.branch [
-      then-s-lt-SIZE w ↦ rw w.result-is (element_small x (search rules) (omega (arith, w.if-s-lt-SIZE.true)))
-    | else-s-lt-SIZE w ↦ rw w.result-is (element_large x (search rules) (omega (arith, w.if-s-lt-SIZE.false)))
+      | then-s-lt-SIZE w ↦ rw w.result-is (element_small x (search rules) (omega (arith, w.if-s-lt-SIZE.true)))
+      | else-s-lt-SIZE w ↦ rw w.result-is (element_large x (search rules) (omega (arith, w.if-s-lt-SIZE.false)))
     ]

@@ -158,7 +158,7 @@ unfolding euclid
 euclid_lt zero x y s t hs ht = hs
 euclid_lt (suc n) x zero s t hs ht = hs
 euclid_lt (suc n) x (suc y) s t hs ht =
-    euclid_lt n (suc y) (x % suc y) t (sub s (mul (x / suc y) t)) ht (sub_lt s (mul (x / suc y) t))
+    euclid_lt n (suc y) (x % suc y) t _ ht (sub_lt _ _)
 
 -- An inverse is an element.
 pub norm_inv : (x : ℕ) → norm (inv x) ≡ inv x

@@ -3,7 +3,7 @@
 use mathlib.Core.Path.{sym, ap, ◌∙◌}
 use native.Mathlib.Omega.{arith}
 use Rattle.circuit.specs.Code.{verdict_of}
-use Rattle.reader.proofs.Answers.{rows-done, rows-refused}
+use Rattle.reader.proofs.Answers.{rows_done, rows_refused}
 use Rattle.reader.proofs.Entering.{entered_refused, entered_no, entered_settled}
 use Rattle.reader.proofs.read_sheet.Goals as goal
 
@@ -14,11 +14,11 @@ returns-in-Refused c =
 
 pub overflow_mul-end : goal.overflow_mul-end
 overflow_mul-end c =
-    let d = rows-done c.read_rows.ensures c.in-Done.is in omega (arith, d.few)
+    let d = rows_done c.read_rows.ensures c.in-Done.is in omega (arith, d.few)
 
 pub slice_bounds-settle-end : goal.slice_bounds-settle-end
 slice_bounds-settle-end c =
-    let d = rows-done c.read_rows.ensures c.in-Done.is in omega
+    let d = rows_done c.read_rows.ensures c.in-Done.is in omega
     (arith, d.few, d.long)
 
 pub returns-in-Refused-read_rows : goal.returns-in-Refused-read_rows
@@ -26,12 +26,12 @@ unfolding verdict_of
 returns-in-Refused-read_rows c =
     let k = sym c.ask_parties.ensures ∙ ap verdict_of
     c.in-Accepted.is in
-    entered_no _ _ _ k (rows-refused _ _ c.read_rows.ensures c.in-Refused-read_rows.is)
+    entered_no _ _ _ k (rows_refused _ _ c.read_rows.ensures c.in-Refused-read_rows.is)
 
 pub returns-in-Done : goal.returns-in-Done
 unfolding verdict_of
 returns-in-Done c =
-    let d = rows-done c.read_rows.ensures
+    let d = rows_done c.read_rows.ensures
     c.in-Done.is in
     let k = sym
     c.ask_parties.ensures ∙ ap

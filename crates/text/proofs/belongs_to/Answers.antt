@@ -2,7 +2,6 @@
 -- Assumes nothing.
 use mathlib.Core.Path.{ap}
 use mathlib.Core.Bool.{not}
-use borrow.Author.Rules.{rules}
 use Rattle.text.specs.Text.{belongs}
 use Rattle.text.proofs.belongs_to.Goals as goal
 

@@ -1,6 +1,5 @@
 -- `text::has_room` meets its contract: the test is that of the contract.
 -- Assumes nothing.
-use borrow.Author.Rules.{rules}
 use Rattle.text.proofs.has_room.Goals as goal
 
 pub returns-else-within : goal.returns-else-within

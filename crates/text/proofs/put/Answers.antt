@@ -2,7 +2,6 @@
 -- Assumes nothing.
 use mathlib.Core.Path.{refl}
 use native.Mathlib.Omega.{arith}
-use borrow.Author.Rules.{rules}
 use Rattle.text.proofs.Laws.{put_begun, put_none, put_rest}
 use Rattle.text.proofs.put.Goals as goal
 
@@ -12,8 +11,8 @@ bounds-list-count c =
 
 pub returns-then-within : goal.returns-then-within
 returns-then-within c =
-    (put_begun _ _ _ c.if-within.true (c.requires.1 c.if-within.true), put_rest _ _ _ (c.requires.1 c.if-within.true))
+    record { list_after = put_begun _ _ _ c.if-within.true (c.requires.1 c.if-within.true); lower_bound = put_rest _ _ _ (c.requires.1 c.if-within.true) }
 
 pub returns : goal.returns
 returns c =
-    (put_none c.args.list.now c.args.count _ c.if-within.false, (omega arith, c.requires.0, refl))
+    record { list_after = put_none c.args.list.now c.args.count _ c.if-within.false; lower_bound = (omega arith, c.requires.0, refl) }

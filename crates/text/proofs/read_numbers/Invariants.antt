@@ -1,10 +1,6 @@
 use Prim.Native.Nat.{◌-◌}
-use mathlib.Core.Path.{sym, ◌∙◌}
-use native.Mathlib.Omega.{arith}
 use lib.ListN.{length}
-use borrow.Author.Rules.{rules}
-use Rattle.text.proofs.Laws.{granted}
-use Rattle.text.proofs.Steps.{SoFar, starts, ends, rest_after, spaces, unlike, many, large, digits}
+use Rattle.text.proofs.Steps.{SoFar}
 use Rattle.text.proofs.read_numbers.Given as goal
 
 abbrev pub invariant-loop-i : goal.invariant-loop-i

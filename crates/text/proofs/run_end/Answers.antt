@@ -1,17 +1,14 @@
 -- `text::run_end` meets its contract: the run from the start is what is passed and the run from here on.
 -- Assumes nothing.
-use Prim.Native.Nat.{◌+◌, ◌-◌, ◌≤◌}
-use mathlib.Core.Path.{◌≡◌, sym, ◌∙◌}
+use mathlib.Core.Path.{sym, ◌∙◌}
 use native.Mathlib.Omega.{arith}
-use lib.ListN.{length, drop}
 use borrow.Author.Rules.{rules}
-use Rattle.text.specs.Text.{run}
 use Rattle.text.proofs.Laws.{run_more, run_stops, run_ends}
 use Rattle.text.proofs.run_end.Goals as goal
 
 pub returns-then-not-belongs_to : goal.returns-then-not-belongs_to
 returns-then-not-belongs_to c =
-    (sym (run_stops _ _ _ c.loop-i-test.true c.belongs_to.ensures c.if-not-belongs_to.true-raw) ∙ c.loop-i.invariant.0, c.loop-i.invariant.1)
+    (sym (run_stops _ _ _ c.loop-i-test.true c.belongs_to.ensures (search rules)) ∙ c.loop-i.invariant.0, c.loop-i.invariant.1)
 
 pub loop-i-preserved : goal.loop-i-preserved
 loop-i-preserved c =

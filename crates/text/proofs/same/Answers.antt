@@ -1,11 +1,7 @@
 -- `text::same` meets its contract: so far the two are the same, and they are as long.
 -- Assumes nothing.
-use Prim.Native.Nat.{◌-◌, ◌≤◌}
-use mathlib.Core.Path.{◌≡◌, sym, ◌∙◌}
+use mathlib.Core.Path.{sym, ◌∙◌}
 use native.Mathlib.Omega.{arith}
-use lib.ListN.{length, drop}
-use borrow.Author.Rules.{rules}
-use Rattle.text.specs.Text.{alike}
 use Rattle.text.proofs.Laws.{alike_more, alike_differs, alike_ends, alike_lengths}
 use Rattle.text.proofs.same.Goals as goal
 

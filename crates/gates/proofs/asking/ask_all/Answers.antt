@@ -2,7 +2,7 @@
 -- Assumes nothing.
 use mathlib.Core.Path.{ap, ◌∙◌}
 use borrow.Author.Rules.{rules}
-use Rattle.circuit.specs.Accept.{askSize, askCircuit}
+use Rattle.circuit.specs.Accept.{ask_size, ask_circuit}
 use Rattle.circuit.specs.Verdict.{ask, ◌then◌}
 use Rattle.circuit.specs.Gate.{gates}
 use Rattle.circuit.specs.Kind.{Output, is_class}
@@ -12,17 +12,17 @@ use Rattle.circuit.proofs.Tests.{tests}
 use Rattle.gates.proofs.asking.ask_all.Goals as goal
 
 pub returns-then-c-ne0 : goal.returns-then-c-ne0
-unfolding verdict_of askCircuit askSize gates ask ◌then◌
+unfolding verdict_of ask_circuit ask_size gates ask ◌then◌
 returns-then-c-ne0 c =
     search tests
 
 pub returns-then-count-lt-FEWEST_GATES : goal.returns-then-count-lt-FEWEST_GATES
-unfolding verdict_of askCircuit askSize gates ask ◌then◌
+unfolding verdict_of ask_circuit ask_size gates ask ◌then◌
 returns-then-count-lt-FEWEST_GATES c =
     search tests
 
 pub returns-then-count-gt-MOST_GATES : goal.returns-then-count-gt-MOST_GATES
-unfolding verdict_of askCircuit askSize gates ask ◌then◌
+unfolding verdict_of ask_circuit ask_size gates ask ◌then◌
 returns-then-count-gt-MOST_GATES c =
     search tests
 

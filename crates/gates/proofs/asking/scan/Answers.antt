@@ -5,7 +5,7 @@ use Prim.Native.Nat.{◌≤◌, ◌-◌}
 use mathlib.Core.Path.{◌≡◌, sym}
 use borrow.Author.Rules.{rules}
 use Rattle.circuit.specs.Verdict.{Accepted, each}
-use Rattle.circuit.specs.Accept.{askName, askRest, askGate}
+use Rattle.circuit.specs.Accept.{ask_name, ask_rest, ask_gate}
 use Rattle.circuit.specs.Code.{verdict_of}
 use Rattle.circuit.proofs.Verdicts.{each_below, each_none, each_more, each_refused, each_done}
 use Rattle.circuit.proofs.Asking.{Numbers, numbers_start, numbers_more, name_yes, name_no, rest_yes, rest_no, gate_kind, gate_name, gate_rest, gate_ok}

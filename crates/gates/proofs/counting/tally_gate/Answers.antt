@@ -5,7 +5,7 @@ use native.Mathlib.Omega.{arith}
 use lib.Dec.{eqb}
 use borrow.Author.Rules.{rules}
 use Rattle.circuit.specs.Code.{class_of}
-use Rattle.circuit.proofs.Tallies.{tally_low, tally_local, tally-owned, tally-opens, tally_output}
+use Rattle.circuit.proofs.Tallies.{tally_low, tally_local, tally_owned, tally_opens, tally_output}
 use Rattle.circuit.proofs.Counts.{bit_le}
 use Rattle.circuit.proofs.KindLaws.{shape_small}
 use Rattle.gates.proofs.counting.tally_gate.Goals as goal
@@ -40,11 +40,11 @@ returns-in-Local c =
 
 pub returns-in-Owned : goal.returns-in-Owned
 returns-in-Owned c =
-    tally-owned c.requires.2 _ c.shape_at-s.ensures (ap class_of c.in-Owned.is) c.first_at.ensures c.one_if.ensures
+    tally_owned c.requires.2 _ c.shape_at-s.ensures (ap class_of c.in-Owned.is) c.first_at.ensures c.one_if.ensures
 
 pub returns-in-Opens : goal.returns-in-Opens
 returns-in-Opens c =
-    tally-opens c.requires.2 _ c.shape_at-s.ensures (ap class_of c.in-Opens.is)
+    tally_opens c.requires.2 _ c.shape_at-s.ensures (ap class_of c.in-Opens.is)
 
 pub returns-in-Output : goal.returns-in-Output
 returns-in-Output c =

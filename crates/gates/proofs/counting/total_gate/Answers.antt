@@ -4,7 +4,7 @@
 use mathlib.Core.Path.{sym, ◌∙◌}
 use native.Mathlib.Omega.{arith}
 use borrow.Author.Rules.{rules}
-use Rattle.circuit.proofs.Tallies.{totals_low, totals_kept, totals-more}
+use Rattle.circuit.proofs.Tallies.{totals_low, totals_kept, totals_more}
 use Rattle.circuit.proofs.RoundLaws.{words_le, coefficients_class_le, checks_le}
 use Rattle.circuit.proofs.Counts.{bit_le, unchecked_few}
 use Rattle.circuit.proofs.KindLaws.{shape_small}
@@ -54,4 +54,4 @@ overflow_add-result-7 c =
 
 pub returns : goal.returns
 returns c =
-    totals-more c.requires.3 c.args.s c.requires.0 c.requires.2 c.is_in.ensures c.one_if.ensures c.is_out.ensures c.one_if-2.ensures c.words_of.ensures c.coefficients_of.ensures c.checks_of.ensures
+    totals_more c.requires.3 c.args.s c.requires.0 c.requires.2 c.is_in.ensures c.one_if.ensures c.is_out.ensures c.one_if-2.ensures c.words_of.ensures c.coefficients_of.ensures c.checks_of.ensures

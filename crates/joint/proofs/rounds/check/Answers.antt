@@ -108,7 +108,7 @@ overflow_add-result-3 c =
     omega (arith, c.requires.1)
 
 -- ?? same-length-2 : tie.Need-same-length-2
--- same-length-2 c = revealed_long c.before.before.before.before.before.before.before.before.before.before.before.before.before.before.before.before.before.before.before.before.before.before.before.before.before.before.before.before.before.before.before.before.before.before.before.before.before.before.before.requires.0 c.before.before.before.before.before.before.before.before.before.before.before.before.before.before.before.before.before.before.before.before.before.before.before.before.before.before.put-nonces.ensures c.before.before.before.before.before.before.before.before.before.before.before.before.before.before.before.before.before.before.before.before.before.before.before.before.before.before.before.before.before.before.check-shares.ensures c.before.before.before.before.before.before.before.before.before.before.before.before.before.before.before.before.before.before.before.before.commit-words.ensures c.before.before.before.before.before.before.before.before.before.before.before.before.before.before.receive-marks.ensures c.before.before.before.before.before.before.before.before.reveal-words.ensures
+-- same-length-2 c = revealed_long c.before.before.before.before.before.before.before.before.before.before.before.before.before.before.before.before.before.before.before.before.before.before.before.before.before.before.before.before.before.before.before.before.before.before.before.before.before.before.before.requires.0 c.before.before.before.before.before.before.before.before.before.before.before.before.before.before.before.before.before.before.before.before.before.before.before.before.before.before.put-nonces.ensures c.before.before.before.before.before.before.before.before.before.before.before.before.before.before.before.before.before.before.before.before.before.before.before.before.before.before.before.before.before.before.check-shares.ensures c.before.before.before.before.before.before.before.before.before.before.before.before.before.before.before.before.before.before.before.before.commit-words.ensures c.before.before.before.before.before.before.before.before.before.before.before.before.before.before.receive-marks.ensures c.before.before.before.before.before.before.before.before.reveal_words_lem.ensures
 
 pub returns : goal.returns
 returns c =

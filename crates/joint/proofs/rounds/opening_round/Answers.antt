@@ -56,7 +56,7 @@ overflow_add-result-4 c =
     omega (arith, c.well_formed, next_small c.requires.0 c.args.g c.requires.1, opening_few c.requires.0 c.args.g c.requires.1 c.requires.2 c.requires.3, c.requires.0.rounds_few, c.requires.0.going.lent.valid.few, (opening_gate c.requires.0 c.args.g c.requires.1 c.requires.2 c.requires.3).0)
 
 -- ?? same-length-2 : tie.Need-same-length-2
--- same-length-2 c = opening_long c.before.before.before.before.before.before.before.before.before.before.before.before.before.before.before.before.before.before.before.before.before.before.before.requires.0 c.before.before.before.before.before.before.before.before.before.before.before.before.before.before.before.before.before.before.before.before.before.before.before.args.g c.before.before.before.before.before.before.before.before.before.before.before.before.before.before.before.before.before.before.before.before.before.before.before.requires.1 c.before.before.before.before.before.before.before.before.before.before.before.before.before.before.before.before.before.before.before.before.before.before.before.requires.2 c.before.before.before.before.before.before.before.before.before.before.before.before.before.before.before.before.before.before.before.before.before.before.before.requires.3 c.before.before.before.before.before.before.before.before.before.before.before.before.before.before.first-at.ensures c.before.before.before.before.before.before.before.before.before.before.before.before.before.factor-at.ensures c.before.before.before.before.before.before.before.before.before.before.opening-words.ensures.0
+-- same-length-2 c = opening_long c.before.before.before.before.before.before.before.before.before.before.before.before.before.before.before.before.before.before.before.before.before.before.before.requires.0 c.before.before.before.before.before.before.before.before.before.before.before.before.before.before.before.before.before.before.before.before.before.before.before.args.g c.before.before.before.before.before.before.before.before.before.before.before.before.before.before.before.before.before.before.before.before.before.before.before.requires.1 c.before.before.before.before.before.before.before.before.before.before.before.before.before.before.before.before.before.before.before.before.before.before.before.requires.2 c.before.before.before.before.before.before.before.before.before.before.before.before.before.before.before.before.before.before.before.before.before.before.before.requires.3 c.before.before.before.before.before.before.before.before.before.before.before.before.before.before.first-at.ensures c.before.before.before.before.before.before.before.before.before.before.before.before.before.factor-at.ensures c.before.before.before.before.before.before.before.before.before.before.opening_words.ensures.0
 
 pub returns : goal.returns
 returns c =

@@ -8,7 +8,7 @@ use Rattle.field.specs.Words.{ops}
 use Rattle.circuit.specs.Gate.{gates}
 use Rattle.circuit.specs.Kind.{Owned, Opens, is_class}
 use Rattle.circuit.proofs.KindLaws.{is_class_lem, owned_no_out, opens_no_out, shape_class, shape_prep, shape_gives}
-use Rattle.protocol.specs.Run.{mostRounds}
+use Rattle.protocol.specs.Run.{most_rounds}
 use Rattle.protocol.specs.Code.{blame_of}
 use Rattle.protocol.specs.JointEntry.{ended}
 use Rattle.joint.specs.Code.{joint_of, joint_answer_of}

@@ -6,7 +6,7 @@ use Rattle.field.specs.Words.{ops}
 use Rattle.circuit.specs.Gate.{gates}
 use Rattle.circuit.specs.Kind.{Owned, Opens, is_class}
 use Rattle.circuit.proofs.KindLaws.{is_class_lem, owned_no_out, opens_no_out, shape_class, shape_prep, shape_gives}
-use Rattle.protocol.specs.Run.{mostRounds}
+use Rattle.protocol.specs.Run.{most_rounds}
 use Rattle.protocol.specs.Code.{blame_of}
 use Rattle.protocol.specs.JointEntry.{ended}
 use Rattle.joint.specs.Code.{joint_of, joint_answer_of}
@@ -20,4 +20,4 @@ abbrev pub invariant-loop-f : goal.invariant-loop-f
 invariant-loop-f l = Before (joint_of l.f.parties l.c l.preps l.inputs l.coefficients l.nonces) l.f l.initial.scratch l.initial.transcript l.initial.outputs l.s l.places l.scratch l.transcript l.outputs
 
 abbrev pub decreases-loop-f : goal.decreases-loop-f
-decreases-loop-f l = mostRounds ops (joint_of l.f.parties l.c l.preps l.inputs l.coefficients l.nonces) * gates l.c - l.s.rounds
+decreases-loop-f l = most_rounds ops (joint_of l.f.parties l.c l.preps l.inputs l.coefficients l.nonces) * gates l.c - l.s.rounds

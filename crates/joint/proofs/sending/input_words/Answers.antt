@@ -6,7 +6,7 @@ use mathlib.Core.List.{[], ◌∷◌}
 use native.Mathlib.Omega.{arith}
 use lib.ListN.{get_or}
 use Rattle.field.specs.Words.{ops}
-use Rattle.protocol.specs.Send.{inputWord}
+use Rattle.protocol.specs.Send.{input_word}
 use Rattle.joint.specs.Code.{prep_from}
 use Rattle.joint.proofs.Cutting.{prep_end, cut_is, cut_long, cut_low}
 use Rattle.protocol.proofs.Filling.{Filled, filled_start}

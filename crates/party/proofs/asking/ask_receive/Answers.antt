@@ -4,7 +4,7 @@ use mathlib.Core.Path.{sym, ap, ◌∙◌}
 use Rattle.circuit.specs.Code.{verdict_of}
 use Rattle.protocol.specs.Position.{when_receiving}
 use Rattle.protocol.specs.Code.{stage_of}
-use Rattle.protocol.specs.Ask.{askReceive}
+use Rattle.protocol.specs.Ask.{ask_receive}
 use Rattle.party.specs.Code.{lent_of, asked_of, position_of}
 use Rattle.protocol.proofs.Entries.{half_decides}
 use Rattle.party.proofs.Halves.{placed_refuses, round_at_lem, round_asks, few_parties, receive_asked, receivable}
@@ -17,7 +17,7 @@ ask_receive_round-requires c =
     (round_asks _ _ _ _ _ place _, few_parties _ _ _ _ _ place.lent)
 
 pub returns-in-Refused : goal.returns-in-Refused
-unfolding lent_of asked_of askReceive
+unfolding lent_of asked_of ask_receive
 returns-in-Refused c =
     record { asked = placed_refuses _ _ _ _ (sym c.ask_place.ensures.asked ∙ ap lent_of c.in-Refused.is); accepted = tt }
 
@@ -36,19 +36,19 @@ returns-in-Accepted-ask_receive_round c =
     record { asked = receive_asked _ _ _ _ _ place _ stage _ (sym told ∙ c.ask_receive_round.ensures); accepted = receivable _ _ _ _ _ place _ stage _ (sym c.ask_receive_round.ensures ∙ told) }
 
 pub returns-in-Send : goal.returns-in-Send
-unfolding asked_of askReceive position_of when_receiving
+unfolding asked_of ask_receive position_of when_receiving
 returns-in-Send c =
     let place = round_at_lem _ _ _ c.ask_place.ensures.accepted c.in-Accepted.is in
     record { asked = half_decides _ _ _ _ _ place.lent.accepted place.can (rw c.in-Send.is); accepted = tt }
 
 pub returns-in-Finished : goal.returns-in-Finished
-unfolding asked_of askReceive position_of when_receiving
+unfolding asked_of ask_receive position_of when_receiving
 returns-in-Finished c =
     let place = round_at_lem _ _ _ c.ask_place.ensures.accepted c.in-Accepted.is in
     record { asked = half_decides _ _ _ _ _ place.lent.accepted place.can (rw c.in-Finished.is); accepted = tt }
 
 pub returns-in-Aborted : goal.returns-in-Aborted
-unfolding asked_of askReceive position_of when_receiving
+unfolding asked_of ask_receive position_of when_receiving
 returns-in-Aborted c =
     let place = round_at_lem _ _ _ c.ask_place.ensures.accepted c.in-Accepted.is in
     record { asked = half_decides _ _ _ _ _ place.lent.accepted place.can (rw c.in-Aborted.is); accepted = tt }

@@ -15,7 +15,7 @@ use Rattle.protocol.specs.declared.Slot.{Slot}
 use Rattle.protocol.specs.Scratch.{layout, offset}
 use Rattle.protocol.specs.Holding.{Within}
 use Rattle.protocol.specs.Code.{layout_of, slot_of}
-use Rattle.protocol.specs.Ask.{slotQuestion, askSlots}
+use Rattle.protocol.specs.Ask.{slot_question, ask_slots}
 use Rattle.party.specs.declared.Sort.{Sort}
 use Rattle.party.specs.Code.{sort_of, wanted_of, Laid}
 use Rattle.circuit.proofs.Loops.{Asking, asking_starts, asking_goes_on, asking_refuses, asking_ends}
@@ -31,7 +31,7 @@ module _ {c l : List ℕ} {y : Layout} {k : ℕ} (sort : Sort) (pre : Laid c l y
   fits s some e f = rw (place s e f) (slots_fit (layout c) sort k (length l) pre.0.room some pre.1)
 
 pub returns-then-k-eq0 : goal.returns-then-k-eq0
-unfolding verdict_of askSlots
+unfolding verdict_of ask_slots
 returns-then-k-eq0 c =
     rw c.if-k-eq0.true (sym (each_none _))
 
@@ -67,7 +67,7 @@ ask_slot-requires c =
     (c.requires.0, c.requires.1 _ (omega arith))
 
 pub returns-in-Refused : goal.returns-in-Refused
-unfolding verdict_of askSlots
+unfolding verdict_of ask_slots
 returns-in-Refused c =
     asking_refuses _ _ _ c.loop-t.invariant (omega arith) (sym c.ask_slot.ensures ∙ ap verdict_of c.in-Refused.is)
 
@@ -77,6 +77,6 @@ loop-t-preserved c =
     asking_goes_on _ _ _ c.loop-t.invariant (omega arith) (sym c.ask_slot.ensures ∙ ap verdict_of c.in-Accepted.is)
 
 pub returns : goal.returns
-unfolding verdict_of askSlots
+unfolding verdict_of ask_slots
 returns c =
     asking_ends _ _ _ c.loop-t.invariant (omega arith)

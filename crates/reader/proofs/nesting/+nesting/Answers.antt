@@ -9,7 +9,7 @@ use Rattle.tokens.proofs.Onward.{at_inside}
 use Rattle.tokens.proofs.Behind.{behind_told, name_told}
 use Rattle.tokens.proofs.Numerals.{granted, denied}
 use Rattle.reader.specs.Code.{Told}
-use Rattle.reader.proofs.Answers.{number_is, number-dies, word_is_lem, word-dies, form-done, form-refused}
+use Rattle.reader.proofs.Answers.{number_is, number_dies, word_is_lem, word_dies, form_done, form_refused}
 use Rattle.reader.proofs.Places.{given_next}
 use Rattle.reader.proofs.Operands.{
   first_stops,
@@ -112,7 +112,7 @@ unfolding Told
 read_form-returns t c =
     let p = c.requires in
     form_dies _ _ c.args.lines.now _ _ _ refl p.2 p.0.few p.1
-    (word-dies c.read_word.ensures c.in-Dies.is)
+    (word_dies c.read_word.ensures c.in-Dies.is)
 
 -- (w F) --------------------------------------------------------------------------------------------------------------
 
@@ -125,13 +125,13 @@ pub read_one-returns-then-not-expect : goal.read_one-returns-then-not-expect
 unfolding Told
 read_one-returns-then-not-expect t c =
     let p = c.requires in
-    let a = form-done c.read_operand.ensures c.in-Done.is in
+    let a = form_done c.read_operand.ensures c.in-Done.is in
     first_shut _ _ _ _ _ _ c.args.h One p.1 refl p.2 a (denied c.expect.ensures c.if-not-expect.true-raw)
 
 pub read_one-close_gate-requires : goal.read_one-close_gate-requires
 read_one-close_gate-requires t c =
     let g = c.requires.0 in
-    let a = form-done c.read_operand.ensures c.in-Done.is in
+    let a = form_done c.read_operand.ensures c.in-Done.is in
     let q = granted c.expect.ensures c.if-not-expect.false-raw in
     (a.few, omega (arith, g.long, a.sized), omega (arith, g.short, at_inside _ _ closing q))
 
@@ -140,12 +140,12 @@ unfolding Told
 read_one-returns-in-Refused t c =
     let p = c.requires in
     first_stops _ _ c.args.lines.now _ _ _ c.args.h One p.1 refl p.2
-    (form-refused _ _ c.read_operand.ensures c.in-Refused.is)
+    (form_refused _ _ c.read_operand.ensures c.in-Refused.is)
 
 pub read_one-returns-else-not-expect : goal.read_one-returns-else-not-expect
 read_one-returns-else-not-expect t c =
     let p = c.requires in
-    let a = form-done c.read_operand.ensures c.in-Done.is in
+    let a = form_done c.read_operand.ensures c.in-Done.is in
     let q = granted c.expect.ensures c.if-not-expect.false-raw in
     one_closes _ _ _ _ _ _ c.args.h p.2 a p.1 _ _ q c.close_gate.ensures
 
@@ -197,7 +197,7 @@ pub read_scaled-returns-then-not-expect : goal.read_scaled-returns-then-not-expe
 unfolding Told
 read_scaled-returns-then-not-expect t c =
     let p = c.requires in
-    let a = form-done c.read_operand.ensures c.in-Done.is in
+    let a = form_done c.read_operand.ensures c.in-Done.is in
     first_shut _ _ _ _ _ _ c.args.h Scaled p.1 refl p.2 a (denied c.expect.ensures c.if-not-expect.true-raw)
 
 pub read_scaled-overflow_add-to : goal.read_scaled-overflow_add-to
@@ -214,7 +214,7 @@ pub read_scaled-close_scaled-requires : goal.read_scaled-close_scaled-requires
 read_scaled-close_scaled-requires t c =
     let p = c.requires in
     let g = p.0 in
-    let a = form-done c.read_operand.ensures c.in-Done.is in
+    let a = form_done c.read_operand.ensures c.in-Done.is in
     let v = number_is c.read_number.ensures c.in-Is.is in
     (a.few, omega (arith, g.long, a.sized), omega (arith, g.short, at_inside _ _ closing v.closes), p.1)
 
@@ -223,20 +223,20 @@ unfolding Told
 read_scaled-returns-in-Refused t c =
     let p = c.requires in
     first_stops _ _ c.args.lines.now _ _ _ c.args.h Scaled p.1 refl p.2
-    (form-refused _ _ c.read_operand.ensures c.in-Refused.is)
+    (form_refused _ _ c.read_operand.ensures c.in-Refused.is)
 
 pub read_scaled-returns-in-Dies : goal.read_scaled-returns-in-Dies
 unfolding Told
 read_scaled-returns-in-Dies t c =
     let p = c.requires in
-    let a = form-done c.read_operand.ensures c.in-Done.is in
+    let a = form_done c.read_operand.ensures c.in-Done.is in
     let q = granted c.expect.ensures c.if-not-expect.false-raw in
-    scaled_dies _ _ _ _ _ _ c.args.h p.2 a p.1 q (number-dies c.read_number.ensures c.in-Dies.is)
+    scaled_dies _ _ _ _ _ _ c.args.h p.2 a p.1 q (number_dies c.read_number.ensures c.in-Dies.is)
 
 pub read_scaled-returns-in-Is : goal.read_scaled-returns-in-Is
 read_scaled-returns-in-Is t c =
     let p = c.requires in
-    let a = form-done c.read_operand.ensures c.in-Done.is in
+    let a = form_done c.read_operand.ensures c.in-Done.is in
     let q = granted c.expect.ensures c.if-not-expect.false-raw in
     let v = number_is c.read_number.ensures c.in-Is.is in
     scaled_closes _ _ _ _ _ _ c.args.h p.2 a p.1 q v _ _ c.close_scaled.ensures
@@ -252,7 +252,7 @@ pub read_two-returns-then-not-expect : goal.read_two-returns-then-not-expect
 unfolding Told
 read_two-returns-then-not-expect t c =
     let p = c.requires in
-    let a = form-done c.read_operand.ensures c.in-Done.is in
+    let a = form_done c.read_operand.ensures c.in-Done.is in
     first_shut _ _ _ _ _ _ c.args.h Two p.1 refl p.2 a (denied c.expect.ensures c.if-not-expect.true-raw)
 
 pub read_two-overflow_add-to : goal.read_two-overflow_add-to
@@ -263,7 +263,7 @@ read_two-overflow_add-to t c =
 pub read_two-read_operand-requires-in-Done : goal.read_two-read_operand-requires-in-Done
 read_two-read_operand-requires-in-Done t c =
     let p = c.requires in
-    let a = form-done c.read_operand.ensures c.in-Done.is in
+    let a = form_done c.read_operand.ensures c.in-Done.is in
     let q = granted c.expect.ensures c.if-not-expect.false-raw in (
       omega (arith, c.decreases, p.2),
       (given_next p.0 a.sized (omega (arith, at_inside _ _ space q)) a.few, omega (arith, p.3), λ e. omega (arith, p.2, p.3)),
@@ -273,16 +273,16 @@ pub read_two-returns-then-not-expect-2 : goal.read_two-returns-then-not-expect-2
 unfolding Told
 read_two-returns-then-not-expect-2 t c =
     let p = c.requires in
-    let a = form-done c.read_operand.ensures c.in-Done.is in
+    let a = form_done c.read_operand.ensures c.in-Done.is in
     let q = granted c.expect.ensures c.if-not-expect.false-raw in
-    let b = form-done c.read_operand-in-Done.ensures c.in-Done-read_operand.is in
+    let b = form_done c.read_operand-in-Done.ensures c.in-Done-read_operand.is in
     two_shut _ _ _ _ _ _ c.args.h p.2 a p.1 q b (denied c.expect-in-Done-read_operand.ensures c.if-not-expect-2.true-raw)
 
 pub read_two-close_gate-requires : goal.read_two-close_gate-requires
 read_two-close_gate-requires t c =
     let g = c.requires.0 in
-    let a = form-done c.read_operand.ensures c.in-Done.is in
-    let b = form-done c.read_operand-in-Done.ensures c.in-Done-read_operand.is in
+    let a = form_done c.read_operand.ensures c.in-Done.is in
+    let b = form_done c.read_operand-in-Done.ensures c.in-Done-read_operand.is in
     let e = granted c.expect-in-Done-read_operand.ensures c.if-not-expect-2.false-raw in
     (b.few, omega (arith, g.long, a.sized, b.sized), omega (arith, g.short, at_inside _ _ closing e))
 
@@ -291,21 +291,21 @@ unfolding Told
 read_two-returns-in-Refused t c =
     let p = c.requires in
     first_stops _ _ c.args.lines.now _ _ _ c.args.h Two p.1 refl p.2
-    (form-refused _ _ c.read_operand.ensures c.in-Refused.is)
+    (form_refused _ _ c.read_operand.ensures c.in-Refused.is)
 
 pub read_two-returns-in-Refused-read_operand : goal.read_two-returns-in-Refused-read_operand
 unfolding Told
 read_two-returns-in-Refused-read_operand t c =
     let p = c.requires in
-    let a = form-done c.read_operand.ensures c.in-Done.is in
+    let a = form_done c.read_operand.ensures c.in-Done.is in
     let q = granted c.expect.ensures c.if-not-expect.false-raw in
-    two_stops _ _ _ _ _ _ c.args.h p.2 a p.1 q (form-refused _ _ c.read_operand-in-Done.ensures c.in-Refused-read_operand.is)
+    two_stops _ _ _ _ _ _ c.args.h p.2 a p.1 q (form_refused _ _ c.read_operand-in-Done.ensures c.in-Refused-read_operand.is)
 
 pub read_two-returns-else-not-expect-2 : goal.read_two-returns-else-not-expect-2
 read_two-returns-else-not-expect-2 t c =
     let p = c.requires in
-    let a = form-done c.read_operand.ensures c.in-Done.is in
+    let a = form_done c.read_operand.ensures c.in-Done.is in
     let q = granted c.expect.ensures c.if-not-expect.false-raw in
-    let b = form-done c.read_operand-in-Done.ensures c.in-Done-read_operand.is in
+    let b = form_done c.read_operand-in-Done.ensures c.in-Done-read_operand.is in
     let e = granted c.expect-in-Done-read_operand.ensures c.if-not-expect-2.false-raw in
     two_closes _ _ _ _ _ _ c.args.h p.2 a p.1 q b _ _ e c.close_gate.ensures

@@ -4,7 +4,7 @@ use native.Mathlib.Omega.{arith}
 use Rattle.forms.specs.Form.{closing}
 use Rattle.tokens.proofs.Onward.{at_inside}
 use Rattle.reader.specs.Code.{Told}
-use Rattle.reader.proofs.Answers.{number_is, number-dies}
+use Rattle.reader.proofs.Answers.{number_is, number_dies}
 use Rattle.reader.proofs.Closings.{leaf_dies, leaf_names, leaf_closes, leaf_row}
 use Rattle.reader.proofs.nesting.read_leaf.Goals as goal
 
@@ -38,7 +38,7 @@ unfolding Told
 returns-in-Dies c =
     leaf_dies _ _ c.args.lines.now _ _ _ c.args.h c.requires.1 c.row-row.ensures.naming_is
     c.requires.2 c.requires.0.few
-    (number-dies c.read_number.ensures c.in-Dies.is)
+    (number_dies c.read_number.ensures c.in-Dies.is)
 
 pub returns-else-row : goal.returns-else-row
 returns-else-row c =

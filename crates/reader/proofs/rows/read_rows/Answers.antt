@@ -8,7 +8,7 @@ use Rattle.forms.specs.Form.{feed}
 use Rattle.tokens.proofs.Onward.{at_inside}
 use Rattle.tokens.proofs.Numerals.{granted, denied}
 use Rattle.reader.specs.Code.{RowsTold}
-use Rattle.reader.proofs.Answers.{form-done, form-refused}
+use Rattle.reader.proofs.Answers.{form_done, form_refused}
 use Rattle.reader.proofs.Growing.{row_shut, row_fed, grown_none, grown_given, grown_stops, grown_all, grown_room, grown_wire, grown_less, grown_more}
 use Rattle.reader.proofs.rows.read_rows.Goals as goal
 
@@ -41,30 +41,30 @@ pub returns-in-Refused : goal.returns-in-Refused
 unfolding RowsTold
 returns-in-Refused c =
     grown_stops c.loop-at.invariant.0
-    (form-refused _ _ c.read_operand.ensures c.in-Refused.is)
+    (form_refused _ _ c.read_operand.ensures c.in-Refused.is)
 
 pub returns-then-not-expect : goal.returns-then-not-expect
 unfolding RowsTold
 returns-then-not-expect c =
-    let a = form-done c.read_operand.ensures c.in-Done.is in
+    let a = form_done c.read_operand.ensures c.in-Done.is in
     grown_stops c.loop-at.invariant.0
     (row_shut a (denied c.expect.ensures c.if-not-expect.true-raw))
 
 pub entry_of-requires : goal.entry_of-requires
 entry_of-requires c =
-    let a = form-done c.read_operand.ensures c.in-Done.is in
+    let a = form_done c.read_operand.ensures c.in-Done.is in
     grown_wire c.loop-at.invariant.0
     (row_fed a (granted c.expect.ensures c.if-not-expect.false-raw))
 
 pub bounds-table-rows : goal.bounds-table-rows
 bounds-table-rows c =
     let g = c.loop-at.invariant.0 in
-    let a = form-done c.read_operand.ensures c.in-Done.is in
+    let a = form_done c.read_operand.ensures c.in-Done.is in
     omega (arith, grown_room g (row_fed a (granted c.expect.ensures c.if-not-expect.false-raw)), g.sized)
 
 pub overflow_add-rows : goal.overflow_add-rows
 overflow_add-rows c =
-    let a = form-done c.read_operand.ensures c.in-Done.is in
+    let a = form_done c.read_operand.ensures c.in-Done.is in
     omega (
       arith,
       grown_room c.loop-at.invariant.0 (row_fed a (granted c.expect.ensures c.if-not-expect.false-raw)),
@@ -76,7 +76,7 @@ overflow_add-at c =
 
 pub loop-at-smaller : goal.loop-at-smaller
 loop-at-smaller c =
-    let a = form-done c.read_operand.ensures c.in-Done.is in
+    let a = form_done c.read_operand.ensures c.in-Done.is in
     let d = row_fed a (granted c.expect.ensures c.if-not-expect.false-raw) in
     omega (
       arith,
@@ -87,7 +87,7 @@ loop-at-smaller c =
 pub loop-at-preserved : goal.loop-at-preserved
 loop-at-preserved c =
     let i = c.loop-at.invariant in
-    let a = form-done c.read_operand.ensures c.in-Done.is in
+    let a = form_done c.read_operand.ensures c.in-Done.is in
     let d = row_fed a (granted c.expect.ensures c.if-not-expect.false-raw) in
     (grown_more i.0 d _ c.entry_of.ensures.0 c.entry_of.ensures.1, a.sized ∙ i.1)
 

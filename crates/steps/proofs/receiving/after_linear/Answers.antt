@@ -3,7 +3,7 @@
 use borrow.Author.Rules.{rules}
 use Rattle.circuit.proofs.Tests.{false_no}
 use Rattle.circuit.specs.Kind.{kind_shape, is_class}
-use Rattle.protocol.specs.Receive.{linear, putLinear}
+use Rattle.protocol.specs.Receive.{linear, put_linear}
 use Rattle.steps.proofs.receiving.after_linear.Goals as goal
 
 pub wire_at-requires : goal.wire_at-requires
@@ -62,22 +62,22 @@ returns-in-In c =
     false_no (rw c.in-In.is at c.requires.3)
 
 pub returns-in-Add : goal.returns-in-Add
-unfolding putLinear linear
+unfolding put_linear linear
 returns-in-Add c =
     rw c.in-Add.is (cc)
 
 pub returns-in-Sub : goal.returns-in-Sub
-unfolding putLinear linear
+unfolding put_linear linear
 returns-in-Sub c =
     rw c.in-Sub.is (cc)
 
 pub returns-in-Plus : goal.returns-in-Plus
-unfolding putLinear linear
+unfolding put_linear linear
 returns-in-Plus c =
     rw c.in-Plus.is (cc)
 
 pub returns-in-Times : goal.returns-in-Times
-unfolding putLinear linear
+unfolding put_linear linear
 returns-in-Times c =
     rw c.in-Times.is (cc)
 
@@ -102,6 +102,6 @@ returns-in-Give c =
     false_no (rw c.in-Give.is at c.requires.3)
 
 pub returns-in-Over : goal.returns-in-Over
-unfolding putLinear linear
+unfolding put_linear linear
 returns-in-Over c =
     rw c.in-Over.is (cc)

@@ -2,7 +2,7 @@
 -- Assumes nothing.
 use mathlib.Core.Path.{◌∙◌}
 use borrow.Author.Rules.{rules}
-use Rattle.protocol.specs.Receive.{afterOpenOutput}
+use Rattle.protocol.specs.Receive.{after_open_output}
 use Rattle.steps.proofs.Numbers.{mac_is}
 use Rattle.steps.proofs.receiving.after_open_output.Goals as goal
 
@@ -11,6 +11,6 @@ shown_part-shown-requires c =
     (c.requires.0, c.requires.2, c.requires.3, c.requires.4)
 
 pub returns : goal.returns
-unfolding afterOpenOutput
+unfolding after_open_output
 returns c =
     c.put_opened.ensures ∙ rw (mac_is c.shown_part-shown.ensures)

@@ -4,12 +4,12 @@ use mathlib.Core.Path.{refl, sym, ◌∙◌}
 use borrow.Author.Rules.{rules}
 use Rattle.field.specs.Words.{ops}
 use Rattle.circuit.specs.Code.{class_of}
-use Rattle.protocol.proofs.HeardWords.{owner_word, word_is_lem, sum_is}
+use Rattle.protocol.proofs.HeardWords.{owner_word_lem, word_is_lem, sum_is}
 use Rattle.steps.proofs.receiving.heard_first.Goals as goal
 
 pub first_word-requires : goal.first_word-requires
 first_word-requires c =
-    owner_word c.args.n c.args.k c.args.heard.now c.requires.0 c.requires.1 c.requires.2 refl (c.requires.3 (sym c.is_in.ensures ∙ c.if-is_in.true))
+    owner_word_lem c.args.n c.args.k c.args.heard.now c.requires.0 c.requires.1 c.requires.2 refl (c.requires.3 (sym c.is_in.ensures ∙ c.if-is_in.true))
 
 pub returns-then-is_in : goal.returns-then-is_in
 returns-then-is_in c =

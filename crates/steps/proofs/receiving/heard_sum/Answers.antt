@@ -1,4 +1,4 @@
--- `steps::receiving::heard_sum` meets its contract: after i turns the sum is that of the first i parties' words.
+-- `steps::receiving::heard_sum_lem` meets its contract: after i turns the sum is that of the first i parties' words.
 -- Assumes nothing.
 use Prim.Native.Nat.{◌-◌}
 use native.Mathlib.Omega.{arith}

@@ -4,7 +4,7 @@ use borrow.Author.Rules.{rules}
 use native.Mathlib.Omega.{arith}
 use Rattle.field.specs.Words.{ops}
 use Rattle.protocol.specs.Scratch.{nonce_at, marks_at}
-use Rattle.protocol.specs.Receive.{received, checkPassed}
+use Rattle.protocol.specs.Receive.{received, check_passed}
 use Rattle.protocol.proofs.Readiness.{tail_there}
 use Rattle.protocol.proofs.Received.{first_received}
 use Rattle.steps.proofs.Concluding.{judge_asks, judged, concludes_passed, concludes_stopped}
@@ -49,7 +49,7 @@ returns-in-First c =
     rw c.in-First.is (concludes_passed _ _ _ _ _ (rw c.in-First.is at found) c.in-Passed.is (rw c.in-First.is at c.requires.ready.occurs) c.sending_at.ensures (first_received ops _ _ _ _))
 
 pub returns-in-Second : goal.returns-in-Second
-unfolding received checkPassed
+unfolding received check_passed
 returns-in-Second c =
     let found = judged _ _ _ _ _ c.requires c.marks_at-start.ensures c.judge-ruling.ensures in
     rw c.in-Second.is (concludes_passed _ _ _ _ _ (rw c.in-Second.is at found) c.in-Passed.is (rw c.in-Second.is at c.requires.ready.occurs) c.release.ensures.point c.release.ensures.scratch)

@@ -3,7 +3,7 @@
 use borrow.Author.Rules.{rules}
 use mathlib.Core.List.{[]}
 use Rattle.field.specs.Words.{ops}
-use Rattle.protocol.specs.Receive.{received, checkPassed}
+use Rattle.protocol.specs.Receive.{received, check_passed}
 use Rattle.protocol.proofs.Readiness.{prep_some, output_settles}
 use Rattle.protocol.proofs.Received.{reach_asks, stands, reveal_received}
 use Rattle.steps.proofs.receiving.release.Goals as goal
@@ -25,6 +25,6 @@ resume-requires c =
     stands _ _ _ _ c.requires c.reach-stop.ensures
 
 pub returns : goal.returns
-unfolding received checkPassed
+unfolding received check_passed
 returns c =
     record { point = c.resume.ensures; scratch = reveal_received ops _ _ _ _ [] c.requires c.settle.ensures }

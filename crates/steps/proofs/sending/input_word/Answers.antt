@@ -2,7 +2,7 @@
 -- Assumes nothing.
 use native.Mathlib.Omega.{arith}
 use borrow.Author.Tests.{eq-eqb, ne_eqb}
-use Rattle.protocol.specs.Send.{inputWord}
+use Rattle.protocol.specs.Send.{input_word}
 use borrow.Author.Rules.{rules}
 use Rattle.steps.proofs.sending.input_word.Goals as goal
 
@@ -11,11 +11,11 @@ sub-requires c =
     (c.number_at.ensures.below, c.requires.1 _)
 
 pub returns-then-me-owner : goal.returns-then-me-owner
-unfolding inputWord
+unfolding input_word
 returns-then-me-owner c =
     record { is = rw (eq-eqb _ _ c.if-me-owner.true, ← c.number_at.ensures.is) c.sub.ensures.is; below = c.sub.ensures.below }
 
 pub returns : goal.returns
-unfolding inputWord
+unfolding input_word
 returns c =
     record { is = rw (ne_eqb _ _ c.if-me-owner.false); below = omega arith }
