@@ -8,7 +8,7 @@ use native.Mathlib.Omega.{arith}
 use lib.ListN.{length, take, drop, set, drop_of_length-le, length-take, length-set}
 use lib.Seq.{take-suc-set}
 use lib.Dec.{eqb}
-use borrow.Author.Tests.{eq-eqb, ne_eqb}
+use borrow.Author.Tests.{ne_eqb}
 use Rattle.circuit.specs.Gate.{gate_size}
 use Rattle.circuit.specs.Accept.{most_gates}
 use Rattle.field.specs.Words.{largest}
@@ -40,13 +40,6 @@ use Rattle.tokens.specs.Code.{is_at, known, gates_at}
 use Rattle.tokens.proofs.Onward.{at_inside, expected, unexpected, calm}
 use Rattle.tokens.proofs.Tables.{known_append, gates_append}
 use Rattle.reader.specs.Code.{Ready, fresh, Made, Stopped, RowMade, RowsRead, Given}
-
--- what the table says of a row
-pub entry_valued : (w : ℕ) {b : Bool} → b ≡ true → ((2 * w + 1) / 2 ≡ w) × (eqb ((2 * w + 1) % 2) 1 ≡ b)
-entry_valued w e = (omega arith, eq-eqb ((2 * w + 1) % 2) 1 (omega arith) ∙ sym e)
-
-pub entry_bare : (w : ℕ) {b : Bool} → b ≡ false → ((2 * w) / 2 ≡ w) × (eqb ((2 * w) % 2) 1 ≡ b)
-entry_bare w e = (omega arith, ne_eqb ((2 * w) % 2) 1 (omega arith) ∙ sym e)
 
 -- a form without its line feed
 pub row_shut : {text table before later : List ℕ} {from count to total wire : ℕ} {mark : Bool}

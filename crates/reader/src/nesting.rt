@@ -21,6 +21,7 @@ use tokens::{Digits, Name, Number, Spelt, numbers, table, words};
 pub const DEEPEST: usize = 16;
 
 // Closes a form at its bracket: its gate is written, unless there are 256 before it.
+#[tactic(auto, unfolding(crate::specs::Code::Closes))]
 fn close_gate(
     lines: &mut [Word; crate::MOST_NUMBERS],
     at: usize,

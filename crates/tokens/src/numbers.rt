@@ -103,6 +103,7 @@ fn fits(table: &[Word], naming: bool, v: usize) -> bool
 }
 
 // Digits without a leading zero as far as a bracket, if that is what stands here, and their value is no larger than a word.
+#[tactic(auto, unfolding(crate::specs::Code::DigitsRead))]
 fn read_digits(text: &[u8], from: usize) -> Digits
     ensures { DigitsRead text.now from result }
 {

@@ -14,4 +14,4 @@ slice_bounds-put_bytes-end c =
 
 pub returns : goal.returns
 returns c =
-    rows_handed _ _ _ c.put_rows-count.ensures.0 c.if-text-count.false c.put_bytes.ensures
+    rows_handed _ _ _ c.put_rows-count.ensures.0 (omega arith) c.put_bytes.ensures

@@ -23,7 +23,7 @@ unfolding verdict_of
 put_rows-count-requires c =
     let s = c.args in
     let e = rw c.in-Accepted.is at c.ask_setting.ensures in
-    (gates_fit s.parties s.c.now s.text.now e, c.if-gates-text.true)
+    (gates_fit s.parties s.c.now s.text.now e, omega arith)
 
 pub returns-then-gates-text : goal.returns-then-gates-text
 unfolding verdict_of
@@ -31,7 +31,7 @@ returns-then-gates-text c =
     let s = c.args in
     let e = rw c.in-Accepted.is at c.ask_setting.ensures in
     handed_written s.parties s.c.now s.text.now e _
-    (rows_put _ _ _ c.put_rows-count.ensures.0 (omega (arith, c.put_rows-count.ensures.1, c.if-gates-text.true)))
+    (rows_put _ _ _ c.put_rows-count.ensures.0 (omega (arith, c.put_rows-count.ensures.1)))
 
 pub hand_over-requires : goal.hand_over-requires
 unfolding verdict_of

@@ -1,10 +1,10 @@
 -- The cycle of calls: a form calls one of the three readers of forms with operands, which call the operand reader, which calls the form reader.
 -- Assumes nothing.
-use Rattle.std.proofs.Common.{refl, sym, ◌∙◌, arith}
+use Rattle.std.proofs.Common.{◌≡◌, true, refl, sym, ◌∙◌, arith}
 use Rattle.forms.specs.declared.Head.TheVariants as Head
 use Rattle.forms.specs.declared.Sort.TheVariants.{One, Two, Scaled}
 use Rattle.forms.specs.Form.{opening, closing, space}
-use Rattle.tokens.specs.Code.{leading}
+use Rattle.tokens.specs.Code.{leading, is_at}
 use Rattle.tokens.proofs.Onward.{at_inside}
 use Rattle.tokens.proofs.Behind.{behind_told, name_told}
 use Rattle.tokens.proofs.Numerals.{granted, denied}
@@ -154,18 +154,17 @@ read_one-returns-else-not-expect t c =
 pub read_operand-returns-then-not-expect : goal.read_operand-returns-then-not-expect
 unfolding Told
 read_operand-returns-then-not-expect t c =
-    operand_shut _ _ c.args.lines.now _ _ _ c.requires.2 (denied c.expect.ensures c.if-not-expect.true-raw)
+    operand_shut _ _ c.args.lines.now _ _ _ c.requires.2 (cc)
 
 pub read_operand-returns-then-left-eq0 : goal.read_operand-returns-then-left-eq0
 unfolding Told
 read_operand-returns-then-left-eq0 t c =
-    operand_deep _ _ c.args.lines.now _ _ _ c.if-left-eq0.true
-    (granted c.expect.ensures c.if-not-expect.false-raw)
+    operand_deep _ _ c.args.lines.now _ _ _ (omega arith) (cc)
 
 pub read_operand-returns-in-Is : goal.read_operand-returns-in-Is
 unfolding Told
 read_operand-returns-in-Is t c =
-    name_made _ _ _ _ _ _ (omega (arith, c.if-left-eq0.false))
+    name_made _ _ _ _ _ _ (omega arith)
     c.if-left-lt-DEEPEST.true
     c.requires.0.few
     (name_told _ _ _ _ _ c.read_name.ensures c.in-Is.is)
@@ -179,13 +178,13 @@ read_operand-close_gate-requires t c =
 pub read_operand-returns-in-Are : goal.read_operand-returns-in-Are
 read_operand-returns-in-Are t c =
     let d = behind_told _ (leading Head.In) _ _ _ c.read_input.ensures c.in-Are.is in
-    input_told _ _ _ _ _ _ (omega (arith, c.if-left-eq0.false)) c.if-left-lt-DEEPEST.true c.requires.0.few d _ _ c.close_gate.ensures
+    input_told _ _ _ _ _ _ (omega arith) c.if-left-lt-DEEPEST.true c.requires.0.few d _ _ c.close_gate.ensures
 
 pub read_operand-read_form-requires : goal.read_operand-read_form-requires
 read_operand-read_form-requires t c =
     let p = c.requires in
-    let q = granted c.expect.ensures c.if-not-expect.false-raw in
-    (omega (arith, c.decreases), (p.0, q, omega (arith, c.if-left-eq0.false), p.1))
+    let q : is_at c.args.text.now.now c.args.from opening ≡ true = cc in
+    (omega (arith, c.decreases), (p.0, q, omega arith, p.1))
 
 -- (w F N) ------------------------------------------------------------------------------------------------------------
 

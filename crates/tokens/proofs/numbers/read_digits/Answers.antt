@@ -46,34 +46,4 @@ overflow_add-larger c =
 pub loop-i-preserved : goal.loop-i-preserved
 loop-i-preserved c =
     written_more _ _ _ _ c.loop-i.invariant c.loop-i-test.true c.is_digit-in-loop-i.ensures
-    c.if-not-is_digit-2.false-raw c.if-so_far-eq0.false (omega (arith, c.index.ensures, c.if-index-larger.false))
-
-pub returns-then-text-from : goal.returns-then-text-from
-unfolding DigitsRead
-returns-then-text-from c =
-    tt
-
-pub returns-then-not-is_digit : goal.returns-then-not-is_digit
-unfolding DigitsRead
-returns-then-not-is_digit c =
-    tt
-
-pub returns-then-not-is_digit-2 : goal.returns-then-not-is_digit-2
-unfolding DigitsRead
-returns-then-not-is_digit-2 c =
-    tt
-
-pub returns-then-so_far-eq0 : goal.returns-then-so_far-eq0
-unfolding DigitsRead
-returns-then-so_far-eq0 c =
-    tt
-
-pub returns-then-index-larger : goal.returns-then-index-larger
-unfolding DigitsRead
-returns-then-index-larger c =
-    tt
-
-pub returns : goal.returns
-unfolding DigitsRead
-returns c =
-    tt
+    c.if-not-is_digit-2.false-raw (omega arith) (omega (arith, c.index.ensures, c.if-index-larger.false))
