@@ -1,17 +1,12 @@
 -- `steps::receiving::score_of` meets its contract: the opened number is read, and a give adds its whole mask.
 -- Assumes nothing.
 use mathlib.Core.Path.{◌∙◌}
-use native.Mathlib.Omega.{arith}
 use Rattle.protocol.specs.Receive.{score}
 use Rattle.steps.proofs.receiving.score_of.Goals as goal
 
 pub read_slot-shown-requires : goal.read_slot-shown-requires
 read_slot-shown-requires c =
     (c.requires.0, c.requires.1.within)
-
-pub bounds-m-2 : goal.bounds-m-2
-bounds-m-2 c =
-    omega (arith, c.requires.2 c.if-give.true)
 
 pub add-requires : goal.add-requires
 add-requires c =
