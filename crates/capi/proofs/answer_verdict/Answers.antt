@@ -3,7 +3,6 @@
 use Rattle.circuit.specs.Code.{verdict_of}
 use Rattle.party.specs.Code.{answer_of}
 use Rattle.capi.specs.Calls.{answer_verdict}
-use borrow.Author.Rules.{rules}
 use Rattle.capi.proofs.answer_verdict.Goals as goal
 
 pub returns-in-Refusal : goal.returns-in-Refusal

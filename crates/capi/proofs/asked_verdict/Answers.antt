@@ -2,7 +2,6 @@
 -- Assumes nothing.
 use Rattle.circuit.specs.Code.{verdict_of}
 use Rattle.party.specs.Code.{asked_of}
-use borrow.Author.Rules.{rules}
 use Rattle.capi.proofs.asked_verdict.Goals as goal
 
 pub returns-in-Refused : goal.returns-in-Refused

@@ -2,7 +2,6 @@
 -- Assumes nothing.
 use native.Mathlib.Omega.{arith}
 use native.Mathlib.Numerals.{add-one}
-use borrow.Author.Rules.{rules}
 use Rattle.protocol.specs.Code.{blame_of}
 use Rattle.capi.specs.Numbers.{blame_number}
 use Rattle.capi.proofs.blame_number.Goals as goal

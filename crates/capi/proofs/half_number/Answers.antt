@@ -1,6 +1,5 @@
 -- `capi::half_number` meets its contract: one number for each half and each end.
 -- Assumes nothing.
-use borrow.Author.Rules.{rules}
 use Rattle.capi.specs.Stages.{half_number}
 use Rattle.capi.proofs.half_number.Goals as goal
 

@@ -3,7 +3,6 @@
 use Rattle.circuit.specs.Code.{verdict_of}
 use Rattle.joint.specs.Code.{joint_answer_of}
 use Rattle.capi.specs.Calls.{joint_verdict}
-use borrow.Author.Rules.{rules}
 use Rattle.capi.proofs.joint_verdict.Goals as goal
 
 pub returns-in-Refusal : goal.returns-in-Refusal

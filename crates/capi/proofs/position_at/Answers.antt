@@ -1,7 +1,6 @@
 -- `capi::position_at` meets its contract: its tests are the definition's, in the same order.
 -- Assumes nothing.
 use borrow.Author.Tests.{lt-ltb, le-ltb, eq-eqb, ne_eqb}
-use borrow.Author.Rules.{rules}
 use Rattle.party.specs.Code.{position_of}
 use Rattle.capi.specs.Stages.{position, position_at}
 use Rattle.capi.proofs.position_at.Goals as goal

@@ -3,7 +3,6 @@
 use Rattle.protocol.specs.Send.{overwrite}
 use Rattle.party.specs.Code.{answer_of}
 use Rattle.capi.specs.Numbers.{answer_numbers}
-use borrow.Author.Rules.{rules}
 use Rattle.capi.proofs.put_answer.Goals as goal
 
 pub blame_number-requires : goal.blame_number-requires

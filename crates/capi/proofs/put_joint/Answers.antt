@@ -3,7 +3,6 @@
 use Rattle.protocol.specs.Send.{overwrite}
 use Rattle.joint.specs.Code.{joint_answer_of}
 use Rattle.capi.specs.Numbers.{joint_numbers}
-use borrow.Author.Rules.{rules}
 use Rattle.capi.proofs.put_joint.Goals as goal
 
 pub blame_number-requires : goal.blame_number-requires

@@ -1,7 +1,6 @@
 -- `capi::put_position` meets its contract: the numbers that it writes are those of the position.
 -- Assumes nothing.
 use mathlib.Core.Path.{sym}
-use borrow.Author.Rules.{rules}
 use Rattle.party.specs.Code.{position_of}
 use Rattle.capi.specs.Numbers.{position_numbers}
 use Rattle.capi.proofs.put_position.Goals as goal

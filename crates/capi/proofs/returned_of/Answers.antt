@@ -2,7 +2,6 @@
 -- Assumes nothing.
 use Rattle.circuit.specs.Code.{verdict_of}
 use Rattle.capi.specs.Calls.{returned}
-use borrow.Author.Rules.{rules}
 use Rattle.capi.proofs.returned_of.Goals as goal
 
 pub returns-in-Refused : goal.returns-in-Refused

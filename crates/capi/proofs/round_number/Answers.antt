@@ -1,6 +1,5 @@
 -- `capi::round_number` meets its contract: one number for each round.
 -- Assumes nothing.
-use borrow.Author.Rules.{rules}
 use Rattle.circuit.specs.Round.{round_number}
 use Rattle.capi.proofs.round_number.Goals as goal
 

@@ -11,7 +11,6 @@ use Rattle.field.specs.Words.{ops}
 use Rattle.capi.specs.Calls.{joint_verdict}
 use Rattle.capi.proofs.Calling.{no_outputs, short_refused, short_kept, long_returned, long_left, joint_verdict_is, joint_answer_left, joint_scratch_left, joint_transcript_left, joint_outputs_left, scratch_kept, transcript_kept, outputs_kept}
 use Rattle.capi.proofs.Naming.{joint_tells}
-use borrow.Author.Rules.{rules}
 use Rattle.capi.proofs.spdz_joint_run.Goals as goal
 
 pub returns-then-answer-lt-PLACES : goal.returns-then-answer-lt-PLACES

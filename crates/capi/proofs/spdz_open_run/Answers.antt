@@ -6,7 +6,6 @@ use Rattle.field.specs.Words.{ops}
 use Rattle.capi.specs.Calls.{answer_verdict}
 use Rattle.capi.proofs.Calling.{short_returned, short_kept, long_returned, long_left, open_verdict, open_left}
 use Rattle.capi.proofs.Naming.{open_tells}
-use borrow.Author.Rules.{rules}
 use Rattle.capi.proofs.spdz_open_run.Goals as goal
 
 pub returns-then-answer-lt-PLACES : goal.returns-then-answer-lt-PLACES

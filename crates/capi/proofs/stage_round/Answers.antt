@@ -1,6 +1,5 @@
 -- `capi::stage_round` meets its contract: a half has its round's number, and an end none.
 -- Assumes nothing.
-use borrow.Author.Rules.{rules}
 use Rattle.capi.specs.Stages.{stage_round}
 use Rattle.capi.proofs.stage_round.Goals as goal
 

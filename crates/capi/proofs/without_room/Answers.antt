@@ -3,7 +3,6 @@
 use Rattle.circuit.specs.Verdict.{◌then◌}
 use Rattle.circuit.specs.Code.{verdict_of}
 use Rattle.capi.specs.Calls.{returned}
-use borrow.Author.Rules.{rules}
 use Rattle.capi.proofs.without_room.Goals as goal
 
 pub returns-in-Refused : goal.returns-in-Refused

@@ -1,6 +1,5 @@
 -- `capi::fits::put_fit` meets its contract: each case writes its own numbers.
 -- Assumes nothing.
-use borrow.Author.Rules.{rules}
 use Rattle.protocol.specs.Send.{overwrite}
 use Rattle.fit.specs.Code.{answer_of}
 use Rattle.capi.specs.Fits.{fit_numbers}

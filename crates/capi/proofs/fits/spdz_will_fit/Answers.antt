@@ -1,6 +1,5 @@
 -- `capi::fits::spdz_will_fit` meets its contract: an answer that has room is the entry's, and where there is none the questions alone are asked.
 -- Assumes nothing.
-use borrow.Author.Rules.{rules}
 use Prim.Native.Nat.{◌≤◌}
 use mathlib.Core.Path.{sym, ap, ◌∙◌}
 use native.Mathlib.Omega.{arith}
@@ -22,5 +21,10 @@ pub returns : goal.returns
 returns c =
     let run = c.will_fit-a.ensures in
     let long : places ≤ length c.args.answer.now = omega arith in
-    record { returned = rw (sym c.change_at-change.ensures) (long_returned _ _ long (c.fit_verdict-2.ensures ∙ ap fit_verdict run.answer ∙ fit_verdict_lem _ _ _) c.returned_of-2.ensures); answer = rw (sym c.change_at-change.ensures) (long_left _ _ long _ _ (fit_left _ _ _ _)
-            (c.put_fit.ensures ∙ ap (λ (a : Answer). overwrite (fit_numbers a) c.args.answer.now) run.answer)); intervals = rw (sym c.change_at-change.ensures) (long_left _ _ long _ _ (intervals_left _ _ _) run.intervals); moves = rw (sym c.change_at-change.ensures) (long_left _ _ long _ _ (moves_left _ _ _) run.moves) }
+    record {
+      returned = rw (sym c.change_at-change.ensures) (long_returned _ _ long (c.fit_verdict-2.ensures ∙ ap fit_verdict run.answer ∙ fit_verdict_lem _ _ _) c.returned_of-2.ensures);
+      answer = rw (sym c.change_at-change.ensures) (long_left _ _ long _ _ (fit_left _ _ _ _)
+          (c.put_fit.ensures ∙ ap (λ (a : Answer). overwrite (fit_numbers a) c.args.answer.now) run.answer));
+      intervals = rw (sym c.change_at-change.ensures) (long_left _ _ long _ _ (intervals_left _ _ _) run.intervals);
+      moves = rw (sym c.change_at-change.ensures) (long_left _ _ long _ _ (moves_left _ _ _) run.moves);
+    }

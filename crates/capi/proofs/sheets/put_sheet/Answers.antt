@@ -1,6 +1,5 @@
 -- `capi::sheets::put_sheet` meets its contract: each case writes its own numbers.
 -- Assumes nothing.
-use borrow.Author.Rules.{rules}
 use Rattle.protocol.specs.Send.{overwrite}
 use Rattle.forms.specs.Code.{answer_of}
 use Rattle.capi.specs.Sheets.{sheet_numbers}

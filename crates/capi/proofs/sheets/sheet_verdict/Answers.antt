@@ -1,6 +1,5 @@
 -- `capi::sheets::sheet_verdict` meets its contract: one verdict for each case.
 -- Assumes nothing.
-use borrow.Author.Rules.{rules}
 use Rattle.circuit.specs.Code.{verdict_of}
 use Rattle.forms.specs.Code.{answer_of}
 use Rattle.capi.specs.Sheets.{sheet_verdict}

@@ -1,6 +1,5 @@
 -- `capi::sheets::spdz_write_sheet` meets its contract: an answer that has room is the entry's, and where there is none the questions alone are asked.
 -- Assumes nothing.
-use borrow.Author.Rules.{rules}
 use Prim.Native.Nat.{◌≤◌}
 use mathlib.Core.Path.{ap, ◌∙◌}
 use native.Mathlib.Omega.{arith}
@@ -22,5 +21,9 @@ pub returns : goal.returns
 returns c =
     let run = c.write_sheet-a.ensures in
     let long : places ≤ length c.args.answer.now = omega arith in
-    record { returned = long_returned _ _ long (c.sheet_verdict-2.ensures ∙ ap sheet_verdict run.0 ∙ write_verdict _ _ _) c.returned_of-2.ensures; answer = long_left _ _ long _ _ (write_left _ _ _ _)
-            (c.put_sheet.ensures ∙ ap (λ (a : Answer). overwrite (sheet_numbers sheet_written a) c.args.answer.now) run.0); text = long_left _ _ long _ _ (text_left _ _ _) run.1 }
+    record {
+      returned = long_returned _ _ long (c.sheet_verdict-2.ensures ∙ ap sheet_verdict run.0 ∙ write_verdict _ _ _) c.returned_of-2.ensures;
+      answer = long_left _ _ long _ _ (write_left _ _ _ _)
+          (c.put_sheet.ensures ∙ ap (λ (a : Answer). overwrite (sheet_numbers sheet_written a) c.args.answer.now) run.0);
+      text = long_left _ _ long _ _ (text_left _ _ _) run.1;
+    }
