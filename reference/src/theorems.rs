@@ -15,15 +15,15 @@ use Rattle.field.specs.Prime.{euclid, modular}
 use Rattle.circuit.specs.Round.{First, Second, Own, Open, Commit, Reveal}
 use Rattle.protocol.specs.Position.{Send, Receive, Finished, Aborted}
 use Rattle.protocol.specs.Party.{Party}
-use Rattle.protocol.specs.Entry.{Refusal, Next, Output, Abort, openAnswer, sendAnswer, sendScratch, sendOut, receiveAnswer, receiveScratch}
+use Rattle.protocol.specs.Entry.{Refusal, Next, Output, Abort, open_answer, send_answer, send_scratch, send_out, receive_answer, receive_scratch}
 use Rattle.protocol.specs.Receive.{Nobody, Blames}
 use Rattle.protocol.specs.Joint.{Joint}
-use Rattle.protocol.specs.JointEntry.{Done, jointAnswer, jointScratch, jointTranscript, jointOutputs}
+use Rattle.protocol.specs.JointEntry.{Done, joint_answer, joint_scratch, joint_transcript, joint_outputs}
 use Rattle.protocol.specs.JointEntry.{Refusal as JointRefusal, Aborted as JointAborted}
 use Rattle.theorems.proofs.Hashed.{hashing}
 use Rattle.field.specs.Words.{size}
 use Rattle.ranges.specs.Move.{Nothing, Of}
-use Rattle.ranges.specs.Entry.{query_of, Leaves, Fits, fitAnswer, fitIntervals, fitMoves}
+use Rattle.ranges.specs.Entry.{query_of, Leaves, Fits, fit_answer, fit_intervals, fit_moves}
 use Rattle.ranges.specs.Entry.{Refusal as FitRefusal}
 use Rattle.ranges.proofs.Computing.{computing}
 ";
@@ -95,7 +95,7 @@ fn fit_theorem(number: usize, request: &FitRequest) -> Option<String> {
         Err(refusal) => refused("FitRefusal", refusal),
     };
     Some(format!(
-        "\nfit_{number} :\n    (fitAnswer size {query} {} {} ≡ {result})\n    × (fitIntervals size {query} {} {} ≡ {})\n    × (fitMoves size {query} {} {} ≡ {})\nunfolding computing\nfit_{number} = (refl, refl, refl)\n",
+        "\nfit_{number} :\n    (fit_answer size {query} {} {} ≡ {result})\n    × (fit_intervals size {query} {} {} ≡ {})\n    × (fit_moves size {query} {} {} ≡ {})\nunfolding computing\nfit_{number} = (refl, refl, refl)\n",
         intervals.len(),
         moves.len(),
         list(intervals),
@@ -112,7 +112,7 @@ fn equations(one: &Answered) -> Vec<String> {
     match (&one.request, &one.answer) {
         (Request::Open { lent }, Answer::Open { result }) => {
             vec![format!(
-                "(openAnswer modular {} {} ≡ {})",
+                "(open_answer modular {} {} ≡ {})",
                 party(lent),
                 list(&lent.scratch),
                 moved(result)
@@ -142,12 +142,12 @@ fn equations(one: &Answered) -> Vec<String> {
             );
             let mut equations = vec![
                 format!(
-                    "(sendAnswer modular {call} {} ≡ {})",
+                    "(send_answer modular {call} {} ≡ {})",
                     out.len(),
                     moved(result)
                 ),
                 format!(
-                    "(sendScratch modular {call} {} ≡ {})",
+                    "(send_scratch modular {call} {} ≡ {})",
                     out.len(),
                     list(scratch)
                 ),
@@ -158,7 +158,7 @@ fn equations(one: &Answered) -> Vec<String> {
             );
             if result.is_err() || !commits {
                 equations.push(format!(
-                    "(sendOut modular {call} {} ≡ {})",
+                    "(send_out modular {call} {} ≡ {})",
                     list(out),
                     list(later)
                 ));
@@ -193,8 +193,8 @@ fn equations(one: &Answered) -> Vec<String> {
                 Err(refusal) => refused("Refusal", refusal),
             };
             vec![
-                format!("(receiveAnswer modular {call} ≡ {answer})"),
-                format!("(receiveScratch modular {call} ≡ {})", list(scratch)),
+                format!("(receive_answer modular {call} ≡ {answer})"),
+                format!("(receive_scratch modular {call} ≡ {})", list(scratch)),
             ]
         }
         (
@@ -241,10 +241,10 @@ fn equations(one: &Answered) -> Vec<String> {
                 Err(refusal) => refused("JointRefusal", refusal),
             };
             vec![
-                format!("(jointAnswer {call} ≡ {answer})"),
-                format!("(jointScratch {call} ≡ {})", list(scratch_later)),
-                format!("(jointTranscript {call} ≡ {})", list(transcript_later)),
-                format!("(jointOutputs {call} ≡ {})", list(outputs_later)),
+                format!("(joint_answer {call} ≡ {answer})"),
+                format!("(joint_scratch {call} ≡ {})", list(scratch_later)),
+                format!("(joint_transcript {call} ≡ {})", list(transcript_later)),
+                format!("(joint_outputs {call} ≡ {})", list(outputs_later)),
             ]
         }
         _ => unreachable!("an answer of another entry"),

@@ -1,4 +1,4 @@
-// Printing numbers, lists and the rounds of a joint run. An error is the writer's.
+// Printing numbers, lists and the rounds of a joint run. An error is the writer's, and leaves what is lent as it was.
 #![tactic(auto)]
 
 ghost use Rattle.std.specs.Prelude.{◌+◌, ◌*◌, ◌≤◌, length, IfOk};

@@ -1,4 +1,4 @@
-// The entries that one party calls, and their answers.
+// The entries that one party calls, and their answers. An error is the writer's; what is lent is then as the entry left it.
 ghost use Rattle.std.specs.Prelude.{◌≡◌, length};
 ghost use Rattle.field.specs.Words.{ops};
 ghost use Rattle.protocol.specs.Entry.{send_out, send_scratch, receive_scratch};

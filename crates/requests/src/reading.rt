@@ -1,4 +1,4 @@
-// Reading a line of a request.
+// Reading a line of a request. An error is the writer's, where a complaint is printed, and leaves what is lent as it was.
 ghost use Rattle.std.specs.Prelude.{◌≤◌, ◌≡◌, IfOk};
 ghost use Rattle.requests.specs.Order.{placed};
 ghost use Rattle.requests.specs.Lines as L;

@@ -1,4 +1,4 @@
-// Reading a line of a request, and storing its list.
+// Reading a line of a request, and storing its list. An error is the writer's, where a complaint is printed; the lists then have what was stored before it.
 ghost use Rattle.std.specs.Prelude.{◌≤◌, length};
 
 use crate::bytes::all_bytes;

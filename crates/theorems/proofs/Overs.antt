@@ -26,12 +26,12 @@ use Rattle.theorems.proofs.Hashed.{runs, whole_is, answer_is, left_alike, output
 use Rattle.theorems.proofs.Docket.{all_below, below}
 use Rattle.theorems.proofs.Example.{comparing}
 
-good-records₁ : (j : ℕ) → j < gates circuit₁ → GoodRecord modular 2 circuit₁ preps₁ j (gate circuit₁ j) (shape (gate circuit₁ j)).class
+good_records₁ : (j : ℕ) → j < gates circuit₁ → GoodRecord modular 2 circuit₁ preps₁ j (gate circuit₁ j) (shape (gate circuit₁ j)).class
 unfolding computing modular
-good-records₁ zero l = record { mask = refl; whole = refl }
-good-records₁ (suc zero) l = tt
-good-records₁ (suc (suc zero)) l = λ e. false_no e
-good-records₁ (suc (suc (suc j))) l = absurd (omega arith)
+good_records₁ zero l = record { mask = refl; whole = refl }
+good_records₁ (suc zero) l = tt
+good_records₁ (suc (suc zero)) l = λ e. false_no e
+good_records₁ (suc (suc (suc j))) l = absurd (omega arith)
 
 good_records : (j : ℕ) → j < gates circuit → GoodRecord modular 2 circuit preps j (gate circuit j) (shape (gate circuit j)).class
 unfolding computing modular
@@ -76,7 +76,7 @@ computed : Overs modular
 unfolding hashing modular euclid all_below after left_out add_lists only plainly input_move value_move moved product_move mask_move mask_record_move record_move prep_move match rule
 computed =
     record {
-      good₁ = record { long = refl; elements = below 2147483647 preps₁ tt; records = good-records₁ };
+      good₁ = record { long = refl; elements = below 2147483647 preps₁ tt; records = good_records₁ };
       input₁ = (refl, refl);
       half₁ = (refl, refl);
       words₁ = words₁;
