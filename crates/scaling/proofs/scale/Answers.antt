@@ -32,9 +32,6 @@ pub loop-i-preserved : goal.loop-i-preserved
 loop-i-preserved c =
     scaling_again _ _ c.loop-i.invariant (omega arith) (c.mul_twice.ensures.is ∙ half c.args.by _)
 
--- ?? same_length : tie.Need-same-length invariant-loop decreases-loop
--- same_length c = c.before.loop.invariant.long
-
 pub returns : goal.returns
 returns c =
     scaling_ends _ _ c.loop-i.invariant (omega arith)

@@ -16,9 +16,6 @@ pub loop-i-preserved : goal.loop-i-preserved
 loop-i-preserved c =
     written_again (search rules) refl c.loop-i.invariant
 
--- ?? same_length : tie.Need-same-length invariant-loop decreases-loop
--- same_length c = written_long c.before.loop.invariant
-
 pub returns : goal.returns
 returns c =
     written_done (search rules) c.loop-i.invariant

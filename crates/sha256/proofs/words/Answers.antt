@@ -17,9 +17,6 @@ pub loop-i-preserved : goal.loop-i-preserved
 loop-i-preserved c =
     words_again _ c.requires.0 (search rules) c.word.ensures c.loop-i.invariant
 
--- ?? same_length : tie.Need-same-length invariant-loop decreases-loop
--- same_length c = written_long c.before.loop.invariant
-
 pub returns : goal.returns
 returns c =
     words_done _ c.requires.0 (search rules) c.loop-i.invariant

@@ -4,7 +4,6 @@ use mathlib.Core.Path.{sym, ◌∙◌}
 use Rattle.circuit.specs.Round.{coefficients_in}
 use Rattle.circuit.proofs.rounds.coefficients_in.Goals as goal
 
--- ?? field c.opened_in.ensures at After-opened_in
 pub returns-then-is_commit : goal.returns-then-is_commit
 unfolding coefficients_in
 returns-then-is_commit c =

@@ -10,7 +10,6 @@ unfolding kind_reach
 returns-then-x-z c =
     rw (c.in-Sub.is, lt-ltb _ _ c.if-x-z.true) (refl, tt)
 
--- ?? field c.up_to.ensures at After-up_to
 pub returns-in-In : goal.returns-in-In
 unfolding kind_reach
 returns-in-In c =

@@ -2,7 +2,6 @@
 -- Assumes nothing.
 use Rattle.fit.proofs.reaching.sum.Goals as goal
 
--- ?? field c.up_to.ensures at After-up_to
 pub returns : goal.returns
 returns c =
     c.up_to.ensures

@@ -13,7 +13,6 @@ pub size_of-requires : goal.size_of-requires
 size_of-requires c =
     (c.requires.1, omega (arith, c.requires.2, c.requires.0.few), capacity_few c.requires.0 c.requires.2 c.requires.3)
 
--- ?? field c.size_of.ensures at After-size_of
 pub returns : goal.returns
 returns c =
     record {

@@ -38,9 +38,6 @@ pub loop-i-preserved : goal.loop-i-preserved
 loop-i-preserved c =
     filled_again _ _ _ _ c.requires.0.room (marks_each c.requires.0 c.args.marks.now) c.loop-i.invariant c.loop-i-test.true (rw (filled_part _ _ _ _ c.requires.0.room (marks_each c.requires.0 c.args.marks.now) c.loop-i.invariant c.loop-i-test.true) at c.put_marks.ensures)
 
--- ?? same_length : tie.Need-same-length invariant-loop decreases-loop
--- same_length c = filled_length _ _ _ _ c.before.before.before.before.before.requires.0.room (marks_each c.before.before.before.before.before.requires.0 c.before.before.before.before.before.args.marks.now) c.before.before.loop.invariant
-
 pub returns : goal.returns
 returns c =
     filled_done _ _ _ _ c.requires.0.room (marks_each c.requires.0 c.args.marks.now) c.loop-i.invariant c.loop-i-test.false

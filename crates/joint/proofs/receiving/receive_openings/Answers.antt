@@ -50,12 +50,6 @@ pub slice_bounds-after_opening-count-in-loop-i : goal.slice_bounds-after_opening
 slice_bounds-after_opening-count-in-loop-i c =
     omega (arith, c.requires.0.fits)
 
--- ?? part-after-opening-start-2 : tie.Need-slice-bounds-after-opening-start-2 invariant-loop decreases-loop
--- part-after-opening-start-2 c = omega (arith, c.before.before.before.before.before.before.before.before.before.before.requires.0.fits)
-
--- ?? part-after-opening-end-2 : tie.Need-slice-bounds-after-opening-end-2 invariant-loop decreases-loop
--- part-after-opening-end-2 c = prep_end c.before.before.before.before.before.before.before.before.before.before.requires.0 c.before.before.before.before.before.before.before.loop.i c.before.before.before.before.before.if1.true
-
 pub after_opening-requires : goal.after_opening-requires
 after_opening-requires c =
     rw (filled_part _ _ _ _ c.requires.1.room (opening_each c.requires.1 c.args.preps.now c.args.j c.args.x c.args.z c.args.at c.args.k c.args.u c.args.e c.args.d) c.loop-i.invariant c.loop-i-test.true, key_is c.requires.0 c.loop-i.i c.loop-i-test.true (omega arith), cut_is c.requires.0 c.loop-i.i c.loop-i-test.true) (c.requires.2 c.loop-i.i c.loop-i-test.true)
@@ -71,9 +65,6 @@ loop-i-smaller c =
 pub loop-i-preserved : goal.loop-i-preserved
 loop-i-preserved c =
     filled_again _ _ _ _ c.requires.1.room (opening_each c.requires.1 c.args.preps.now c.args.j c.args.x c.args.z c.args.at c.args.k c.args.u c.args.e c.args.d) c.loop-i.invariant c.loop-i-test.true (rw (filled_part _ _ _ _ c.requires.1.room (opening_each c.requires.1 c.args.preps.now c.args.j c.args.x c.args.z c.args.at c.args.k c.args.u c.args.e c.args.d) c.loop-i.invariant c.loop-i-test.true, key_is c.requires.0 c.loop-i.i c.loop-i-test.true (omega arith), cut_is c.requires.0 c.loop-i.i c.loop-i-test.true) at c.after_opening.ensures)
-
--- ?? same_length : tie.Need-same-length invariant-loop decreases-loop
--- same_length c = filled_length _ _ _ _ c.before.before.before.before.before.requires.1.room (opening_each c.before.before.before.before.before.requires.1 c.before.before.before.before.before.args.preps.now c.before.before.before.before.before.args.j c.before.before.before.before.before.args.x c.before.before.before.before.before.args.z c.before.before.before.before.before.args.at c.before.before.before.before.before.args.k c.before.before.before.before.before.args.u c.before.before.before.before.before.args.e c.before.before.before.before.before.args.d) c.before.before.loop.invariant
 
 pub returns : goal.returns
 returns c =

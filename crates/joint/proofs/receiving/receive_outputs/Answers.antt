@@ -46,12 +46,6 @@ pub slice_bounds-after_open_output-count-in-loop-i : goal.slice_bounds-after_ope
 slice_bounds-after_open_output-count-in-loop-i c =
     omega (arith, c.requires.1.fits)
 
--- ?? part-after-open-output-start-2 : tie.Need-slice-bounds-after-open-output-start-2 invariant-loop decreases-loop
--- part-after-open-output-start-2 c = omega (arith, c.before.before.before.before.before.before.before.before.before.before.requires.1.fits)
-
--- ?? part-after-open-output-end-2 : tie.Need-slice-bounds-after-open-output-end-2 invariant-loop decreases-loop
--- part-after-open-output-end-2 c = prep_end c.before.before.before.before.before.before.before.before.before.before.requires.1 c.before.before.before.before.before.before.before.loop.i c.before.before.before.before.before.if1.true
-
 pub after_open_output-requires : goal.after_open_output-requires
 after_open_output-requires c =
     rw (filled_part _ _ _ _ c.requires.0.room (output_each c.requires.0 c.args.preps.now c.args.at c.args.x c.args.give c.args.e) c.loop-i.invariant c.loop-i-test.true, cut_is c.requires.1 c.loop-i.i c.loop-i-test.true) (band_room c.requires.0 c.loop-i.i c.loop-i-test.true, c.requires.3, c.requires.4 c.loop-i.i c.loop-i-test.true, (λ g. omega (arith, mask_cut c.requires.1 (c.requires.2 g) c.loop-i.i c.loop-i-test.true)), cut_low c.requires.1 c.loop-i.i c.loop-i-test.true)
@@ -67,9 +61,6 @@ loop-i-smaller c =
 pub loop-i-preserved : goal.loop-i-preserved
 loop-i-preserved c =
     filled_again _ _ _ _ c.requires.0.room (output_each c.requires.0 c.args.preps.now c.args.at c.args.x c.args.give c.args.e) c.loop-i.invariant c.loop-i-test.true (rw (filled_part _ _ _ _ c.requires.0.room (output_each c.requires.0 c.args.preps.now c.args.at c.args.x c.args.give c.args.e) c.loop-i.invariant c.loop-i-test.true, cut_is c.requires.1 c.loop-i.i c.loop-i-test.true) at c.after_open_output.ensures)
-
--- ?? same_length : tie.Need-same-length invariant-loop decreases-loop
--- same_length c = filled_length _ _ _ _ c.before.before.before.before.before.requires.0.room (output_each c.before.before.before.before.before.requires.0 c.before.before.before.before.before.args.preps.now c.before.before.before.before.before.args.at c.before.before.before.before.before.args.x c.before.before.before.before.before.args.give c.before.before.before.before.before.args.e) c.before.before.loop.invariant
 
 pub returns : goal.returns
 returns c =

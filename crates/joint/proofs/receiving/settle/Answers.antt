@@ -18,9 +18,6 @@ pub kind_at-kind-requires : goal.kind_at-kind-requires
 kind_at-kind-requires c =
     all_there _ _ _ _ _ c.requires.1 c.requires.2 c.requires.3 c.loop-j.invariant c.loop-j-test.true
 
--- ?? same_length : tie.Need-same-length invariant-loop decreases-loop
--- same_length c = c.before.before.before.before.before.before.loop.invariant.long
-
 pub returns-then-not-is_linear : goal.returns-then-not-is_linear
 returns-then-not-is_linear c =
     let e = all_stop _ _ _ _ _ c.requires.1 c.requires.2 c.requires.3 c.loop-j.invariant c.loop-j-test.true (sym (c.is_linear.ensures ∙ ap (is_class Local) (shape_class _ _ c.shape_of-g.ensures) ∙ ap (λ (z : Kind). is_class Local (kind_shape z).class) c.kind_at-kind.ensures) ∙ not-true c.is_linear.result c.if-not-is_linear.true-raw) in (e, all_settled _ _ _ _ _ c.requires.1 c.requires.2 c.requires.3 c.loop-j.invariant e)
@@ -52,9 +49,6 @@ loop-j-smaller c =
 pub loop-j-preserved : goal.loop-j-preserved
 loop-j-preserved c =
     all_again _ _ _ _ _ c.requires.1 c.requires.2 c.requires.3 c.loop-j.invariant c.loop-j-test.true (sym (c.is_linear.ensures ∙ ap (is_class Local) (shape_class _ _ c.shape_of-g.ensures) ∙ ap (λ (z : Kind). is_class Local (kind_shape z).class) c.kind_at-kind.ensures) ∙ not-false c.is_linear.result c.if-not-is_linear.false-raw) (gate_from c.kind_at-kind.ensures c.first_at-x.ensures c.second_at-z.ensures c.operand_at-k.ensures) c.settle_gate.ensures
-
--- ?? same-length-2 : tie.Need-same-length-2 invariant-loop decreases-loop
--- same-length-2 c = c.before.before.loop.invariant.long
 
 pub returns : goal.returns
 returns c =

@@ -52,9 +52,6 @@ pub loop-i-preserved : goal.loop-i-preserved
 loop-i-preserved c =
     filled_again _ _ _ _ c.requires.1.room (linear_each c.requires.1 c.args.preps.now c.args.j (gate_of (kind_of c.args.kind) c.args.x c.args.z c.args.k)) c.loop-i.invariant c.loop-i-test.true (rw (filled_part _ _ _ _ c.requires.1.room (linear_each c.requires.1 c.args.preps.now c.args.j (gate_of (kind_of c.args.kind) c.args.x c.args.z c.args.k)) c.loop-i.invariant c.loop-i-test.true, key_is c.requires.0 c.loop-i.i c.loop-i-test.true (omega arith)) at c.after_linear.ensures)
 
--- ?? same_length : tie.Need-same-length invariant-loop decreases-loop
--- same_length c = filled_length _ _ _ _ c.before.before.before.before.before.requires.1.room (linear_each c.before.before.before.before.before.requires.1 c.before.before.before.before.before.args.preps.now c.before.before.before.before.before.args.j (gate_of (kind_of c.before.before.before.before.before.args.kind) c.before.before.before.before.before.args.x c.before.before.before.before.before.args.z c.before.before.before.before.before.args.k)) c.before.before.loop.invariant
-
 pub returns : goal.returns
 returns c =
     filled_done _ _ _ _ c.requires.1.room (linear_each c.requires.1 c.args.preps.now c.args.j (gate_of (kind_of c.args.kind) c.args.x c.args.z c.args.k)) c.loop-i.invariant c.loop-i-test.false

@@ -106,9 +106,6 @@ pub overflow_add-result-3 : goal.overflow_add-result-3
 overflow_add-result-3 c =
     omega (arith, c.requires.1)
 
--- ?? same-length-2 : tie.Need-same-length-2
--- same-length-2 c = revealed_long c.before.before.before.before.before.before.before.before.before.before.before.before.before.before.before.before.before.before.before.before.before.before.before.before.before.before.before.before.before.before.before.before.before.before.before.before.before.before.before.requires.0 c.before.before.before.before.before.before.before.before.before.before.before.before.before.before.before.before.before.before.before.before.before.before.before.before.before.before.put-nonces.ensures c.before.before.before.before.before.before.before.before.before.before.before.before.before.before.before.before.before.before.before.before.before.before.before.before.before.before.before.before.before.before.check-shares.ensures c.before.before.before.before.before.before.before.before.before.before.before.before.before.before.before.before.before.before.before.before.commit-words.ensures c.before.before.before.before.before.before.before.before.before.before.before.before.before.before.receive-marks.ensures c.before.before.before.before.before.before.before.before.reveal_words_lem.ensures
-
 pub returns : goal.returns
 returns c =
     (checked c.requires.0 c.put_nonces.ensures c.check_shares.ensures c.commit_words.ensures c.receive_marks.ensures c.reveal_words.ensures c.heard_sum-sum.ensures, refl)

@@ -54,9 +54,6 @@ pub overflow_add-result-4 : goal.overflow_add-result-4
 overflow_add-result-4 c =
     omega (arith, c.well_formed, next_small c.requires.0 c.args.g c.requires.1, opening_few c.requires.0 c.args.g c.requires.1 c.requires.2 c.requires.3, c.requires.0.rounds_few, c.requires.0.going.lent.valid.few, (opening_gate c.requires.0 c.args.g c.requires.1 c.requires.2 c.requires.3).0)
 
--- ?? same-length-2 : tie.Need-same-length-2
--- same-length-2 c = opening_long c.before.before.before.before.before.before.before.before.before.before.before.before.before.before.before.before.before.before.before.before.before.before.before.requires.0 c.before.before.before.before.before.before.before.before.before.before.before.before.before.before.before.before.before.before.before.before.before.before.before.args.g c.before.before.before.before.before.before.before.before.before.before.before.before.before.before.before.before.before.before.before.before.before.before.before.requires.1 c.before.before.before.before.before.before.before.before.before.before.before.before.before.before.before.before.before.before.before.before.before.before.before.requires.2 c.before.before.before.before.before.before.before.before.before.before.before.before.before.before.before.before.before.before.before.before.before.before.before.requires.3 c.before.before.before.before.before.before.before.before.before.before.before.before.before.before.first-at.ensures c.before.before.before.before.before.before.before.before.before.before.before.before.before.factor-at.ensures c.before.before.before.before.before.before.before.before.before.before.opening_words.ensures.0
-
 pub returns : goal.returns
 returns c = (
   opening_moved c.requires.0 c.args.g c.requires.1 c.requires.2 c.requires.3 c.first_at-x.ensures c.factor_at-z.ensures c.opening_words-sums.ensures.out c.opening_words-sums.ensures.sums.0 c.opening_words-sums.ensures.sums.1 c.receive_openings.ensures refl refl refl refl refl refl,

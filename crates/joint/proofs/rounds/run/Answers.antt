@@ -20,18 +20,6 @@ pub settle-j-requires : goal.settle-j-requires
 settle-j-requires c =
     c.loop-f.invariant.settles
 
--- ?? same_length : tie.Need-same-length invariant-loop decreases-loop
--- same_length c = (stood _ _ _ _ _ c.before.before.before.before.before.before.loop.invariant c.before.before.before.before.settle.ensures.0 c.before.before.before.before.settle.ensures.1).placed.eight ∙ sym c.before.before.before.before.before.before.before.before.before.before.before.before.before.before.before.before.requires.1.eight
-
--- ?? same-length-2 : tie.Need-same-length-2 invariant-loop decreases-loop
--- same-length-2 c = (stood _ _ _ _ _ c.before.before.before.before.before.before.loop.invariant c.before.before.before.before.settle.ensures.0 c.before.before.before.before.settle.ensures.1).running.long
-
--- ?? same-length-3 : tie.Need-same-length-3 invariant-loop decreases-loop
--- same-length-3 c = (stood _ _ _ _ _ c.before.before.before.before.before.before.loop.invariant c.before.before.before.before.settle.ensures.0 c.before.before.before.before.settle.ensures.1).running.long_t
-
--- ?? same-length-4 : tie.Need-same-length-4 invariant-loop decreases-loop
--- same-length-4 c = (stood _ _ _ _ _ c.before.before.before.before.before.before.loop.invariant c.before.before.before.before.settle.ensures.0 c.before.before.before.before.settle.ensures.1).running.long_o
-
 pub returns-then-f-j : goal.returns-then-f-j
 unfolding joint_answer_of ended
 returns-then-f-j c =
@@ -69,18 +57,6 @@ pub check-first-requires : goal.check-first-requires
 check-first-requires c =
     (first_asked c.requires.0 (stood _ _ _ _ _ c.loop-f.invariant c.settle-j.ensures.0 c.settle-j.ensures.1) (omega (arith, gates_same c.requires.0, c.if-f-j.false)) (must_output _ ((stood _ _ _ _ _ c.loop-f.invariant c.settle-j.ensures.0 c.settle-j.ensures.1).stands (omega (arith, gates_same c.requires.0, c.if-f-j.false))) (ap (is_class Owned) (sym (shape_class _ _ c.shape_at-g.ensures)) ∙ sym c.is_in.ensures ∙ c.if-is_in.false) (ap (is_class Opens) (sym (shape_class _ _ c.shape_at-g.ensures)) ∙ sym c.opens.ensures ∙ c.if-opens.false)) c.if-waiting-ne0.true, omega (arith, c.requires.0.lent.valid.few, first_few c.requires.0 (stood _ _ _ _ _ c.loop-f.invariant c.settle-j.ensures.0 c.settle-j.ensures.1) (omega (arith, gates_same c.requires.0, c.if-f-j.false)) (must_output _ ((stood _ _ _ _ _ c.loop-f.invariant c.settle-j.ensures.0 c.settle-j.ensures.1).stands (omega (arith, gates_same c.requires.0, c.if-f-j.false))) (ap (is_class Owned) (sym (shape_class _ _ c.shape_at-g.ensures)) ∙ sym c.is_in.ensures ∙ c.if-is_in.false) (ap (is_class Opens) (sym (shape_class _ _ c.shape_at-g.ensures)) ∙ sym c.opens.ensures ∙ c.if-opens.false)) c.if-waiting-ne0.true))
 
--- ?? same-length-5 : tie.Need-same-length-5 invariant-loop decreases-loop
--- same-length-5 c = (stood _ _ _ _ _ c.before.before.before.before.before.before.before.before.before.before.before.before.before.before.before.before.before.before.before.before.before.before.loop.invariant c.before.before.before.before.before.before.before.before.before.before.before.before.before.before.before.before.before.before.before.before.settle.ensures.0 c.before.before.before.before.before.before.before.before.before.before.before.before.before.before.before.before.before.before.before.before.settle.ensures.1).placed.eight ∙ sym c.before.before.before.before.before.before.before.before.before.before.before.before.before.before.before.before.before.before.before.before.before.before.before.before.before.before.before.before.before.before.before.before.requires.1.eight
-
--- ?? same-length-6 : tie.Need-same-length-6 invariant-loop decreases-loop
--- same-length-6 c = checked_scratch c.before.before.before.before.before.before.before.check.ensures.0 (first_asked c.before.before.before.before.before.before.before.before.before.before.before.before.before.before.before.before.before.before.before.before.before.before.before.before.before.before.before.before.before.before.before.before.requires.0 (stood _ _ _ _ _ c.before.before.before.before.before.before.before.before.before.before.before.before.before.before.before.before.before.before.before.before.before.before.loop.invariant c.before.before.before.before.before.before.before.before.before.before.before.before.before.before.before.before.before.before.before.before.settle.ensures.0 c.before.before.before.before.before.before.before.before.before.before.before.before.before.before.before.before.before.before.before.before.settle.ensures.1) (omega (arith, gates_same c.before.before.before.before.before.before.before.before.before.before.before.before.before.before.before.before.before.before.before.before.before.before.before.before.before.before.before.before.before.before.before.before.requires.0, c.before.before.before.before.before.before.before.before.before.before.before.before.before.before.before.before.if1.false)) (must_output _ ((stood _ _ _ _ _ c.before.before.before.before.before.before.before.before.before.before.before.before.before.before.before.before.before.before.before.before.before.before.loop.invariant c.before.before.before.before.before.before.before.before.before.before.before.before.before.before.before.before.before.before.before.before.settle.ensures.0 c.before.before.before.before.before.before.before.before.before.before.before.before.before.before.before.before.before.before.before.before.settle.ensures.1).stands (omega (arith, gates_same c.before.before.before.before.before.before.before.before.before.before.before.before.before.before.before.before.before.before.before.before.before.before.before.before.before.before.before.before.before.before.before.before.requires.0, c.before.before.before.before.before.before.before.before.before.before.before.before.before.before.before.before.if1.false))) (ap (is_class Owned) (sym (shape_class _ _ c.before.before.before.before.before.before.before.before.before.before.before.before.before.before.before.shape_at.ensures)) ∙ sym c.before.before.before.before.before.before.before.before.before.before.before.before.before.before.is-in.ensures ∙ c.before.before.before.before.before.before.before.before.before.before.before.before.before.if2.false) (ap (is_class Opens) (sym (shape_class _ _ c.before.before.before.before.before.before.before.before.before.before.before.before.before.before.before.shape_at.ensures)) ∙ sym c.before.before.before.before.before.before.before.before.before.before.before.before.opens.ensures ∙ c.before.before.before.before.before.before.before.before.before.before.before.if3.false)) c.before.before.before.before.before.before.before.before.before.before.if4.true).banded ∙ (stood _ _ _ _ _ c.before.before.before.before.before.before.before.before.before.before.before.before.before.before.before.before.before.before.before.before.before.before.loop.invariant c.before.before.before.before.before.before.before.before.before.before.before.before.before.before.before.before.before.before.before.before.settle.ensures.0 c.before.before.before.before.before.before.before.before.before.before.before.before.before.before.before.before.before.before.before.before.settle.ensures.1).running.long
-
--- ?? same-length-7 : tie.Need-same-length-7 invariant-loop decreases-loop
--- same-length-7 c = checked_transcript c.before.before.before.before.before.before.before.check.ensures.0 ∙ (stood _ _ _ _ _ c.before.before.before.before.before.before.before.before.before.before.before.before.before.before.before.before.before.before.before.before.before.before.loop.invariant c.before.before.before.before.before.before.before.before.before.before.before.before.before.before.before.before.before.before.before.before.settle.ensures.0 c.before.before.before.before.before.before.before.before.before.before.before.before.before.before.before.before.before.before.before.before.settle.ensures.1).running.long_t
-
--- ?? same-length-8 : tie.Need-same-length-8 invariant-loop decreases-loop
--- same-length-8 c = (stood _ _ _ _ _ c.before.before.before.before.before.before.before.before.before.before.before.before.before.before.before.before.before.before.before.before.before.before.loop.invariant c.before.before.before.before.before.before.before.before.before.before.before.before.before.before.before.before.before.before.before.before.settle.ensures.0 c.before.before.before.before.before.before.before.before.before.before.before.before.before.before.before.before.before.before.before.before.settle.ensures.1).running.long_o
-
 pub returns-then-first-ne0 : goal.returns-then-first-ne0
 unfolding joint_answer_of ended blame_of
 returns-then-first-ne0 c =
@@ -101,18 +77,6 @@ show_round-s-requires c =
 pub check-second-requires : goal.check-second-requires
 check-second-requires c =
     (second_asked c.requires.0 (stood _ _ _ _ _ c.loop-f.invariant c.settle-j.ensures.0 c.settle-j.ensures.1) (omega (arith, gates_same c.requires.0, c.if-f-j.false)) (must_output _ ((stood _ _ _ _ _ c.loop-f.invariant c.settle-j.ensures.0 c.settle-j.ensures.1).stands (omega (arith, gates_same c.requires.0, c.if-f-j.false))) (ap (is_class Owned) (sym (shape_class _ _ c.shape_at-g.ensures)) ∙ sym c.is_in.ensures ∙ c.if-is_in.false) (ap (is_class Opens) (sym (shape_class _ _ c.shape_at-g.ensures)) ∙ sym c.opens.ensures ∙ c.if-opens.false)) c.if-waiting-ne0.false c.show_round-s.ensures.0 c.show_round-s.ensures.1, omega (arith, c.requires.0.lent.valid.few, (show_moving c.requires.0 (stood _ _ _ _ _ c.loop-f.invariant c.settle-j.ensures.0 c.settle-j.ensures.1) (omega (arith, gates_same c.requires.0, c.if-f-j.false)) (must_output _ ((stood _ _ _ _ _ c.loop-f.invariant c.settle-j.ensures.0 c.settle-j.ensures.1).stands (omega (arith, gates_same c.requires.0, c.if-f-j.false))) (ap (is_class Owned) (sym (shape_class _ _ c.shape_at-g.ensures)) ∙ sym c.is_in.ensures ∙ c.if-is_in.false) (ap (is_class Opens) (sym (shape_class _ _ c.shape_at-g.ensures)) ∙ sym c.opens.ensures ∙ c.if-opens.false)) c.if-waiting-ne0.false).rounds_few, c.show_round-s.ensures.0.rounds))
-
--- ?? same-length-9 : tie.Need-same-length-9 invariant-loop decreases-loop
--- same-length-9 c = (stood _ _ _ _ _ c.before.before.before.before.before.before.before.before.before.before.before.before.before.before.before.before.before.before.before.before.before.before.before.before.before.before.before.before.before.loop.invariant c.before.before.before.before.before.before.before.before.before.before.before.before.before.before.before.before.before.before.before.before.before.before.before.before.before.before.before.settle.ensures.0 c.before.before.before.before.before.before.before.before.before.before.before.before.before.before.before.before.before.before.before.before.before.before.before.before.before.before.before.settle.ensures.1).placed.eight ∙ sym c.before.before.before.before.before.before.before.before.before.before.before.before.before.before.before.before.before.before.before.before.before.before.before.before.before.before.before.before.before.before.before.before.before.before.before.before.before.before.before.requires.1.eight
-
--- ?? same-length-10 : tie.Need-same-length-10 invariant-loop decreases-loop
--- same-length-10 c = checked_scratch c.before.before.before.before.before.before.before.check2.ensures.0 (second_asked c.before.before.before.before.before.before.before.before.before.before.before.before.before.before.before.before.before.before.before.before.before.before.before.before.before.before.before.before.before.before.before.before.before.before.before.before.before.before.before.requires.0 (stood _ _ _ _ _ c.before.before.before.before.before.before.before.before.before.before.before.before.before.before.before.before.before.before.before.before.before.before.before.before.before.before.before.before.before.loop.invariant c.before.before.before.before.before.before.before.before.before.before.before.before.before.before.before.before.before.before.before.before.before.before.before.before.before.before.before.settle.ensures.0 c.before.before.before.before.before.before.before.before.before.before.before.before.before.before.before.before.before.before.before.before.before.before.before.before.before.before.before.settle.ensures.1) (omega (arith, gates_same c.before.before.before.before.before.before.before.before.before.before.before.before.before.before.before.before.before.before.before.before.before.before.before.before.before.before.before.before.before.before.before.before.before.before.before.before.before.before.before.requires.0, c.before.before.before.before.before.before.before.before.before.before.before.before.before.before.before.before.before.before.before.before.before.before.before.if1.false)) (must_output _ ((stood _ _ _ _ _ c.before.before.before.before.before.before.before.before.before.before.before.before.before.before.before.before.before.before.before.before.before.before.before.before.before.before.before.before.before.loop.invariant c.before.before.before.before.before.before.before.before.before.before.before.before.before.before.before.before.before.before.before.before.before.before.before.before.before.before.before.settle.ensures.0 c.before.before.before.before.before.before.before.before.before.before.before.before.before.before.before.before.before.before.before.before.before.before.before.before.before.before.before.settle.ensures.1).stands (omega (arith, gates_same c.before.before.before.before.before.before.before.before.before.before.before.before.before.before.before.before.before.before.before.before.before.before.before.before.before.before.before.before.before.before.before.before.before.before.before.before.before.before.before.requires.0, c.before.before.before.before.before.before.before.before.before.before.before.before.before.before.before.before.before.before.before.before.before.before.before.if1.false))) (ap (is_class Owned) (sym (shape_class _ _ c.before.before.before.before.before.before.before.before.before.before.before.before.before.before.before.before.before.before.before.before.before.before.shape_at.ensures)) ∙ sym c.before.before.before.before.before.before.before.before.before.before.before.before.before.before.before.before.before.before.before.before.before.is-in.ensures ∙ c.before.before.before.before.before.before.before.before.before.before.before.before.before.before.before.before.before.before.before.before.if2.false) (ap (is_class Opens) (sym (shape_class _ _ c.before.before.before.before.before.before.before.before.before.before.before.before.before.before.before.before.before.before.before.before.before.before.shape_at.ensures)) ∙ sym c.before.before.before.before.before.before.before.before.before.before.before.before.before.before.before.before.before.before.before.opens.ensures ∙ c.before.before.before.before.before.before.before.before.before.before.before.before.before.before.before.before.before.before.if3.false)) c.before.before.before.before.before.before.before.before.before.before.before.before.before.before.before.before.before.if4.false c.before.before.before.before.before.before.before.before.before.before.before.before.before.before.show-round.ensures.0 c.before.before.before.before.before.before.before.before.before.before.before.before.before.before.show-round.ensures.1).banded ∙ shown_scratch c.before.before.before.before.before.before.before.before.before.before.before.before.before.before.before.before.before.before.before.before.before.before.before.before.before.before.before.before.before.before.before.before.before.before.before.before.before.before.before.requires.0 (stood _ _ _ _ _ c.before.before.before.before.before.before.before.before.before.before.before.before.before.before.before.before.before.before.before.before.before.before.before.before.before.before.before.before.before.loop.invariant c.before.before.before.before.before.before.before.before.before.before.before.before.before.before.before.before.before.before.before.before.before.before.before.before.before.before.before.settle.ensures.0 c.before.before.before.before.before.before.before.before.before.before.before.before.before.before.before.before.before.before.before.before.before.before.before.before.before.before.before.settle.ensures.1) (omega (arith, gates_same c.before.before.before.before.before.before.before.before.before.before.before.before.before.before.before.before.before.before.before.before.before.before.before.before.before.before.before.before.before.before.before.before.before.before.before.before.before.before.before.requires.0, c.before.before.before.before.before.before.before.before.before.before.before.before.before.before.before.before.before.before.before.before.before.before.before.if1.false)) (must_output _ ((stood _ _ _ _ _ c.before.before.before.before.before.before.before.before.before.before.before.before.before.before.before.before.before.before.before.before.before.before.before.before.before.before.before.before.before.loop.invariant c.before.before.before.before.before.before.before.before.before.before.before.before.before.before.before.before.before.before.before.before.before.before.before.before.before.before.before.settle.ensures.0 c.before.before.before.before.before.before.before.before.before.before.before.before.before.before.before.before.before.before.before.before.before.before.before.before.before.before.before.settle.ensures.1).stands (omega (arith, gates_same c.before.before.before.before.before.before.before.before.before.before.before.before.before.before.before.before.before.before.before.before.before.before.before.before.before.before.before.before.before.before.before.before.before.before.before.before.before.before.before.requires.0, c.before.before.before.before.before.before.before.before.before.before.before.before.before.before.before.before.before.before.before.before.before.before.before.if1.false))) (ap (is_class Owned) (sym (shape_class _ _ c.before.before.before.before.before.before.before.before.before.before.before.before.before.before.before.before.before.before.before.before.before.before.shape_at.ensures)) ∙ sym c.before.before.before.before.before.before.before.before.before.before.before.before.before.before.before.before.before.before.before.before.before.is-in.ensures ∙ c.before.before.before.before.before.before.before.before.before.before.before.before.before.before.before.before.before.before.before.before.if2.false) (ap (is_class Opens) (sym (shape_class _ _ c.before.before.before.before.before.before.before.before.before.before.before.before.before.before.before.before.before.before.before.before.before.before.shape_at.ensures)) ∙ sym c.before.before.before.before.before.before.before.before.before.before.before.before.before.before.before.before.before.before.before.opens.ensures ∙ c.before.before.before.before.before.before.before.before.before.before.before.before.before.before.before.before.before.before.if3.false)) c.before.before.before.before.before.before.before.before.before.before.before.before.before.before.before.before.before.if4.false c.before.before.before.before.before.before.before.before.before.before.before.before.before.before.show-round.ensures.0 c.before.before.before.before.before.before.before.before.before.before.before.before.before.before.show-round.ensures.1
-
--- ?? same-length-11 : tie.Need-same-length-11 invariant-loop decreases-loop
--- same-length-11 c = checked_transcript c.before.before.before.before.before.before.before.check2.ensures.0 ∙ shown_long c.before.before.before.before.before.before.before.before.before.before.before.before.before.before.before.before.before.before.before.before.before.before.before.before.before.before.before.before.before.before.before.before.before.before.before.before.before.before.before.requires.0 (stood _ _ _ _ _ c.before.before.before.before.before.before.before.before.before.before.before.before.before.before.before.before.before.before.before.before.before.before.before.before.before.before.before.before.before.loop.invariant c.before.before.before.before.before.before.before.before.before.before.before.before.before.before.before.before.before.before.before.before.before.before.before.before.before.before.before.settle.ensures.0 c.before.before.before.before.before.before.before.before.before.before.before.before.before.before.before.before.before.before.before.before.before.before.before.before.before.before.before.settle.ensures.1) (omega (arith, gates_same c.before.before.before.before.before.before.before.before.before.before.before.before.before.before.before.before.before.before.before.before.before.before.before.before.before.before.before.before.before.before.before.before.before.before.before.before.before.before.before.requires.0, c.before.before.before.before.before.before.before.before.before.before.before.before.before.before.before.before.before.before.before.before.before.before.before.if1.false)) (must_output _ ((stood _ _ _ _ _ c.before.before.before.before.before.before.before.before.before.before.before.before.before.before.before.before.before.before.before.before.before.before.before.before.before.before.before.before.before.loop.invariant c.before.before.before.before.before.before.before.before.before.before.before.before.before.before.before.before.before.before.before.before.before.before.before.before.before.before.before.settle.ensures.0 c.before.before.before.before.before.before.before.before.before.before.before.before.before.before.before.before.before.before.before.before.before.before.before.before.before.before.before.settle.ensures.1).stands (omega (arith, gates_same c.before.before.before.before.before.before.before.before.before.before.before.before.before.before.before.before.before.before.before.before.before.before.before.before.before.before.before.before.before.before.before.before.before.before.before.before.before.before.before.requires.0, c.before.before.before.before.before.before.before.before.before.before.before.before.before.before.before.before.before.before.before.before.before.before.before.if1.false))) (ap (is_class Owned) (sym (shape_class _ _ c.before.before.before.before.before.before.before.before.before.before.before.before.before.before.before.before.before.before.before.before.before.before.shape_at.ensures)) ∙ sym c.before.before.before.before.before.before.before.before.before.before.before.before.before.before.before.before.before.before.before.before.before.is-in.ensures ∙ c.before.before.before.before.before.before.before.before.before.before.before.before.before.before.before.before.before.before.before.before.if2.false) (ap (is_class Opens) (sym (shape_class _ _ c.before.before.before.before.before.before.before.before.before.before.before.before.before.before.before.before.before.before.before.before.before.before.shape_at.ensures)) ∙ sym c.before.before.before.before.before.before.before.before.before.before.before.before.before.before.before.before.before.before.before.opens.ensures ∙ c.before.before.before.before.before.before.before.before.before.before.before.before.before.before.before.before.before.before.if3.false)) c.before.before.before.before.before.before.before.before.before.before.before.before.before.before.before.before.before.if4.false c.before.before.before.before.before.before.before.before.before.before.before.before.before.before.show-round.ensures.0 c.before.before.before.before.before.before.before.before.before.before.before.before.before.before.show-round.ensures.1
-
--- ?? same-length-12 : tie.Need-same-length-12 invariant-loop decreases-loop
--- same-length-12 c = (stood _ _ _ _ _ c.before.before.before.before.before.before.before.before.before.before.before.before.before.before.before.before.before.before.before.before.before.before.before.before.before.before.before.before.before.loop.invariant c.before.before.before.before.before.before.before.before.before.before.before.before.before.before.before.before.before.before.before.before.before.before.before.before.before.before.before.settle.ensures.0 c.before.before.before.before.before.before.before.before.before.before.before.before.before.before.before.before.before.before.before.before.before.before.before.before.before.before.before.settle.ensures.1).running.long_o
 
 pub returns-then-second-ne0 : goal.returns-then-second-ne0
 unfolding joint_answer_of ended blame_of

@@ -61,9 +61,6 @@ pub offset_bounds-coefficients-u-in-loop-i : goal.offset_bounds-coefficients-u-i
 offset_bounds-coefficients-u-in-loop-i c =
     omega (arith, c.well_formed, c.requires.3)
 
--- ?? part-check-share-of-end-2 : tie.Need-slice-bounds-check-share-of-end-2 invariant-loop decreases-loop
--- part-check-share-of-end-2 c = c.before.before.before.before.before.before.before.before.before.before.before.before.before.before.before.requires.3
-
 pub check_share_of-h-requires : goal.check_share_of-h-requires
 check_share_of-h-requires c =
     rw (band_is c.requires.2 c.loop-i.i c.loop-i-test.true) (common_sum c.args.f c.args.scratch.now c.args.k (part c.args.u (c.args.u + c.args.k) c.args.coefficients.now) c.requires.8 c.loop-i.i c.loop-i-test.true c.weigh_values-sum.ensures, band_room c.requires.2 c.loop-i.i c.loop-i-test.true, c.requires.7, c.requires.1.low _, part_enough c.args.u c.args.k c.args.coefficients.now c.requires.3, below_part c.args.coefficients.now (c.args.u + c.args.k - c.args.u) c.args.u c.requires.4, c.requires.5 c.loop-i.i c.loop-i-test.true)
@@ -87,9 +84,6 @@ loop-i-smaller c =
 pub loop-i-preserved : goal.loop-i-preserved
 loop-i-preserved c =
     let k = (rw (band_is c.requires.2 c.loop-i.i c.loop-i-test.true, key_is c.requires.1 c.loop-i.i c.loop-i-test.true (omega arith)) at c.check_share_of-h.ensures) in put_more _ _ c.requires.9 (λ m h. refl) c.loop-i.invariant c.loop-i-test.true (ap (λ (z : ℕ). z ∷ []) k.is)
-
--- ?? same_length : tie.Need-same-length invariant-loop decreases-loop
--- same_length c = put_length _ _ c.before.before.before.before.before.before.before.before.before.before.requires.9 (λ m h. refl) c.before.before.loop.invariant
 
 pub returns : goal.returns
 returns c =

@@ -44,9 +44,6 @@ pub offset_bounds-out-a : goal.offset_bounds-out-a
 offset_bounds-out-a c =
     omega (arith, c.well_formed, filled_fits _ _ _ _ (put_room c.args.f.parties commit_words c.args.out.now c.requires.3) (λ m h. mark_long _) c.loop-i.invariant c.loop-i-test.true, filled_length _ _ _ _ (put_room c.args.f.parties commit_words c.args.out.now c.requires.3) (λ m h. mark_long _) c.loop-i.invariant)
 
--- ?? part-commit-words-end-2 : tie.Need-slice-bounds-commit-words-end-2 invariant-loop decreases-loop
--- part-commit-words-end-2 c = filled_fits _ _ _ _ (put_room c.before.before.before.before.before.before.before.before.before.before.args.f.parties commit_words c.before.before.before.before.before.before.before.before.before.before.args.out.now c.before.before.before.before.before.before.before.before.before.before.requires.3) (λ m h. mark_long _) c.before.before.before.before.before.before.loop.invariant c.before.before.before.before.if1.true
-
 pub commit_words-requires : goal.commit_words-requires
 commit_words-requires c =
     rw (band_is c.requires.2 c.loop-i.i c.loop-i-test.true) (omega (arith, band_tail c.requires.2 c.loop-i.i c.loop-i-test.true), part_room _ _ _ (filled_fits _ _ _ _ (put_room c.args.f.parties commit_words c.args.out.now c.requires.3) (λ m h. mark_long _) c.loop-i.invariant c.loop-i-test.true))
@@ -62,9 +59,6 @@ loop-i-smaller c =
 pub loop-i-preserved : goal.loop-i-preserved
 loop-i-preserved c =
     filled_again _ _ _ _ (put_room c.args.f.parties commit_words c.args.out.now c.requires.3) (λ m h. mark_long _) c.loop-i.invariant c.loop-i-test.true (part_put _ _ _ (filled_fits _ _ _ _ (put_room c.args.f.parties commit_words c.args.out.now c.requires.3) (λ m h. mark_long _) c.loop-i.invariant c.loop-i-test.true) (mark_long _) (rw (band_is c.requires.2 c.loop-i.i c.loop-i-test.true) at c.commit_words.ensures))
-
--- ?? same_length : tie.Need-same-length invariant-loop decreases-loop
--- same_length c = filled_length _ _ _ _ (put_room c.before.before.before.before.before.before.args.f.parties commit_words c.before.before.before.before.before.before.args.out.now c.before.before.before.before.before.before.requires.3) (λ m h. mark_long _) c.before.before.loop.invariant
 
 pub returns : goal.returns
 returns c =

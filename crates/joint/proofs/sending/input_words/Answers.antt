@@ -77,9 +77,6 @@ pub loop-i-preserved : goal.loop-i-preserved
 loop-i-preserved c =
     let k = (rw (cut_is c.requires.1 c.loop-i.i c.loop-i-test.true) at c.input_word.ensures) in put_more _ _ c.requires.4 (λ m h. refl) c.loop-i.invariant c.loop-i-test.true (ap (λ (z : ℕ). z ∷ []) k.is)
 
--- ?? same_length : tie.Need-same-length invariant-loop decreases-loop
--- same_length c = put_length _ _ c.before.before.before.before.before.before.before.requires.4 (λ m h. refl) c.before.before.loop.invariant
-
 pub returns : goal.returns
 returns c =
     put_all _ _ c.requires.4 (λ m h. refl) c.loop-i.invariant c.loop-i-test.false

@@ -60,18 +60,9 @@ pub slice_bounds-opening_words-count-in-loop-i : goal.slice_bounds-opening_words
 slice_bounds-opening_words-count-in-loop-i c =
     omega (arith, c.requires.2.fits)
 
--- ?? part-opening-words-start-2 : tie.Need-slice-bounds-opening-words-start-2 invariant-loop decreases-loop
--- part-opening-words-start-2 c = omega (arith, c.before.before.before.before.before.before.before.before.before.before.before.before.requires.2.fits)
-
--- ?? part-opening-words-end-2 : tie.Need-slice-bounds-opening-words-end-2 invariant-loop decreases-loop
--- part-opening-words-end-2 c = prep_end c.before.before.before.before.before.before.before.before.before.before.before.before.requires.2 c.before.before.before.before.before.before.before.before.loop.i c.before.before.before.before.before.before.if1.true
-
 pub offset_bounds-out-a : goal.offset_bounds-out-a
 offset_bounds-out-a c =
     omega (arith, c.well_formed, filled_fits _ _ _ _ (put_room c.args.f.parties c.args.k c.args.out.now c.requires.5) (λ m h. opened_words_lem ops _ _ _ _ _ _ c.requires.0 c.requires.1) c.loop-i.invariant.0 c.loop-i-test.true, filled_length _ _ _ _ (put_room c.args.f.parties c.args.k c.args.out.now c.requires.5) (λ m h. opened_words_lem ops _ _ _ _ _ _ c.requires.0 c.requires.1) c.loop-i.invariant.0)
-
--- ?? part-opening-words-end-3 : tie.Need-slice-bounds-opening-words-end-3 invariant-loop decreases-loop
--- part-opening-words-end-3 c = filled_fits _ _ _ _ (put_room c.before.before.before.before.before.before.before.before.before.before.before.before.before.args.f.parties c.before.before.before.before.before.before.before.before.before.before.before.before.before.args.k c.before.before.before.before.before.before.before.before.before.before.before.before.before.args.out.now c.before.before.before.before.before.before.before.before.before.before.before.before.before.requires.5) (λ m h. opened_words_lem ops _ _ _ _ _ _ c.before.before.before.before.before.before.before.before.before.before.before.before.before.requires.0 c.before.before.before.before.before.before.before.before.before.before.before.before.before.requires.1) c.before.before.before.before.before.before.before.before.before.loop.invariant.0 c.before.before.before.before.before.before.before.if1.true
 
 pub opening_words-ends-requires : goal.opening_words-ends-requires
 opening_words-ends-requires c =
@@ -106,9 +97,6 @@ heard_ends-requires c = (
   omega (arith, c.loop-i.invariant.1.below, c.loop-i.invariant.0.upto, c.requires.6),
   omega (arith, c.loop-i.invariant.2.below, c.loop-i.invariant.0.upto, c.requires.6),
 )
-
--- ?? same_length : tie.Need-same-length invariant-loop decreases-loop
--- same_length c = filled_length _ _ _ _ (put_room c.before.before.before.before.before.before.before.args.f.parties c.before.before.before.before.before.before.before.args.k c.before.before.before.before.before.before.before.args.out.now c.before.before.before.before.before.before.before.requires.5) (λ m h. opened_words_lem ops _ _ _ _ _ _ c.before.before.before.before.before.before.before.requires.0 c.before.before.before.before.before.before.before.requires.1) c.before.before.before.loop.invariant.0
 
 pub returns : goal.returns
 returns c =

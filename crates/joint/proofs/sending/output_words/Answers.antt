@@ -54,12 +54,6 @@ pub slice_bounds-shown_part-count-in-loop-i : goal.slice_bounds-shown_part-count
 slice_bounds-shown_part-count-in-loop-i c =
     omega (arith, c.requires.1.fits)
 
--- ?? part-shown-part-start-2 : tie.Need-slice-bounds-shown-part-start-2 invariant-loop decreases-loop
--- part-shown-part-start-2 c = omega (arith, c.before.before.before.before.before.before.before.before.before.before.before.before.requires.1.fits)
-
--- ?? part-shown-part-end-2 : tie.Need-slice-bounds-shown-part-end-2 invariant-loop decreases-loop
--- part-shown-part-end-2 c = prep_end c.before.before.before.before.before.before.before.before.before.before.before.before.requires.1 c.before.before.before.before.before.before.before.before.loop.i c.before.before.before.before.before.before.if1.true
-
 pub shown_part-shown-requires : goal.shown_part-shown-requires
 shown_part-shown-requires c =
     rw (band_is c.requires.3 c.loop-i.i c.loop-i-test.true, cut_is c.requires.1 c.loop-i.i c.loop-i-test.true) (band_room c.requires.3 c.loop-i.i c.loop-i-test.true, c.requires.4 c.loop-i.i c.loop-i-test.true, (λ g. omega (arith, mask_cut c.requires.1 (c.requires.2 g) c.loop-i.i c.loop-i-test.true)), cut_low c.requires.1 c.loop-i.i c.loop-i-test.true)
@@ -83,9 +77,6 @@ loop-i-smaller c =
 pub loop-i-preserved : goal.loop-i-preserved
 loop-i-preserved c =
     let k = share_of (rw (band_is c.requires.3 c.loop-i.i c.loop-i-test.true, cut_is c.requires.1 c.loop-i.i c.loop-i-test.true) at c.shown_part-shown.ensures) in put_more _ _ c.requires.5 (λ m h. refl) c.loop-i.invariant c.loop-i-test.true (ap (λ (z : ℕ). z ∷ []) k.is)
-
--- ?? same_length : tie.Need-same-length invariant-loop decreases-loop
--- same_length c = put_length _ _ c.before.before.before.before.before.before.requires.5 (λ m h. refl) c.before.before.loop.invariant
 
 pub returns : goal.returns
 returns c =

@@ -25,9 +25,6 @@ pub overflow_add-last : goal.overflow_add-last
 overflow_add-last c =
     omega (arith, c.well_formed, c.requires.1, c.loop-i-test.true)
 
--- ?? part-put-nonce-end-2 : tie.Need-slice-bounds-put-nonce-end-2 invariant-loop decreases-loop
--- part-put-nonce-end-2 c = omega (arith, c.before.before.before.before.before.before.before.requires.1, c.before.before.if1.true)
-
 pub offset_bounds-scratch-start : goal.offset_bounds-scratch-start
 offset_bounds-scratch-start c =
     omega (arith, c.well_formed, filled_fits _ _ _ _ c.requires.0.room (nonce_each c.requires.0 c.args.nonces.now) c.loop-i.invariant c.loop-i-test.true, filled_length _ _ _ _ c.requires.0.room (nonce_each c.requires.0 c.args.nonces.now) c.loop-i.invariant)
@@ -51,9 +48,6 @@ loop-i-smaller c =
 pub loop-i-preserved : goal.loop-i-preserved
 loop-i-preserved c =
     filled_again _ _ _ _ c.requires.0.room (nonce_each c.requires.0 c.args.nonces.now) c.loop-i.invariant c.loop-i-test.true (rw (filled_part _ _ _ _ c.requires.0.room (nonce_each c.requires.0 c.args.nonces.now) c.loop-i.invariant c.loop-i-test.true, nonce_part c.loop-i.i c.args.nonces.now) at c.put_nonce.ensures)
-
--- ?? same_length : tie.Need-same-length invariant-loop decreases-loop
--- same_length c = filled_length _ _ _ _ c.before.before.before.before.before.requires.0.room (nonce_each c.before.before.before.before.before.requires.0 c.before.before.before.before.before.args.nonces.now) c.before.before.loop.invariant
 
 pub returns : goal.returns
 returns c =

@@ -54,9 +54,6 @@ unfolding layout_of
 loop-j-preserved c =
     let k = reaching_linear _ _ _ _ c.loop-j.invariant.1 (omega (arith, c.requires.1, c.loop-j-test.true)) in (settling_again _ _ _ _ _ _ _ _ c.loop-j.invariant.0 laws c.requires.0.room k.0 k.1 (c.after_linear.ensures ∙ put_operated ops _ _ _ _ _ _ (gate_from c.kind_at-kind.ensures c.first_at-x.ensures c.second_at-z.ensures c.operand_at-k.ensures)), reaching_again _ _ _ _ c.loop-j.invariant.1 k.0 k.1)
 
--- ?? same_length : tie.Need-same-length invariant-loop decreases-loop
--- same_length c = c.before.loop.invariant.0.len
-
 pub returns : goal.returns
 unfolding layout_of
 returns c =

@@ -25,12 +25,6 @@ unfolding marks_at
 slice_bounds-copy-end c =
     search rules
 
--- ?? same_length : tie.Need-same-length
--- same_length c =
---     let start = c.before.before.before.before.before.before.before.before in
---     let copied = c.before.before.copy in
---     length_behind start.args.share nonce_words start.args.out.now copied.new.1.0 copied.auto.1.0
-
 pub returns : goal.returns
 returns c =
     revealed_written _ _ _ c.requires.0 c.args.out.now c.nonce_at-start.ensures c.requires.1
