@@ -205,7 +205,7 @@ an_output n c e =
     let last : suc (gates c - 1) ≡ gates c = omega (arith, ok.two) in
     subst (λ (j : ℕ). 0 < count is_out c j) last (some_output c (gates c - 1) ok.last)
 
-then_refuses : (number index : ℕ) (t : Bool) → (ask number index t then Refused number index) ≡ Refused number index
+pub then_refuses : (number index : ℕ) (t : Bool) → (ask number index t then Refused number index) ≡ Refused number index
 unfolding ask ◌then◌
 then_refuses number index true = refl
 then_refuses number index false = refl
