@@ -8,6 +8,7 @@ use mathlib.Core.List.{List}
 use lib.ListN.{length, get_or, take, drop}
 use lib.Dec.{eqb}
 use borrow.Author.Tests.{lt-ltb, le-ltb, le-leb, lt-leb, eq-eqb, ne_eqb}
+use Rattle.std.specs.Prelude.{Result, Ok, Err, OnErr}
 use Rattle.text.specs.Code.{Word}
 use Rattle.text.specs.declared.Span.{Span}
 use Rattle.text.proofs.Laws.{denied, granted}
@@ -22,6 +23,11 @@ use Rattle.requests.specs.Names.{no_entry, field_name, spelled, entry_named}
 use Rattle.requests.specs.Order.{parties, party, position, lost, started, moved_on, dropped, with_number, standing}
 use Rattle.requests.specs.Lines.{one_in, position_in, with_one, take_number, with_place, take_position, goes, lists, take_wanted, take_field, begin, empty, take_named, take_line}
 use Rattle.requests.proofs.Lines.{word_start, word_end, word_text}
+
+-- what holds in any case holds where there is an error
+pub whatever : {T E P : Type 0} (r : Result T E) → P → OnErr r P
+whatever (Ok x) p = tt
+whatever (Err e) p = p
 
 module _ (text : List ℕ) (q : Request) {r : Request} where
   module _ {o : One} (read : o ≡ one_in text) where

@@ -1,8 +1,8 @@
 // Reading a line of a request. An error is the writer's, where a complaint is printed, and leaves what is lent as it was.
-ghost use Rattle.std.specs.Prelude.{◌≤◌, ◌≡◌, IfOk};
-ghost use Rattle.requests.specs.Order.{placed};
+ghost use Rattle.std.specs.Prelude.{◌<◌, ◌≤◌, ◌≡◌, ◌⊎◌, IfOk, OnErr};
+ghost use Rattle.requests.specs.Order.{placed, complete, dropped as drops};
 ghost use Rattle.requests.specs.Lines as L;
-ghost use Rattle.requests.specs.Lines.{one_in, position_in, goes, take_number, take_position, take_wanted, take_field, take_line};
+ghost use Rattle.requests.specs.Lines.{goes as skips, one_in, position_in, goes, take_number, take_position, take_wanted, take_field, take_line};
 
 use crate::naming::{
     COMPLETE, LOST, NO_ENTRY, Named, OUTSIDE, PARTIES, PARTY, POSITION, entry_named, is_field,
@@ -104,7 +104,8 @@ fn take_number<W: Write>(
     rest: &[u8],
     request: Request,
 ) -> io::Result<Request>
-    ensures { IfOk result (λ r. r ≡ take_number rest.now request) }
+    ensures told { IfOk result (λ r. r ≡ take_number rest.now request) }
+    ensures err { OnErr result (take_number rest.now request ≡ drops request) }
 {
     match one_number(rest) {
         One::Number(n) => Ok(moved_on(with_number(request, n))),
@@ -164,7 +165,8 @@ fn take_position<W: Write>(
     rest: &[u8],
     request: Request,
 ) -> io::Result<Request>
-    ensures { IfOk result (λ r. r ≡ take_position rest.now request) }
+    ensures told { IfOk result (λ r. r ≡ take_position rest.now request) }
+    ensures err { OnErr result (take_position rest.now request ≡ drops request) }
 {
     match position_in(rest) {
         Placed::Position(at) => Ok(moved_on(with_position(request, at))),
@@ -193,7 +195,8 @@ fn take_wanted<W: Write>(
     start: usize,
     request: Request,
 ) -> io::Result<Step>
-    ensures { IfOk result (λ s. s ≡ take_wanted rest.now start request) }
+    ensures told { IfOk result (λ s. s ≡ take_wanted rest.now start request) }
+    ensures err { OnErr result (take_wanted rest.now start request ≡ skips (drops request)) }
 {
     let wanted = request.wanted;
     if wanted <= PARTY {
@@ -218,7 +221,8 @@ fn take_field<W: Write>(
     start: usize,
     request: Request,
 ) -> io::Result<Step>
-    ensures { IfOk result (λ s. s ≡ take_field name.now rest.now start request) }
+    ensures told { IfOk result (λ s. s ≡ take_field name.now rest.now start request) }
+    ensures err { OnErr result (take_field name.now rest.now start request ≡ skips (drops request)) }
 {
     if request.wanted == LOST {
         return Ok(goes(request));
@@ -238,7 +242,8 @@ fn begin<W: Write>(
     bare: bool,
     request: Request,
 ) -> io::Result<Request>
-    ensures { IfOk result (λ r. r ≡ L.begin entry bare request) }
+    ensures told { IfOk result (λ r. r ≡ L.begin entry bare request) }
+    ensures err { OnErr result ((request.wanted < complete) ⊎ (L.begin entry bare request ≡ drops request)) }
 {
     if request.wanted < COMPLETE {
         complain_wanted(to, number, request)?;
@@ -264,7 +269,8 @@ pub fn take_line<W: Write>(
     line: &[u8],
     request: Request,
 ) -> io::Result<Step>
-    ensures { IfOk result (λ s. s ≡ take_line line.now request) }
+    ensures told { IfOk result (λ s. s ≡ take_line line.now request) }
+    ensures err { OnErr result ((request.wanted < complete) ⊎ (take_line line.now request ≡ skips (drops request))) }
 {
     let word = text::word_from(line, 0);
     let start = word.start;
