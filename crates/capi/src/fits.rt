@@ -1,7 +1,7 @@
 // The entry for callers in C that asks whether a circuit fits.
 ghost use Rattle.std.specs.Prelude.{◌≡◌, ◌≤◌, length};
 ghost use Rattle.field.specs.Words.{size};
-ghost use Rattle.circuit.specs.Code.{verdict_of};
+ghost use Rattle.circuit.specs.Code.{verdict_was};
 ghost use Rattle.protocol.specs.Send.{overwrite};
 ghost use Rattle.protocol.specs.Entry.{leave};
 ghost use Rattle.ranges.specs.Entry.{query_of, fit_answer, fit_intervals, fit_moves};
@@ -33,7 +33,7 @@ fn change_at(changes: u32, gate: usize, amount: Word) -> Change
 }
 
 fn fit_verdict(a: Answer) -> Verdict
-    ensures { verdict_of result ≡ fit_verdict (answer_of a) }
+    ensures { verdict_was result ≡ fit_verdict (answer_of a) }
 {
     match a {
         Answer::Refusal { number, index } => Verdict::Refused { number, index },

@@ -8,7 +8,7 @@ ghost use Rattle.std.specs.Prelude.{◌≡◌, [], ◌∷◌, ◌<◌, ◌≤◌
 ghost use Rattle.field.specs.Words.{ops};
 ghost use Rattle.circuit.specs.Verdict.{Refused, ◌then◌};
 ghost use Rattle.circuit.specs.Round.{round_number};
-ghost use Rattle.circuit.specs.Code.{round_of, verdict_of};
+ghost use Rattle.circuit.specs.Code.{round_of, verdict_was};
 ghost use Rattle.protocol.specs.Party.{party_of};
 ghost use Rattle.protocol.specs.Code.{stage_of, blame_of};
 ghost use Rattle.protocol.specs.Send.{overwrite};
@@ -290,7 +290,7 @@ fn put_joint(answer: &mut [u64], a: JointAnswer)
 }
 
 fn answer_verdict(a: Answer) -> Verdict
-    ensures { verdict_of result ≡ answer_verdict (answer_of a) }
+    ensures { verdict_was result ≡ answer_verdict (answer_of a) }
 {
     match a {
         Answer::Refusal { number, index } => Verdict::Refused { number, index },
@@ -301,7 +301,7 @@ fn answer_verdict(a: Answer) -> Verdict
 }
 
 fn joint_verdict(a: JointAnswer) -> Verdict
-    ensures { verdict_of result ≡ joint_verdict (joint_answer_of a) }
+    ensures { verdict_was result ≡ joint_verdict (joint_answer_of a) }
 {
     match a {
         JointAnswer::Refusal { number, index } => Verdict::Refused { number, index },
@@ -315,7 +315,7 @@ fn joint_verdict(a: JointAnswer) -> Verdict
 }
 
 fn asked_verdict(a: Asked) -> Verdict
-    ensures { verdict_of result ≡ asked_of a }
+    ensures { verdict_was result ≡ asked_of a }
 {
     match a {
         Asked::Refused { number, index } => Verdict::Refused { number, index },
@@ -325,7 +325,7 @@ fn asked_verdict(a: Asked) -> Verdict
 
 // What a call returns whose answer has room.
 pub fn returned_of(v: Verdict) -> Refusal
-    ensures { result ≡ returned (verdict_of v) }
+    ensures { result ≡ returned (verdict_was v) }
 {
     match v {
         Verdict::Refused { number, index } => Refusal { number, index },
@@ -338,7 +338,7 @@ pub fn returned_of(v: Verdict) -> Refusal
 
 // What a call returns whose answer has none: the first question that refuses, or that of the room.
 fn without_room(v: Verdict) -> Refusal
-    ensures { result ≡ returned (verdict_of v then Refused room_question 0) }
+    ensures { result ≡ returned (verdict_was v then Refused room_question 0) }
 {
     match v {
         Verdict::Refused { number, index } => Refusal { number, index },

@@ -1,7 +1,7 @@
 // The entries for callers in C that read and write sheets.
 ghost use Rattle.std.specs.Prelude.{◌≡◌, ℕ, ◌≤◌, length};
 ghost use Rattle.field.specs.Words.{size, largest};
-ghost use Rattle.circuit.specs.Code.{verdict_of};
+ghost use Rattle.circuit.specs.Code.{verdict_was};
 ghost use Rattle.protocol.specs.Send.{overwrite};
 ghost use Rattle.protocol.specs.Entry.{leave};
 ghost use Rattle.forms.specs.Entry.{read_answer, read_circuit, write_answer, write_text};
@@ -21,7 +21,7 @@ const READ: u64 = 4;
 const WRITTEN: u64 = 5;
 
 fn sheet_verdict(a: Answer) -> Verdict
-    ensures { verdict_of result ≡ sheet_verdict (answer_of a) }
+    ensures { verdict_was result ≡ sheet_verdict (answer_of a) }
 {
     match a {
         Answer::Refusal { number, index } => Verdict::Refused { number, index },

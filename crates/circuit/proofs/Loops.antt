@@ -9,7 +9,7 @@ use native.Mathlib.Omega.{arith}
 use lib.ListN.{length, get_or}
 use borrow.Author.Count.{below_more}
 use Rattle.circuit.specs.Verdict.{Verdict, Accepted, Refused, ask, ◌then◌, each}
-use Rattle.circuit.specs.Code.{verdict_of}
+use Rattle.circuit.specs.Code.{verdict_was}
 use Rattle.circuit.specs.declared.Verdict as D
 use Rattle.circuit.proofs.Verdicts.{ask_yes, ask_no, each_none, each_more, each_refused, each_done, then_refused, then_passed}
 
@@ -66,11 +66,11 @@ module _ (number index : ℕ) {b : Bool} (rest : Verdict) where
   no_then e = sym (then_refused rest (ask_no number index e))
 
 -- the same where the question is a call, which answered r
-module _ (a rest : Verdict) {r : D.Verdict} (e : verdict_of r ≡ a) where
+module _ (a rest : Verdict) {r : D.Verdict} (e : verdict_was r ≡ a) where
   pub call_then : {v : Verdict} → r ≡ D.Verdict.Accepted → v ≡ rest → v ≡ (a then rest)
-  unfolding verdict_of
-  call_then t g = g ∙ sym (then_passed rest (sym e ∙ ap verdict_of t))
+  unfolding verdict_was
+  call_then t g = g ∙ sym (then_passed rest (sym e ∙ ap verdict_was t))
 
   pub refused_then : {number index : ℕ} → r ≡ D.Verdict.Refused number index → Refused number index ≡ (a then rest)
-  unfolding verdict_of
-  refused_then t = sym (then_refused rest (sym e ∙ ap verdict_of t))
+  unfolding verdict_was
+  refused_then t = sym (then_refused rest (sym e ∙ ap verdict_was t))

@@ -12,7 +12,10 @@ use lib.ListN.{length, get_or, get_or-eq_default}
 use lib.Dec.{ltb}
 use borrow.Author.Tests.{not-true, not-false, ltb-true, ltb-false, lt-ltb}
 use Rattle.circuit.proofs.Tests.{by_cases}
+use Rattle.std.specs.Prelude.{Result, Ok, Err}
 use Rattle.circuit.specs.Verdict.{Verdict, Accepted, Refused, ask, ◌then◌, each, elements}
+use Rattle.circuit.specs.Question.{number_of, verdict_of}
+use Rattle.circuit.specs.declared.questions.Refusal.{Refusal}
 
 pub refused_no : {A : Type 0} {number index : ℕ} → Refused number index ≡ Accepted → A
 refused_no e = let z : ◌≡◌ {A = ℕ} 0 1 = cc in absurd (omega arith)
@@ -108,3 +111,19 @@ module _ (number q : ℕ) (xs : List ℕ) where
   pub elements_all : ((k : ℕ) → get_or xs k 0 < q) → elements number q xs ≡ Accepted
   unfolding elements
   elements_all h = each_all (λ k. ask number k (ltb (get_or xs k 0) q)) (length xs) (λ k l. ask_yes number k (lt-ltb (get_or xs k 0) q (h k)))
+
+-- a step that asks has accepted, so that the rest decides; or it has refused; or it was the last
+module _ {A : Type 0} {r : Result A Refusal} {u v : Verdict} (w : Verdict) where
+  pub asked_on : {a : A} → verdict_of r ≡ v → r ≡ Ok a → u ≡ w → u ≡ (v then w)
+  unfolding ◌then◌
+  asked_on h q e = rw (← h, q) e
+
+  pub asked_no : {e : Refusal} → verdict_of r ≡ v → r ≡ Err e → u ≡ Refused (number_of e.question) e.index → u ≡ (v then w)
+  unfolding ◌then◌
+  asked_no h q e = rw (← h, q) e
+
+module _ {A : Type 0} {r : Result A Refusal} {v : Verdict} where
+  pub asked_last : {a : A} → verdict_of r ≡ v → r ≡ Ok a → Accepted ≡ v
+  asked_last h q = rw (← h, q)
+
+pub ruleset asked = (asked_on, asked_no, asked_last)

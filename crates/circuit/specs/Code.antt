@@ -23,9 +23,9 @@ use Rattle.circuit.specs.declared.Tally.{Tally}
 use Rattle.circuit.specs.declared.Totals.{Totals}
 
 -- a refusal's number and index
-unfoldable pub verdict_of : Verdict → Q.Verdict
-verdict_of Accepted = Q.Accepted
-verdict_of (Refused number index) = Q.Refused number index
+unfoldable pub verdict_was : Verdict → Q.Verdict
+verdict_was Accepted = Q.Accepted
+verdict_was (Refused number index) = Q.Refused number index
 
 abbrev pub kind_of : Kind → G.Kind
 kind_of In = G.In

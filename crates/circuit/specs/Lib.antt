@@ -1,4 +1,5 @@
 -- The circuit of document 01, in the order of its section "The circuit", and what follows from a circuit alone.
+pub mod Question
 pub mod Verdict
 pub mod Gate
 pub mod Kind

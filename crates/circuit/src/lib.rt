@@ -2,6 +2,7 @@
 #![tactic(auto)]
 
 pub mod counting;
+pub mod questions;
 pub mod rounds;
 pub mod shapes;
 

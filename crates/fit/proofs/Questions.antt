@@ -15,7 +15,7 @@ use Rattle.circuit.specs.Kind.{Class, Owned, is_class, shape, is_in, is_out}
 use Rattle.circuit.specs.Count.{total, count, in_count, out_count}
 use Rattle.circuit.specs.Accept.{most_gates, is_kind, ask_circuit}
 use Rattle.circuit.specs.Valid.{Valid}
-use Rattle.circuit.specs.Code.{verdict_of}
+use Rattle.circuit.specs.Code.{verdict_was}
 use Rattle.circuit.specs.declared.Verdict as D
 use Rattle.circuit.proofs.Tests.{by_cases}
 use Rattle.circuit.proofs.Counts.{bit_le, count_more, count_le}
@@ -83,15 +83,15 @@ module _ (n : ℕ) (c ranges : List ℕ) (change : Change) (room places : ℕ) w
   unfolding ask_fit
   asks = then_assoc (ask_parties n) (ask_circuit n size c) (ask_ranges size c ranges then changes)
 
-  module _ {r : D.Verdict} (e : verdict_of r ≡ setting) where
+  module _ {r : D.Verdict} (e : verdict_was r ≡ setting) where
     pub refused_setting : {number index : ℕ} → r ≡ D.Verdict.Refused number index
         → Refused number index ≡ ask_fit size (query_of n c ranges change) room places
     refused_setting t = refused_then setting _ e t ∙ asks
 
     module _ (t : r ≡ D.Verdict.Accepted) where
       accepted : Valid n size c
-      unfolding verdict_of
-      accepted = valid n size c (then_right (ask_parties n) (ask_circuit n size c) (sym e ∙ ap verdict_of t))
+      unfolding verdict_was
+      accepted = valid n size c (then_right (ask_parties n) (ask_circuit n size c) (sym e ∙ ap verdict_was t))
 
       pub setting_fits : (gate_size * (length c / gate_size) ≤ length c) × (length c / gate_size ≤ most_gates)
       unfolding gates
@@ -111,12 +111,12 @@ module _ (n : ℕ) (c ranges : List ℕ) (change : Change) (room places : ℕ) w
         ranges_are = rw (s)
 
         module _ {r₂ : D.Verdict}
-            (e₂ : verdict_of r₂ ≡ (ask 26 0 (eqb (length ranges) (interval_size * ins)) then each ins (λ k. ask 26 0 (range_ok size (interval_at ranges k))))) where
+            (e₂ : verdict_was r₂ ≡ (ask 26 0 (eqb (length ranges) (interval_size * ins)) then each ins (λ k. ask 26 0 (range_ok size (interval_at ranges k))))) where
           pub refused_ranges : {number index : ℕ} → r₂ ≡ D.Verdict.Refused number index
               → Refused number index ≡ ask_fit size (query_of n c ranges change) room places
           refused_ranges t₂ = call_then setting _ e t (refused_then (ask_ranges size c ranges) _ (e₂ ∙ ranges_are) t₂) ∙ asks
 
-          module _ (t₂ : r₂ ≡ D.Verdict.Accepted) {r₃ : D.Verdict} (e₃ : verdict_of r₃ ≡ ask_change c change) where
+          module _ (t₂ : r₂ ≡ D.Verdict.Accepted) {r₃ : D.Verdict} (e₃ : verdict_was r₃ ≡ ask_change c change) where
             pub refused_change : {number index : ℕ} → r₃ ≡ D.Verdict.Refused number index
                 → Refused number index ≡ ask_fit size (query_of n c ranges change) room places
             refused_change t₃ =

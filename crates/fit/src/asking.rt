@@ -6,7 +6,7 @@ ghost use Rattle.circuit.specs.Gate.{gate_size, entry};
 ghost use Rattle.circuit.specs.Kind.{is_in, is_out};
 ghost use Rattle.circuit.specs.Count.{count};
 ghost use Rattle.circuit.specs.Accept.{most_gates, is_kind};
-ghost use Rattle.circuit.specs.Code.{verdict_of};
+ghost use Rattle.circuit.specs.Code.{verdict_was};
 ghost use Rattle.ranges.specs.Interval.{interval_size, interval_at};
 ghost use Rattle.ranges.specs.Entry.{query_of, range_ok, is_in_line, ask_change, move_room_ok, ask_fit};
 ghost use Rattle.fit.specs.Code.{interval_of, change_of};
@@ -64,7 +64,7 @@ fn range_ok(r: Interval) -> bool
 // Question 26, where there are so many in gates.
 fn ask_ranges(ranges: &[Word], ins: usize) -> Verdict
     requires { ins ≤ most_gates }
-    ensures { verdict_of result
+    ensures { verdict_was result
         ≡ (ask 26 0 (eqb (length ranges.now) (interval_size * ins)) then each ins (λ k. ask 26 0 (range_ok size (interval_at ranges.now k)))) }
 {
     if ranges.len() != INTERVAL_SIZE * ins {
@@ -98,7 +98,7 @@ fn is_in_at(c: &[Word], line: usize) -> bool
 
 // Question 27.
 fn ask_change(c: &[Word], change: Change) -> Verdict
-    ensures { verdict_of result ≡ ask_change c.now (change_of change) }
+    ensures { verdict_was result ≡ ask_change c.now (change_of change) }
 {
     match change {
         Change::Nothing => Verdict::Accepted,
@@ -128,7 +128,7 @@ fn has_room(change: Change, c: &[Word], gates: usize, room: usize) -> bool
 // Question 18, of a circuit with so many gates.
 fn ask_rooms(change: Change, c: &[Word], gates: usize, room: usize, places: usize) -> Verdict
     requires { (gate_size * gates ≤ length c.now) × (gates ≤ most_gates) × ((j : ℕ) → j < gates → is_kind (entry c.now j 0) ≡ true) }
-    ensures { verdict_of result
+    ensures { verdict_was result
         ≡ ask 18 0 (leb (interval_size * gates) room && move_room_ok (change_of change) (count is_out c.now gates) places) }
 {
     if INTERVAL_SIZE * gates <= room {
@@ -151,7 +151,7 @@ pub fn ask(
     room: usize,
     places: usize,
 ) -> Verdict
-    ensures { verdict_of result ≡ ask_fit size (query_of parties c.now ranges.now (change_of change)) room places }
+    ensures { verdict_was result ≡ ask_fit size (query_of parties c.now ranges.now (change_of change)) room places }
 {
     match party::asking::ask_setting(parties, c) {
         Verdict::Refused { number, index } => {

@@ -5,7 +5,7 @@ ghost use Rattle.circuit.specs.Gate.{gate_size, decode, entry, gate, gates};
 ghost use Rattle.circuit.specs.Kind.{kind_shape, is_divisor};
 ghost use Rattle.circuit.specs.Accept.{most_gates, is_kind, may_name, name_ok, rest_ok, ask_gate, ask_circuit};
 ghost use Rattle.circuit.specs.Valid.{Fits, ValidGate};
-ghost use Rattle.circuit.specs.Code.{verdict_of, role_of, shape_of};
+ghost use Rattle.circuit.specs.Code.{verdict_was, role_of, shape_of};
 ghost use Rattle.gates.specs.Weight.{weight, weight_before, unsure};
 ghost use Rattle.gates.specs.Code.{survey_of, Counted, SurveyOk};
 
@@ -71,7 +71,7 @@ fn rest_ok(size: usize, x: usize, role: Role) -> bool
 // question 6 of any.
 fn scan(parties: usize, size: usize, c: &[Word], count: usize) -> Verdict
     requires { (gate_size * count ≤ length c.now) × (count ≤ most_gates) }
-    ensures { verdict_of result ≡ each count (ask_gate parties size c.now) }
+    ensures { verdict_was result ≡ each count (ask_gate parties size c.now) }
 {
     let mut j = 0;
     while j < count {
@@ -278,7 +278,7 @@ fn well(
 // Questions 4 to 6 of the first count gates. Where the pass has said yes, no gate is looked at; the scan is for the first no.
 fn ask_gates(parties: usize, size: usize, c: &[Word], count: usize, yes: bool) -> Verdict
     requires { (gate_size * count ≤ length c.now) × (count ≤ most_gates) × (yes ≡ true → (j : ℕ) → j < count → ValidGate parties size c.now j) }
-    ensures { verdict_of result ≡ each count (ask_gate parties size c.now) }
+    ensures { verdict_was result ≡ each count (ask_gate parties size c.now) }
 {
     if yes {
         return Verdict::Accepted;
@@ -289,7 +289,7 @@ fn ask_gates(parties: usize, size: usize, c: &[Word], count: usize, yes: bool) -
 // Questions 3 to 7, where yes says that all gates are known to be valid.
 fn ask_all(parties: usize, size: usize, c: &[Word], yes: bool) -> Verdict
     requires { yes ≡ true → (j : ℕ) → j < gates c.now → ValidGate parties size c.now j }
-    ensures { verdict_of result ≡ ask_circuit parties size c.now }
+    ensures { verdict_was result ≡ ask_circuit parties size c.now }
 {
     if c.len() % reading::GATE_SIZE != 0 {
         return Verdict::Refused {
@@ -375,7 +375,7 @@ fn all_well(parties: usize, size: usize, c: &[Word]) -> bool
 
 // Questions 3 to 7, of a field of that size. It is no entry: it is for the crates above, which ask question 1 before it.
 pub fn accept(parties: usize, size: usize, c: &[Word]) -> Verdict
-    ensures { verdict_of result ≡ ask_circuit parties size c.now }
+    ensures { verdict_was result ≡ ask_circuit parties size c.now }
 {
     let yes = all_well(parties, size, c);
     ask_all(parties, size, c, yes)

@@ -2,7 +2,7 @@
 ghost use Rattle.std.specs.Prelude.{◌≡◌, ◌*◌, ◌≤◌};
 ghost use Rattle.field.specs.Words.{size};
 ghost use Rattle.circuit.specs.Verdict.{◌then◌};
-ghost use Rattle.circuit.specs.Code.{verdict_of, Totalled};
+ghost use Rattle.circuit.specs.Code.{verdict_was, Totalled};
 ghost use Rattle.circuit.specs.Count.{prep_size, in_count, out_count};
 ghost use Rattle.circuit.specs.Round.{nonce_size, word_count, coefficient_count, check_count};
 ghost use Rattle.circuit.specs.Valid.{Valid};
@@ -26,7 +26,7 @@ fn ask_rooms(
     outs: usize,
     outputs: usize,
 ) -> Verdict
-    ensures { verdict_of result ≡ rooms_of coefficients.now due nonces bytes words transcript outs outputs }
+    ensures { verdict_was result ≡ rooms_of coefficients.now due nonces bytes words transcript outs outputs }
 {
     if coefficients.len() != due {
         return Verdict::Refused {
@@ -78,7 +78,7 @@ pub fn ask_lent(
         × (f.parties ≤ most_parties)
         × Framed f.parties c.now f
         × Totalled c.now f.layout.gates totals }
-    ensures { verdict_of result
+    ensures { verdict_was result
         ≡ (lists_of preps.now (f.parties * prep_size c.now) inputs.now (in_count c.now) room (f.parties * scratch_size f.parties c.now)
         then rooms_of coefficients.now (coefficient_count c.now) nonces (nonce_size * (f.parties * check_count c.now)) (f.parties * word_count c.now) transcript (out_count c.now) outputs) }
 {

@@ -13,7 +13,7 @@ use Rattle.circuit.specs.Count.{prep_size, capacity, input_count}
 use Rattle.circuit.specs.Round.{commit_words}
 use Rattle.circuit.specs.Accept.{ask_circuit}
 use Rattle.circuit.specs.Valid.{Valid}
-use Rattle.circuit.specs.Code.{verdict_of, Tallied}
+use Rattle.circuit.specs.Code.{verdict_was, Tallied}
 use Rattle.circuit.specs.declared.Verdict as Told
 use Rattle.circuit.specs.declared.Tally.{Tally}
 use Rattle.circuit.proofs.Verdicts.{then_refused, then_passed, then_left, ask_true}
@@ -121,6 +121,6 @@ module _ (c : List ℕ) (i : ℕ) (t : Tally) (h : Tallied c i (gates c) t) wher
       lists_are prep inputs room prep_size_is input_count_is (f ∙ ap (λ (x : S.Layout). S.marks_at x + n * commit_words) e)
 
 -- where 1 and 2 are answered by yes there are few parties
-pub parties_low : (n i : ℕ) {r : Told.Verdict} → verdict_of r ≡ (ask_parties n then ask 2 0 (ltb i n)) → r ≡ Told.Verdict.Accepted → n ≤ 8
-unfolding verdict_of ask_parties
-parties_low n i e a = leb-true n 8 (both_right (leb 2 n) (leb n 8) (ask_true 1 0 _ (then_left _ _ (sym e ∙ ap verdict_of a))))
+pub parties_low : (n i : ℕ) {r : Told.Verdict} → verdict_was r ≡ (ask_parties n then ask 2 0 (ltb i n)) → r ≡ Told.Verdict.Accepted → n ≤ 8
+unfolding verdict_was ask_parties
+parties_low n i e a = leb-true n 8 (both_right (leb 2 n) (leb n 8) (ask_true 1 0 _ (then_left _ _ (sym e ∙ ap verdict_was a))))

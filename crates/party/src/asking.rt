@@ -6,7 +6,7 @@ ghost use Rattle.circuit.specs.Gate.{gate_size, gates};
 ghost use Rattle.circuit.specs.Count.{unchecked};
 ghost use Rattle.circuit.specs.Accept.{ask_circuit};
 ghost use Rattle.circuit.specs.Round.{is_reveal, reveal_words, shape_words, coefficients_in, nonce_in};
-ghost use Rattle.circuit.specs.Code.{verdict_of, round_of, shape_of};
+ghost use Rattle.circuit.specs.Code.{verdict_was, round_of, shape_of};
 ghost use Rattle.protocol.specs.Scratch.{layout};
 ghost use Rattle.protocol.specs.Position.{may_hold, stage_occurs, occurs};
 ghost use Rattle.protocol.specs.Party.{party_of};
@@ -27,7 +27,7 @@ const MOST_PARTIES: usize = 8;
 
 // Question 1.
 pub fn ask_parties(parties: usize) -> Verdict
-    ensures { verdict_of result ≡ ask_parties parties }
+    ensures { verdict_was result ≡ ask_parties parties }
 {
     if parties < FEWEST_PARTIES {
         return Verdict::Refused {
@@ -61,7 +61,7 @@ fn all_elements(xs: &[Word]) -> bool
 
 // Are the numbers of a list elements? The index of one that is not is looked for only if there is one.
 pub fn ask_elements(number: u32, xs: &[Word]) -> Verdict
-    ensures { verdict_of result ≡ elements number size xs.now }
+    ensures { verdict_was result ≡ elements number size xs.now }
 {
     if all_elements(xs) {
         return Verdict::Accepted;
@@ -79,7 +79,7 @@ pub fn ask_elements(number: u32, xs: &[Word]) -> Verdict
 // Question 20 of a reveal: of the check shares of so many parties, each the first of its words.
 fn ask_shares(parties: usize, heard: &[Word]) -> Verdict
     requires { (parties ≤ 8) × (parties * reveal_words ≤ length heard.now) }
-    ensures { verdict_of result
+    ensures { verdict_was result
         ≡ each parties (λ i. ask 20 (i * reveal_words) (ltb (get_or heard.now (i * reveal_words) 0) size)) }
 {
     let mut i = 0;
@@ -99,7 +99,7 @@ fn ask_shares(parties: usize, heard: &[Word]) -> Verdict
 // Question 20, by the round.
 fn ask_heard(parties: usize, r: Round, heard: &[Word]) -> Verdict
     requires { (parties ≤ 8) × (is_reveal (round_of r) ≡ true → parties * reveal_words ≤ length heard.now) }
-    ensures { verdict_of result ≡ ask_heard size parties (round_of r) heard.now }
+    ensures { verdict_was result ≡ ask_heard size parties (round_of r) heard.now }
 {
     match r {
         Round::Own => ask_elements(20, heard),
@@ -118,7 +118,7 @@ pub fn ask_lists(
     room: usize,
     scratch_size: usize,
 ) -> Verdict
-    ensures { verdict_of result
+    ensures { verdict_was result
         ≡ (ask 8 0 (eqb (length prep.now) prep_size)
         then elements 9 size prep.now
         then ask 10 0 (eqb (length inputs.now) input_count)
@@ -160,14 +160,14 @@ pub fn ask_lists(
 
 // Questions 3 to 7, of the field of this crate.
 pub fn ask_circuit(parties: usize, c: &[Word]) -> Verdict
-    ensures { verdict_of result ≡ ask_circuit parties size c.now }
+    ensures { verdict_was result ≡ ask_circuit parties size c.now }
 {
     gates::asking::accept(parties, field::index(field::SIZE), c)
 }
 
 // Questions 1 and 3 to 7: what is asked where no party calls.
 pub fn ask_setting(parties: usize, c: &[Word]) -> Verdict
-    ensures { verdict_of result ≡ (ask_parties parties then ask_circuit parties size c.now) }
+    ensures { verdict_was result ≡ (ask_parties parties then ask_circuit parties size c.now) }
 {
     match ask_parties(parties) {
         Verdict::Refused { number, index } => {
@@ -180,7 +180,7 @@ pub fn ask_setting(parties: usize, c: &[Word]) -> Verdict
 
 // Questions 1 and 2.
 fn ask_party(parties: usize, me: usize) -> Verdict
-    ensures { verdict_of result ≡ (ask_parties parties then ask 2 0 (ltb me parties)) }
+    ensures { verdict_was result ≡ (ask_parties parties then ask 2 0 (ltb me parties)) }
 {
     match ask_parties(parties) {
         Verdict::Refused { number, index } => {
@@ -269,7 +269,7 @@ fn is_wanted(c: &[Word], sort: Sort, k: usize) -> bool
 // Question 15 of one slot. Whether it is wanted is asked only if its number is no element.
 fn ask_slot(c: &[Word], l: &[Word], y: Layout, sort: Sort, t: usize) -> Verdict
     requires { Laid c.now l.now y × Within (layout c.now) (sort_of sort t) }
-    ensures { verdict_of result ≡ slot_question size c.now l.now (wanted_of c.now sort t) (sort_of sort t) }
+    ensures { verdict_was result ≡ slot_question size c.now l.now (wanted_of c.now sort t) (sort_of sort t) }
 {
     let at = protocol::offset_of(y, slot_at(sort, t));
     if l[at] < field::SIZE {
@@ -287,7 +287,7 @@ fn ask_slot(c: &[Word], l: &[Word], y: Layout, sort: Sort, t: usize) -> Verdict
 // Question 15 of the slots of one sort below k, which stand side by side. Where all their numbers are elements, none is looked at alone.
 fn ask_slots(c: &[Word], l: &[Word], y: Layout, k: usize, sort: Sort) -> Verdict
     requires { Laid c.now l.now y × ((t : ℕ) → t < k → Within (layout c.now) (sort_of sort t)) }
-    ensures { verdict_of result ≡ ask_slots size c.now l.now k (wanted_of c.now sort) (sort_of sort) }
+    ensures { verdict_was result ≡ ask_slots size c.now l.now k (wanted_of c.now sort) (sort_of sort) }
 {
     if k == 0 {
         return Verdict::Accepted;
@@ -313,7 +313,7 @@ fn ask_slots(c: &[Word], l: &[Word], y: Layout, k: usize, sort: Sort) -> Verdict
 // Question 15: the gates before j, and the opened entries that are not yet checked.
 fn ask_worked(c: &[Word], l: &[Word], y: Layout, at: Site, r: Round) -> Verdict
     requires { Posed c.now l.now y at (round_of r) }
-    ensures { verdict_of result ≡ ask_worked size c.now l.now at.gate (round_of r) }
+    ensures { verdict_was result ≡ ask_worked size c.now l.now at.gate (round_of r) }
 {
     let j = at.gate;
     let opened = rounds::opened_in(at.unchecked, r);
@@ -340,7 +340,7 @@ fn ask_worked(c: &[Word], l: &[Word], y: Layout, at: Site, r: Round) -> Verdict
 
 // Questions 16 and 17, where that many opened entries were unchecked when the gate was reached.
 fn ask_coefficients(unchecked: usize, r: Round, coefficients: &[Word]) -> Verdict
-    ensures { verdict_of result
+    ensures { verdict_was result
         ≡ (ask 16 0 (eqb (length coefficients.now) (coefficients_in unchecked (round_of r))) then elements 17 size coefficients.now) }
 {
     if coefficients.len() != rounds::coefficients_in(unchecked, r) {
@@ -354,7 +354,7 @@ fn ask_coefficients(unchecked: usize, r: Round, coefficients: &[Word]) -> Verdic
 
 // Questions 25 and 18, of the lengths of the nonce and of the outgoing list.
 fn ask_lengths(s: Shape, r: Round, nonce: usize, room: usize) -> Verdict
-    ensures { verdict_of result
+    ensures { verdict_was result
         ≡ (ask 25 0 (eqb nonce (nonce_in (round_of r))) then ask 18 0 (leb (shape_words (shape_of s) (round_of r)) room)) }
 {
     if nonce != rounds::nonce_in(r) {
@@ -384,7 +384,7 @@ fn ask_send_round(
     room: usize,
 ) -> Verdict
     requires { Posed c.now l.now y at (round_of r) }
-    ensures { verdict_of result ≡ ask_send_round size c.now l.now at.gate coefficients.now nonce.now room (round_of r) }
+    ensures { verdict_was result ≡ ask_send_round size c.now l.now at.gate coefficients.now nonce.now room (round_of r) }
 {
     match ask_worked(c, l, y, at, r) {
         Verdict::Refused { number, index } => {
@@ -412,7 +412,7 @@ fn ask_receive_round(
     heard: &[Word],
 ) -> Verdict
     requires { Posed c.now l.now y at (round_of r) × (parties ≤ 8) }
-    ensures { verdict_of result ≡ ask_receive_round size c.now parties l.now at.gate heard.now (round_of r) }
+    ensures { verdict_was result ≡ ask_receive_round size c.now parties l.now at.gate heard.now (round_of r) }
 {
     match ask_worked(c, l, y, at, r) {
         Verdict::Refused { number, index } => {

@@ -3,7 +3,7 @@
 use native.Mathlib.Omega.{arith}
 use mathlib.Core.Path.{sym, ap, ◌∙◌}
 use Rattle.field.specs.Words.{size}
-use Rattle.circuit.specs.Code.{verdict_of}
+use Rattle.circuit.specs.Code.{verdict_was}
 use Rattle.circuit.proofs.Verdicts.{elements_below}
 use Rattle.protocol.specs.Entry.{leave}
 use Rattle.scaling.specs.Scale.{refusal_number}
@@ -17,18 +17,18 @@ returns-then-by-ge-SIZE c =
     record { returned = rw e; values = rw e }
 
 pub returns-in-Refused : goal.returns-in-Refused
-unfolding refusal_number leave verdict_of
+unfolding refusal_number leave verdict_was
 returns-in-Refused c =
-    let e = numbers_refused c.args.by _ (omega arith) (sym c.ask_elements.ensures ∙ ap verdict_of c.in-Refused.is) in
+    let e = numbers_refused c.args.by _ (omega arith) (sym c.ask_elements.ensures ∙ ap verdict_was c.in-Refused.is) in
     record { returned = rw e; values = rw e }
 
 pub scale-requires : goal.scale-requires
-unfolding verdict_of
+unfolding verdict_was
 scale-requires c =
-    (omega arith, elements_below 2 size _ (omega arith) (sym c.ask_elements.ensures ∙ ap verdict_of c.in-Accepted.is))
+    (omega arith, elements_below 2 size _ (omega arith) (sym c.ask_elements.ensures ∙ ap verdict_was c.in-Accepted.is))
 
 pub returns : goal.returns
-unfolding refusal_number leave verdict_of
+unfolding refusal_number leave verdict_was
 returns c =
-    let e = numbers_accepted c.args.by _ (omega arith) (sym c.ask_elements.ensures ∙ ap verdict_of c.in-Accepted.is) in
+    let e = numbers_accepted c.args.by _ (omega arith) (sym c.ask_elements.ensures ∙ ap verdict_was c.in-Accepted.is) in
     record { returned = rw e; values = rw e c.scale.ensures }

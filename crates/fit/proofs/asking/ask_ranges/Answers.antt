@@ -2,7 +2,7 @@
 -- Assumes nothing.
 use native.Mathlib.Omega.{arith}
 use borrow.Author.Tests.{eq-eqb, ne_eqb}
-use Rattle.circuit.specs.Code.{verdict_of}
+use Rattle.circuit.specs.Code.{verdict_was}
 use Rattle.circuit.proofs.Loops.{asking_starts, asking_goes_on, asking_refuses, asking_ends, yes_then, no_then}
 use Rattle.fit.proofs.Questions.{range_yes, range_no}
 use Rattle.fit.proofs.asking.ask_ranges.Goals as goal
@@ -12,7 +12,7 @@ overflow_mul-ins c =
     omega (arith, c.requires)
 
 pub returns-then-ranges-ins : goal.returns-then-ranges-ins
-unfolding verdict_of
+unfolding verdict_was
 returns-then-ranges-ins c =
     no_then 26 0 _ (ne_eqb _ _ c.if-ranges-ins.true)
 
@@ -25,7 +25,7 @@ interval_at-requires c =
     omega (arith, c.if-ranges-ins.false, c.loop-k-test.true)
 
 pub returns-then-not-range_ok : goal.returns-then-not-range_ok
-unfolding verdict_of
+unfolding verdict_was
 returns-then-not-range_ok c =
     yes_then 26 0 _ (eq-eqb _ _ c.if-ranges-ins.false) (asking_refuses _ _ _ c.loop-k.invariant c.loop-k-test.true (range_no _ _ c.range_ok.ensures c.interval_at.ensures c.if-not-range_ok.true-raw))
 
@@ -42,6 +42,6 @@ loop-k-preserved c =
     asking_goes_on _ _ _ c.loop-k.invariant c.loop-k-test.true (range_yes _ _ c.range_ok.ensures c.interval_at.ensures c.if-not-range_ok.false-raw)
 
 pub returns : goal.returns
-unfolding verdict_of
+unfolding verdict_was
 returns c =
     yes_then 26 0 _ (eq-eqb _ _ c.if-ranges-ins.false) (asking_ends _ _ _ c.loop-k.invariant c.loop-k-test.false)

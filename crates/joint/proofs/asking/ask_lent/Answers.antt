@@ -2,7 +2,7 @@
 -- Assumes nothing.
 use mathlib.Core.Path.{◌∙◌}
 use native.Mathlib.Omega.{arith}
-use Rattle.circuit.specs.Code.{verdict_of}
+use Rattle.circuit.specs.Code.{verdict_was}
 use Rattle.circuit.proofs.Loops.{call_then, refused_then}
 use Rattle.joint.proofs.Measures.{preps_few, sizes_few, ins_are, outs_are, words_are, words_few, coefficients_are, checks_are, checks_few}
 use Rattle.joint.proofs.Accepting.{lent_asked}
@@ -17,7 +17,7 @@ overflow_mul-f-2 c =
     omega (arith, sizes_few c.requires.0 c.requires.2 c.requires.1)
 
 pub returns-in-Refused : goal.returns-in-Refused
-unfolding verdict_of
+unfolding verdict_was
 returns-in-Refused c =
     let a = c.args in refused_then _ _ c.ask_lists.ensures c.in-Refused.is ∙ lent_asked a.f.parties a.c.now a.preps.now a.inputs.now a.room a.coefficients.now a.nonces a.transcript a.outputs c.requires.2.prep (ins_are c.requires.0 c.requires.2 c.requires.3) c.requires.2.scratch (coefficients_are c.requires.0 c.requires.2 c.requires.3) (checks_are c.requires.0 c.requires.2 c.requires.3) (words_are c.requires.0 c.requires.2 c.requires.3) (outs_are c.requires.0 c.requires.2 c.requires.3)
 
@@ -34,6 +34,6 @@ overflow_mul-f-5 c =
     omega (arith, words_few c.requires.0 c.requires.2 c.requires.3 c.requires.1)
 
 pub returns : goal.returns
-unfolding verdict_of
+unfolding verdict_was
 returns c =
     let a = c.args in call_then _ _ c.ask_lists.ensures c.in-Accepted.is c.ask_rooms.ensures ∙ lent_asked a.f.parties a.c.now a.preps.now a.inputs.now a.room a.coefficients.now a.nonces a.transcript a.outputs c.requires.2.prep (ins_are c.requires.0 c.requires.2 c.requires.3) c.requires.2.scratch (coefficients_are c.requires.0 c.requires.2 c.requires.3) (checks_are c.requires.0 c.requires.2 c.requires.3) (words_are c.requires.0 c.requires.2 c.requires.3) (outs_are c.requires.0 c.requires.2 c.requires.3)

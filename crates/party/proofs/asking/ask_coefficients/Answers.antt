@@ -2,12 +2,12 @@
 -- Assumes nothing.
 use mathlib.Core.Path.{sym, ◌∙◌}
 use borrow.Author.Tests.{eq-eqb, ne_eqb}
-use Rattle.circuit.specs.Code.{verdict_of}
+use Rattle.circuit.specs.Code.{verdict_was}
 use Rattle.circuit.proofs.Loops.{yes_then, no_then}
 use Rattle.party.proofs.asking.ask_coefficients.Goals as goal
 
 pub returns-then-coefficients-coefficients_in : goal.returns-then-coefficients-coefficients_in
-unfolding verdict_of
+unfolding verdict_was
 returns-then-coefficients-coefficients_in c =
     no_then 16 0 _ (ne_eqb _ _ (λ e. c.if-coefficients-coefficients_in.true (e ∙ sym c.coefficients_in.ensures)))
 

@@ -1,7 +1,7 @@
 -- `party::asking::ask_heard` meets its contract: each round has its own question of the words received.
 -- Assumes nothing.
 use mathlib.Core.Path.{refl}
-use Rattle.circuit.specs.Code.{verdict_of}
+use Rattle.circuit.specs.Code.{verdict_was}
 use Rattle.party.proofs.asking.ask_heard.Goals as goal
 
 pub ask_shares-requires : goal.ask_shares-requires
@@ -17,7 +17,7 @@ returns-in-Open c =
     rw c.in-Open.is c.ask_elements-in-Open.ensures
 
 pub returns-in-Commit : goal.returns-in-Commit
-unfolding verdict_of
+unfolding verdict_was
 returns-in-Commit c =
     rw c.in-Commit.is
 

@@ -3,14 +3,14 @@
 use lib.ListN.{length}
 use mathlib.Core.Path.{refl, sym, ap, ◌∙◌}
 use native.Mathlib.Omega.{arith}
-use Rattle.circuit.specs.Code.{verdict_of}
+use Rattle.circuit.specs.Code.{verdict_was}
 use Rattle.circuit.proofs.Loops.{call_then, refused_then}
 use Rattle.party.specs.Code.{lent_of}
 use Rattle.party.proofs.Lending.{lists_counted, lent_split, survey_refused, survey_passed, survey_valid, survey_counted, refused_first, passed_first, gates_are, layout_is, capacity_low, site_is, parties_low}
 use Rattle.party.proofs.asking.ask_lent.Goals as goal
 
 pub returns-in-Refused : goal.returns-in-Refused
-unfolding lent_of verdict_of
+unfolding lent_of verdict_was
 returns-in-Refused c =
     record { asked = refused_then _ _ c.ask_party.ensures c.in-Refused.is ∙ sym (lent_split _ _); accepted = tt }
 
@@ -26,7 +26,7 @@ size_of-size-requires c =
     (parties_low _ _ c.ask_party.ensures c.in-Accepted.is, omega (arith, valid.few, gates_are c.args.c.now), omega (arith, capacity_low _ _ counted.all valid))
 
 pub returns-in-Refused-ask_lists : goal.returns-in-Refused-ask_lists
-unfolding lent_of verdict_of
+unfolding lent_of verdict_was
 returns-in-Refused-ask_lists c =
     let counted = survey_counted c.survey.ensures.accepted c.in-Accepted-survey.is in
     let passed = survey_passed c.args.parties c.index.result c.args.c.now c.survey.ensures.asked c.index.ensures c.in-Accepted-survey.is in
@@ -34,19 +34,19 @@ returns-in-Refused-ask_lists c =
     record {
       asked = call_then _ _ c.ask_party.ensures c.in-Accepted.is
           (passed_first _ passed
-          (sym (ap verdict_of c.in-Refused-ask_lists.is) ∙ c.ask_lists.ensures
+          (sym (ap verdict_was c.in-Refused-ask_lists.is) ∙ c.ask_lists.ensures
           ∙ lists_counted _ _ _ counted.all c.args.prep.now c.args.inputs.now (length c.args.l.now) c.args.parties _ layout c.size_of-size.ensures))
           ∙ sym (lent_split _ _);
       accepted = tt;
     }
 
 pub returns-in-Refused-survey : goal.returns-in-Refused-survey
-unfolding lent_of verdict_of
+unfolding lent_of verdict_was
 returns-in-Refused-survey c =
     record { asked = call_then _ _ c.ask_party.ensures c.in-Accepted.is (refused_first _ (survey_refused c.args.parties c.index.result c.args.c.now c.survey.ensures.asked c.index.ensures c.in-Refused-survey.is)) ∙ sym (lent_split _ _); accepted = tt }
 
 pub returns-in-Accepted-ask_lists : goal.returns-in-Accepted-ask_lists
-unfolding lent_of verdict_of
+unfolding lent_of verdict_was
 returns-in-Accepted-ask_lists c =
     let counted = survey_counted c.survey.ensures.accepted c.in-Accepted-survey.is in
     let passed = survey_passed c.args.parties c.index.result c.args.c.now c.survey.ensures.asked c.index.ensures c.in-Accepted-survey.is in
@@ -54,7 +54,7 @@ returns-in-Accepted-ask_lists c =
     record {
       asked = call_then _ _ c.ask_party.ensures c.in-Accepted.is
           (passed_first _ passed
-          (sym (ap verdict_of c.in-Accepted-ask_lists.is) ∙ c.ask_lists.ensures
+          (sym (ap verdict_was c.in-Accepted-ask_lists.is) ∙ c.ask_lists.ensures
           ∙ lists_counted _ _ _ counted.all c.args.prep.now c.args.inputs.now (length c.args.l.now) c.args.parties _ layout c.size_of-size.ensures))
           ∙ sym (lent_split _ _);
       accepted = (layout, refl, λ h. site_is _ _ _ (counted.here (omega (arith, h))) h refl refl refl refl);

@@ -1,7 +1,7 @@
 -- `party::asking::ask_receive` meets its contract: 1 to 13 are asked, then 14 of the position's half, then the questions of its round.
 -- Assumes nothing.
 use mathlib.Core.Path.{sym, ap, ◌∙◌}
-use Rattle.circuit.specs.Code.{verdict_of}
+use Rattle.circuit.specs.Code.{verdict_was}
 use Rattle.protocol.specs.Position.{when_receiving}
 use Rattle.protocol.specs.Code.{stage_of}
 use Rattle.protocol.specs.Ask.{ask_receive}
@@ -21,17 +21,17 @@ returns-in-Refused c =
     record { asked = placed_refuses _ _ _ _ (sym c.ask_place.ensures.asked ∙ ap lent_of c.in-Refused.is); accepted = tt }
 
 pub returns-in-Refused-ask_receive_round : goal.returns-in-Refused-ask_receive_round
-unfolding verdict_of asked_of
+unfolding verdict_was asked_of
 returns-in-Refused-ask_receive_round c =
     let place = round_at_lem _ _ _ c.ask_place.ensures.accepted c.in-Accepted.is in
-    record { asked = receive_asked _ _ _ _ _ place _ (ap stage_of c.in-Receive.is) _ (sym (ap verdict_of c.in-Refused-ask_receive_round.is) ∙ c.ask_receive_round.ensures); accepted = tt }
+    record { asked = receive_asked _ _ _ _ _ place _ (ap stage_of c.in-Receive.is) _ (sym (ap verdict_was c.in-Refused-ask_receive_round.is) ∙ c.ask_receive_round.ensures); accepted = tt }
 
 pub returns-in-Accepted-ask_receive_round : goal.returns-in-Accepted-ask_receive_round
-unfolding verdict_of asked_of
+unfolding verdict_was asked_of
 returns-in-Accepted-ask_receive_round c =
     let place = round_at_lem _ _ _ c.ask_place.ensures.accepted c.in-Accepted.is in
     let stage = ap stage_of c.in-Receive.is in
-    let told = ap verdict_of c.in-Accepted-ask_receive_round.is in
+    let told = ap verdict_was c.in-Accepted-ask_receive_round.is in
     record { asked = receive_asked _ _ _ _ _ place _ stage _ (sym told ∙ c.ask_receive_round.ensures); accepted = receivable _ _ _ _ _ place _ stage _ (sym c.ask_receive_round.ensures ∙ told) }
 
 pub returns-in-Send : goal.returns-in-Send

@@ -2,7 +2,7 @@
 -- Assumes nothing.
 use native.Mathlib.Omega.{arith}
 use borrow.Author.Tests.{lt-ltb, le-ltb}
-use Rattle.circuit.specs.Code.{verdict_of}
+use Rattle.circuit.specs.Code.{verdict_was}
 use Rattle.circuit.proofs.Verdicts.{ask_yes, ask_no}
 use Rattle.circuit.proofs.Loops.{asking_starts, asking_goes_on, asking_refuses, asking_ends}
 use Rattle.party.proofs.asking.ask_shares.Goals as goal
@@ -24,7 +24,7 @@ bounds-heard-share c =
     omega (arith, c.requires)
 
 pub returns-then-heard-share-ge-SIZE : goal.returns-then-heard-share-ge-SIZE
-unfolding verdict_of
+unfolding verdict_was
 returns-then-heard-share-ge-SIZE c =
     asking_refuses _ _ _ c.loop-i.invariant (omega arith) (ask_no _ _ (le-ltb _ _ c.if-heard-share-ge-SIZE.true))
 
@@ -33,6 +33,6 @@ loop-i-preserved c =
     asking_goes_on _ _ _ c.loop-i.invariant (omega arith) (ask_yes _ _ (lt-ltb _ _ c.if-heard-share-ge-SIZE.false))
 
 pub returns : goal.returns
-unfolding verdict_of
+unfolding verdict_was
 returns c =
     asking_ends _ _ _ c.loop-i.invariant (omega arith)

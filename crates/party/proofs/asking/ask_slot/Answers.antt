@@ -2,7 +2,7 @@
 -- Assumes nothing.
 use mathlib.Core.Path.{sym, ap₂, ◌∙◌}
 use native.Mathlib.Omega.{arith}
-use Rattle.circuit.specs.Code.{verdict_of}
+use Rattle.circuit.specs.Code.{verdict_was}
 use Rattle.protocol.specs.Scratch.{offset, read}
 use Rattle.party.specs.Code.{sort_of}
 use Rattle.protocol.proofs.Slots.{slot_fits}
@@ -22,17 +22,17 @@ bounds-l-at c =
     rw (c.offset_of-at.ensures ∙ ap₂ offset c.requires.0.lay c.slot_at.ensures) (slot_fits _ (sort_of c.args.sort c.args.t) c.requires.0.room c.requires.1)
 
 pub returns-then-l-at-lt-SIZE : goal.returns-then-l-at-lt-SIZE
-unfolding verdict_of read
+unfolding verdict_was read
 returns-then-l-at-lt-SIZE c =
     fine _ _ _ _ _ (rw (c.offset_of-at.ensures ∙ ap₂ offset c.requires.0.lay c.slot_at.ensures) at c.if-l-at-lt-SIZE.true)
 
 pub returns-then-is_wanted : goal.returns-then-is_wanted
-unfolding verdict_of read
+unfolding verdict_was read
 returns-then-is_wanted c =
     let place = c.offset_of-at.ensures ∙ ap₂ offset c.requires.0.lay c.slot_at.ensures in
     too_large _ _ _ _ _ (sym c.is_wanted.ensures ∙ c.if-is_wanted.true) place (rw place at c.if-l-at-lt-SIZE.false)
 
 pub returns : goal.returns
-unfolding verdict_of
+unfolding verdict_was
 returns c =
     unwanted _ _ _ _ _ (sym c.is_wanted.ensures ∙ c.if-is_wanted.false)

@@ -6,7 +6,7 @@ use mathlib.Core.Path.{◌≡◌, sym, ap, ap₂, ◌∙◌}
 use mathlib.Core.List.{List}
 use lib.ListN.{length}
 use native.Mathlib.Omega.{arith}
-use Rattle.circuit.specs.Code.{verdict_of}
+use Rattle.circuit.specs.Code.{verdict_was}
 use Rattle.circuit.proofs.Verdicts.{each_none}
 use Rattle.protocol.specs.declared.Layout.{Layout}
 use Rattle.protocol.specs.declared.Slot.{Slot}
@@ -29,7 +29,7 @@ module _ {c l : List ℕ} {y : Layout} {k : ℕ} (sort : Sort) (pre : Laid c l y
   fits s some e f = rw (place s e f) (slots_fit (layout c) sort k (length l) pre.0.room some pre.1)
 
 pub returns-then-k-eq0 : goal.returns-then-k-eq0
-unfolding verdict_of ask_slots
+unfolding verdict_was ask_slots
 returns-then-k-eq0 c =
     rw c.if-k-eq0.true (sym (each_none _))
 
@@ -50,7 +50,7 @@ slice_bounds-all_elements-end c =
     fits c.args.sort c.requires c.slot_at.result c.if-k-eq0.false c.offset_of-from.ensures c.slot_at.ensures
 
 pub returns-then-all_elements : goal.returns-then-all_elements
-unfolding verdict_of
+unfolding verdict_was
 returns-then-all_elements c =
     sym (slots_fine _ _ _ c.args.sort _ _ (place c.args.sort c.requires c.slot_at.result c.offset_of-from.ensures c.slot_at.ensures)
     (fits c.args.sort c.requires c.slot_at.result c.if-k-eq0.false c.offset_of-from.ensures c.slot_at.ensures)
@@ -65,16 +65,16 @@ ask_slot-requires c =
     (c.requires.0, c.requires.1 _ (omega arith))
 
 pub returns-in-Refused : goal.returns-in-Refused
-unfolding verdict_of ask_slots
+unfolding verdict_was ask_slots
 returns-in-Refused c =
-    asking_refuses _ _ _ c.loop-t.invariant (omega arith) (sym c.ask_slot.ensures ∙ ap verdict_of c.in-Refused.is)
+    asking_refuses _ _ _ c.loop-t.invariant (omega arith) (sym c.ask_slot.ensures ∙ ap verdict_was c.in-Refused.is)
 
 pub loop-t-preserved : goal.loop-t-preserved
-unfolding verdict_of
+unfolding verdict_was
 loop-t-preserved c =
-    asking_goes_on _ _ _ c.loop-t.invariant (omega arith) (sym c.ask_slot.ensures ∙ ap verdict_of c.in-Accepted.is)
+    asking_goes_on _ _ _ c.loop-t.invariant (omega arith) (sym c.ask_slot.ensures ∙ ap verdict_was c.in-Accepted.is)
 
 pub returns : goal.returns
-unfolding verdict_of ask_slots
+unfolding verdict_was ask_slots
 returns c =
     asking_ends _ _ _ c.loop-t.invariant (omega arith)
