@@ -9,17 +9,17 @@ pub heard_sum-requires : goal.heard_sum-requires
 heard_sum-requires c =
     (omega arith, c.requires.1, shares_low _ c.args.heard.now c.requires.2)
 
+pub returns-in-Some : goal.returns-in-Some
+unfolding blame_of ruling_of
+returns-in-Some c =
+    weighs_named _ _ (rw c.in-Some.is at c.misfit.ensures)
+
 pub returns-then-heard_sum-ne0 : goal.returns-then-heard_sum-ne0
 unfolding blame_of ruling_of
 returns-then-heard_sum-ne0 c =
-    weighs_nonzero _ (rw c.in-Nobody.is at c.misfit.ensures) c.heard_sum.ensures.is c.if-heard_sum-ne0.true
+    weighs_nonzero _ (rw c.in_default.is at c.misfit.ensures) c.heard_sum.ensures.is c.if-heard_sum-ne0.true
 
-pub returns-in-Blames : goal.returns-in-Blames
+pub returns : goal.returns
 unfolding blame_of ruling_of
-returns-in-Blames c =
-    weighs_named _ _ (rw c.in-Blames.is at c.misfit.ensures)
-
-pub returns-else-heard_sum-ne0 : goal.returns-else-heard_sum-ne0
-unfolding blame_of ruling_of
-returns-else-heard_sum-ne0 c =
-    weighs_zero _ (rw c.in-Nobody.is at c.misfit.ensures) c.heard_sum.ensures.is c.if-heard_sum-ne0.false
+returns c =
+    weighs_zero _ (rw c.in_default.is at c.misfit.ensures) c.heard_sum.ensures.is c.if-heard_sum-ne0.false
