@@ -7,7 +7,8 @@ use mathlib.Core.List.{List, [], ◌∷◌, ◌++◌, append-nil}
 use native.Mathlib.Omega.{arith}
 use native.Mathlib.Numerals.{add-one}
 use native.Mathlib.Nat.{zero-add, suc-add}
-use Rattle.std.specs.Prelude.{Option, None, Some, MatchOption}
+use borrow.Author.Rules.{rules}
+use Rattle.std.specs.Prelude.{Option, None, Some, MatchOption, is_some}
 use lib.ListN.{length, get_or, take, drop, set, length-set, drop_of_length-le}
 use lib.Seq.{drop-drop}
 use lib.Dec.{eqb}
@@ -131,11 +132,17 @@ pub shares_low : {q : ℕ} (n : ℕ) (heard : List ℕ) → ((i : ℕ) → i < n
 shares_low n heard h i l = let e : i * reveal_words + 0 ≡ i * reveal_words = omega arith in rw e (h i l)
 
 -- a reveal ends by whom it names, and else by the sum
-pub weighs_named : {b : Blame} (z : Bool) (i : ℕ) → Blames i ≡ b → Stopped (Blames i) ≡ weighs b z
-weighs_named z i e = rw (← e)
+pub weighs_named : {b : Blame} (r : Option ℕ) (z : Bool) → blame_of r ≡ b → is_some r ≡ true → Stopped (blame_of r) ≡ weighs b z
+unfolding blame_of
+weighs_named None z e h = absurd (search rules)
+weighs_named (Some i) z e h = rw (← e)
 
-pub weighs_nonzero : {b : Blame} (v : ℕ) {e : ℕ} → Nobody ≡ b → e ≡ v → (e ≡ 0 → ⊥) → Stopped Nobody ≡ weighs b (eqb v 0)
-weighs_nonzero v n f h = rw (← n, ne_eqb v 0 (λ z. h (f ∙ z)))
+pub weighs_nonzero : {b : Blame} (r : Option ℕ) (v : ℕ) {e : ℕ} → blame_of r ≡ b → is_some r ≡ false → e ≡ v → (e ≡ 0 → ⊥) → Stopped (blame_of r) ≡ weighs b (eqb v 0)
+unfolding blame_of
+weighs_nonzero None v n s f h = rw (← n, ne_eqb v 0 (λ z. h (f ∙ z)))
+weighs_nonzero (Some i) v n s f h = absurd (search rules)
 
-pub weighs_zero : {b : Blame} (v : ℕ) {e : ℕ} → Nobody ≡ b → e ≡ v → e ≡ 0 → Passed ≡ weighs b (eqb v 0)
-weighs_zero v n f h = rw (← n, eq-eqb v 0 (sym f ∙ h))
+pub weighs_zero : {b : Blame} (r : Option ℕ) (v : ℕ) {e : ℕ} → blame_of r ≡ b → is_some r ≡ false → e ≡ v → e ≡ 0 → Passed ≡ weighs b (eqb v 0)
+unfolding blame_of
+weighs_zero None v n s f h = rw (← n, eq-eqb v 0 (sym f ∙ h))
+weighs_zero (Some i) v n s f h = absurd (search rules)

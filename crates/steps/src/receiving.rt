@@ -481,11 +481,9 @@ pub fn judge(parties: usize, marks: &[Word], heard: &[Word]) -> Ruling
     ensures { ruling_of result
         ≡ weighs (misfit parties marks.now heard.now) (eqb (heard_sum ops parties reveal_words 0 heard.now) 0) }
 {
-    if let Some(party) = misfit(parties, marks, heard) {
-        return Err(Some(party));
-    }
-    if heard_sum(parties, REVEAL_WORDS, 0, heard) != 0 {
-        return Err(None);
+    let blame = misfit(parties, marks, heard);
+    if blame.is_some() || heard_sum(parties, REVEAL_WORDS, 0, heard) != 0 {
+        return Err(blame);
     }
     Ok(())
 }
