@@ -81,19 +81,13 @@ fn scan(parties: usize, size: usize, c: &[Word], count: usize) -> Result<(), Ref
         let s = reading::shape_at(c, j);
         for k in 0..OPERANDS {
             let role = shapes::role_of(s, k + 1);
-            ask(
-                Question::Named,
-                j,
-                name_ok(parties, c, j, field::index(c[at + 1 + k]), role),
-            )?;
+            let named = name_ok(parties, c, j, field::index(c[at + 1 + k]), role);
+            ask(Question::Named, j, named)?;
         }
         for t in 0..OPERANDS {
             let role = shapes::role_of(s, t + 1);
-            ask(
-                Question::Rest,
-                j,
-                rest_ok(size, field::index(c[at + 1 + t]), role),
-            )?;
+            let fits = rest_ok(size, field::index(c[at + 1 + t]), role);
+            ask(Question::Rest, j, fits)?;
         }
     }
     Ok(())
@@ -289,17 +283,11 @@ fn ask_all(parties: usize, size: usize, c: &[Word], yes: bool) -> Result<(), Ref
 {
     let count = c.len() / reading::GATE_SIZE;
     let whole = c.len() % reading::GATE_SIZE == 0;
-    ask(
-        Question::CircuitSize,
-        NO_GATE,
-        whole && FEWEST_GATES <= count && count <= MOST_GATES,
-    )?;
+    let fits = whole && FEWEST_GATES <= count && count <= MOST_GATES;
+    ask(Question::CircuitSize, NO_GATE, fits)?;
     ask_gates(parties, size, c, count, yes)?;
-    ask(
-        Question::Last,
-        NO_GATE,
-        shapes::is_out(reading::class_at(c, count - 1)),
-    )
+    let ends = shapes::is_out(reading::class_at(c, count - 1));
+    ask(Question::Last, NO_GATE, ends)
 }
 
 // Questions 4 to 6 of all gates, and what is counted before a gate and in all, in one pass. Where it finds nothing, the scan is asked.

@@ -470,14 +470,7 @@ pub fn misfit(parties: usize, marks: &[Word], heard: &[Word]) -> Blame
     requires { (parties * commit_words ≤ length marks.now) × (parties * reveal_words ≤ length heard.now) }
     ensures { blame_of result ≡ misfit parties marks.now heard.now }
 {
-    let mut party = 0;
-    while party < parties {
-        if !fits(marks, heard, party) {
-            return Blame::Blames(party);
-        }
-        party += 1;
-    }
-    Blame::Nobody
+    (0..parties).find(|party| !fits(marks, heard, *party))
 }
 
 // How a reveal ends: where all fit their marks, the sum of the check shares decides.
@@ -488,15 +481,11 @@ pub fn judge(parties: usize, marks: &[Word], heard: &[Word]) -> Ruling
     ensures { ruling_of result
         ≡ weighs (misfit parties marks.now heard.now) (eqb (heard_sum ops parties reveal_words 0 heard.now) 0) }
 {
-    match misfit(parties, marks, heard) {
-        Blame::Blames(i) => Ruling::Stopped(Blame::Blames(i)),
-        Blame::Nobody => {
-            if heard_sum(parties, REVEAL_WORDS, 0, heard) != 0 {
-                return Ruling::Stopped(Blame::Nobody);
-            }
-            Ruling::Passed
-        }
+    let blame = misfit(parties, marks, heard);
+    if blame.is_some() || heard_sum(parties, REVEAL_WORDS, 0, heard) != 0 {
+        return Err(blame);
     }
+    Ok(())
 }
 
 // The second check has passed: the linear gates after the output are done, and the next stop is found.
@@ -542,11 +531,11 @@ fn receive_reveal(
     let end = start + parties * COMMIT_WORDS;
     let ruling = judge(parties, &l[start..end], heard);
     match ruling {
-        Ruling::Stopped(_) => Conclusion {
+        Err(_) => Conclusion {
             ruling,
             point: protocol::aborted_at(at.gate),
         },
-        Ruling::Passed => match check {
+        Ok(()) => match check {
             Check::First => Conclusion {
                 ruling,
                 point: protocol::sending_at(at.gate, Round::Open),
@@ -578,20 +567,20 @@ pub fn receive_step(
 {
     match r {
         Round::Own => Conclusion {
-            ruling: Ruling::Passed,
+            ruling: Ok(()),
             point: receive_gate(parties, me, c, prep, inputs, l, y, at, heard),
         },
         Round::Open => {
             receive_output(parties, me, c, prep, inputs, l, y, at, heard);
             Conclusion {
-                ruling: Ruling::Passed,
+                ruling: Ok(()),
                 point: protocol::sending_at(at.gate, Round::Commit(Check::Second)),
             }
         }
         Round::Commit(check) => {
             scratch::put_marks(l, y, heard);
             Conclusion {
-                ruling: Ruling::Passed,
+                ruling: Ok(()),
                 point: protocol::sending_at(at.gate, Round::Reveal(check)),
             }
         }
