@@ -48,17 +48,17 @@ placed P l at half e = e ∙ then_assoc _ _ _
 module _ {A : Type 0} (other : A) (f : Round → A) where
   pub sends_nothing : (s : D.Stage) → ((r : Told) → s ≡ D.Stage.Send r → ⊥) → other ≡ At.when_sending (stage_of s) other f
   unfolding At.when_sending
-  sends_nothing (D.Stage.Send r) no = absurd (no r refl)
-  sends_nothing (D.Stage.Receive r) no = refl
-  sends_nothing D.Stage.Finished no = refl
-  sends_nothing D.Stage.Aborted no = refl
+  sends_nothing (D.Stage.Send r) never = absurd (never r refl)
+  sends_nothing (D.Stage.Receive r) never = refl
+  sends_nothing D.Stage.Finished never = refl
+  sends_nothing D.Stage.Aborted never = refl
 
   pub receives_nothing : (s : D.Stage) → ((r : Told) → s ≡ D.Stage.Receive r → ⊥) → other ≡ At.when_receiving (stage_of s) other f
   unfolding At.when_receiving
-  receives_nothing (D.Stage.Send r) no = refl
-  receives_nothing (D.Stage.Receive r) no = absurd (no r refl)
-  receives_nothing D.Stage.Finished no = refl
-  receives_nothing D.Stage.Aborted no = refl
+  receives_nothing (D.Stage.Send r) never = refl
+  receives_nothing (D.Stage.Receive r) never = absurd (never r refl)
+  receives_nothing D.Stage.Finished never = refl
+  receives_nothing D.Stage.Aborted never = refl
 
 -- what the code makes of a round's end is what is defined
 leads_is : (P : Party) (j held : ℕ) (r : Round) {told : Bool} {output : Option ℕ} (w : ℕ) (v : Ruling)
