@@ -1,4 +1,4 @@
-// What is done to a share and its MAC share alike.
+// Shares with their MAC shares, and what is done to both alike.
 ghost use Rattle.std.specs.Prelude.{cond, ◌+◌, ◌<◌, length, eqb};
 ghost use Rattle.algebra.specs.Element.{Is};
 ghost use Rattle.field.specs.Words.{size, ops};
@@ -6,9 +6,15 @@ ghost use Rattle.protocol.specs.Part.{part_at, plus, minus, scale, known, shift,
 ghost use Rattle.protocol.specs.Holding.{Below};
 ghost use Rattle.steps.specs.Code.{part_of, Low, IsPart};
 
-use crate::Part;
 use field::Word;
 use std::ops::{Add, Sub};
+
+// A party's share of a value, and its MAC share.
+#[derive(Clone, Copy)]
+pub struct Part {
+    pub share: Word,
+    pub mac: Word,
+}
 
 // Shares and MAC shares are added alike.
 impl Add for Part {

@@ -18,10 +18,10 @@ ghost use Rattle.protocol.specs.Code.{layout_of, point_of, blame_of, ruling_of};
 ghost use Rattle.protocol.specs.Ready.{Opening, Settles, Stands, Ready, Receives, Named, Summed};
 ghost use Rattle.steps.specs.Code.{IsPart, Concludes};
 
-use crate::{Conclusion, Ends, Part, Sums, parts, scratch, sending};
+use crate::{Conclusion, Ends, Part, parts, scratch, sending};
 use circuit::rounds::{COMMIT_WORDS, REVEAL_WORDS};
 use circuit::{Check, Class, Kind, Role, Round};
-use field::Word;
+use field::{Sum, Word};
 use protocol::{Blame, Layout, Point, Ruling, Site, Slot, Stage};
 
 // The sum over the parties of word t of each, where each sent k.
@@ -72,19 +72,19 @@ fn heard_second(n: usize, class: Class, openings: usize, k: usize, heard: &[Word
 }
 
 // The words of one more party are heard: its first and its last are added up.
-pub fn hear(sums: Sums, ends: Ends) -> Sums
+pub fn hear(sums: Ends<Sum>, ends: Ends<Word>) -> Ends<Sum>
     requires { (sums.first < sum_room) × (sums.last < sum_room) × (ends.first < size) × (ends.last < size) }
     ensures first { (result.first < sums.first + term_size) × (ops.norm result.first ≡ ops.add (ops.norm sums.first) ends.first) }
     ensures last { (result.last < sums.last + term_size) × (ops.norm result.last ≡ ops.add (ops.norm sums.last) ends.last) }
 {
-    Sums {
+    Ends {
         first: field::add_element(sums.first, ends.first),
         last: field::add_element(sums.last, ends.last),
     }
 }
 
 // What the sums come to, once all are heard.
-pub fn heard_ends(sums: Sums) -> Ends
+pub fn heard_ends(sums: Ends<Sum>) -> Ends<Word>
     requires { (sums.first < sum_size) × (sums.last < sum_size) }
     ensures { Is size (ops.norm sums.first) result.first × Is size (ops.norm sums.last) result.last }
 {

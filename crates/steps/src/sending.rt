@@ -193,7 +193,7 @@ pub fn opening_words(
     m: &[Word],
     k: usize,
     out: &mut [Word],
-) -> Ends
+) -> Ends<Word>
     requires { (slots_size (layout_of y) ≤ length l.now)
         × Held size (layout_of y) l.now x
         × Held size (layout_of y) l.now z
