@@ -7,8 +7,9 @@ ghost use Rattle.requests.specs.Calls.{party_in};
 
 use crate::naming::{Field, stage_name};
 use crate::request::Request;
+use circuit::questions::Refusal;
 use field::Word;
-use party::{Answer, Position};
+use party::{Outcome, Position};
 use protocol::Blame;
 use std::io;
 use std::io::Write;
@@ -43,28 +44,34 @@ pub fn print_blame<W: Write>(to: &mut W, blame: Blame) -> io::Result<()> {
     }
 }
 
-pub fn print_refusal<W: Write>(to: &mut W, number: u32, index: usize) -> io::Result<()> {
-    print_named(to, b"refusal", number as usize)?;
-    printing::print_number(to, index as u64)?;
+pub fn print_refusal<W: Write>(to: &mut W, refusal: Refusal) -> io::Result<()> {
+    print_named(to, b"refusal", refusal.question.number() as usize)?;
+    printing::print_number(to, refusal.index as u64)?;
     printing::print(to, b"\n")
 }
 
-fn print_answer<W: Write>(to: &mut W, answer: Answer) -> io::Result<()> {
-    match answer {
-        Answer::Refusal { number, index } => print_refusal(to, number, index),
-        Answer::Next(at) => {
+fn print_outcome<W: Write>(to: &mut W, outcome: Outcome) -> io::Result<()> {
+    match outcome {
+        Outcome::Next(at) => {
             printing::print(to, b"next")?;
             print_position(to, at)
         }
-        Answer::Output(value, at) => {
+        Outcome::Output(value, at) => {
             print_named(to, b"output", value as usize)?;
             print_position(to, at)
         }
-        Answer::Abort(blame, at) => {
+        Outcome::Abort(blame, at) => {
             printing::print(to, b"abort")?;
             print_place(to, at)?;
             print_blame(to, blame)
         }
+    }
+}
+
+fn print_answer<W: Write>(to: &mut W, answer: Result<Outcome, Refusal>) -> io::Result<()> {
+    match answer {
+        Ok(outcome) => print_outcome(to, outcome),
+        Err(refusal) => print_refusal(to, refusal),
     }
 }
 
