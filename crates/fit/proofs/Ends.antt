@@ -16,15 +16,6 @@ use Rattle.ranges.specs.Interval.{Interval, interval, interval_size, interval_at
 use Rattle.ranges.specs.Move.{Of, change_at, capped, kind_move, gate_move}
 use Rattle.fit.specs.Code.{Fair, FairReach}
 
-module _ (lowest highest : ℕ) where
-  pub up_stays : lowest ≤ highest → highest < size → (Stays lowest highest ≡ up_to size lowest highest) × Fair (interval lowest highest)
-  unfolding up_to
-  up_stays o h = (rw (lt-ltb highest size h), record { ordered = o; low = h })
-
-  pub up_leaves : size ≤ highest → Leaves ≡ up_to size lowest highest
-  unfolding up_to
-  up_leaves h = rw (le-ltb highest size h)
-
 -- a product of words fits 64 bits
 pub product_low : {x y : ℕ} → x ≤ largest → y ≤ largest → x * y ≤ largest * largest
 product_low h g = mul-le-mul h g
@@ -32,14 +23,6 @@ product_low h g = mul-le-mul h g
 -- a product of elements, of which two fit
 pub elements_low : {x y : ℕ} → x < size → y < size → x * y ≤ size * size
 elements_low h g = mul-le-mul {n₂ = size} {m₂ = size} (omega arith) (omega arith)
-
-pub capped_low : {m : ℕ} → m < size → m ≡ capped size m
-unfolding capped
-capped_low {m} h = rw (lt-ltb m size h)
-
-pub capped_high : {m : ℕ} → size ≤ m → size - 1 ≡ capped size m
-unfolding capped
-capped_high {m} h = rw (le-ltb m size h)
 
 -- past the end of the ranges stands nothing
 pub range_none : (ranges : List ℕ) (k : ℕ) → length ranges ≤ interval_size * k → interval 0 0 ≡ interval_at ranges k
