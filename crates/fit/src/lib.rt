@@ -8,6 +8,7 @@ pub mod working;
 
 ghost use Rattle.std.specs.Prelude.{◌≡◌, length};
 ghost use Rattle.field.specs.Words.{size};
+ghost use Rattle.circuit.specs.Gate.{gates};
 ghost use Rattle.ranges.specs.Entry.{query_of, fit_answer, fit_intervals, fit_moves};
 ghost use Rattle.fit.specs.Code.{change_of, answer_of};
 
@@ -37,6 +38,14 @@ const INTERVAL_ROOM: usize = INTERVAL_SIZE * gates::asking::MOST_GATES;
 
 const MOVE_ROOM: usize = gates::asking::MOST_GATES;
 
+// How many gates a circuit has.
+#[tactic(auto, unfolding(circuit::specs::Gate::gates))]
+fn gates_of(c: &[Word]) -> usize
+    ensures { result ≡ gates c.now }
+{
+    c.len() / reading::GATE_SIZE
+}
+
 // The entry: the gate that leaves, if one does. The intervals and the moves are worked out in lists of the tool's own, so that nothing is written where a gate leaves.
 pub fn will_fit(
     parties: usize,
@@ -59,9 +68,9 @@ pub fn will_fit(
     let mut scores: [Word; MOVE_ROOM] = [0; MOVE_ROOM];
     match working::walk(c, ranges, change, &mut ends, &mut each, &mut scores) {
         Ok(outs) => {
-            let numbers = INTERVAL_SIZE * (c.len() / reading::GATE_SIZE);
-            intervals[..numbers].copy_from_slice(&ends[..numbers]);
-            moves[..outs].copy_from_slice(&scores[..outs]);
+            let numbers = INTERVAL_SIZE * gates_of(c);
+            sha256::copy(&ends[..numbers], intervals);
+            sha256::copy(&scores[..outs], moves);
             Ok(None)
         }
         Err(gate) => Ok(Some(gate)),

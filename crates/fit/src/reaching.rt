@@ -30,6 +30,7 @@ pub fn interval_at(l: &[Word], k: usize) -> Interval
 }
 
 // The range of the in gate after so many, and nothing after the last.
+#[tactic(auto, using(crate::proofs::Ends::range_none))]
 fn range_at(ranges: &[Word], ins: usize) -> Interval
     requires { (interval_size * ins ≤ length ranges.now) × (length ranges.now % interval_size ≡ 0) }
     ensures { interval_of result ≡ interval_at ranges.now ins }

@@ -49,6 +49,7 @@ fn follow(
 }
 
 // A step past gate j. Without a change there is no move.
+#[tactic(auto, using(crate::proofs::Walks::stepped_nothing))]
 fn step(
     c: &[Word],
     j: usize,
@@ -68,6 +69,7 @@ fn step(
 }
 
 // All gates in order, as far as the first that leaves, or how many scores have a move. The lists are blank at first.
+#[tactic(auto, unfolding(crate::specs::Code::found_of))]
 pub fn walk(
     c: &[Word],
     ranges: &[Word],
@@ -86,11 +88,12 @@ pub fn walk(
     ensures found { found_of result ≡ finding size c.now ranges.now (gates c.now) }
     ensures lists { Walked (change_of change) c.now ranges.now ends.new moves.new scores.new result }
 {
-    let count = c.len() / reading::GATE_SIZE;
     let mut ins = 0;
     let mut outs = 0;
-    for j in 0..count {
-        let i = reaching::reach_at(c, j, ranges, ins, ends).ok_or(j)?;
+    for j in 0..crate::gates_of(c) {
+        let Some(i) = reaching::reach_at(c, j, ranges, ins, ends) else {
+            return Err(j);
+        };
         outs = step(c, j, change, ends, moves, scores, outs);
         put_interval(ends, j, i);
         ins += counting::one_if(reading::is_input_at(c, j));
