@@ -1,18 +1,17 @@
 -- What the code finds of one gate, as the definitions have it.
 -- Assumes nothing.
-use Prim.Native.Nat.{ℕ, ◌+◌, ◌*◌, ◌-◌, ◌<◌, ◌≤◌}
+use Prim.Native.Nat.{ℕ, ◌+◌, ◌*◌, ◌<◌, ◌≤◌}
 use mathlib.Core.Path.{◌≡◌, sym, ◌∙◌}
 use mathlib.Core.List.{List}
 use native.Mathlib.Nat.{mul-le-mul}
 use native.Mathlib.Omega.{arith}
 use lib.ListN.{length, get_or, get_or-eq_default}
-use borrow.Author.Tests.{lt-ltb, le-ltb}
 use Rattle.field.specs.Words.{size, largest}
 use Rattle.algebra.specs.Element.{Is}
 use Rattle.circuit.specs.Gate.{Kind, gate}
 use Rattle.circuit.specs.Kind.{is_in}
 use Rattle.circuit.specs.Count.{count}
-use Rattle.ranges.specs.Interval.{Interval, interval, interval_size, interval_at, Reach, Stays, Leaves, up_to, kind_reach, range_at, reach}
+use Rattle.ranges.specs.Interval.{Interval, interval, interval_size, interval_at, Reach, kind_reach, range_at, reach}
 use Rattle.ranges.specs.Move.{Of, change_at, capped, kind_move, gate_move}
 use Rattle.fit.specs.Code.{Fair, FairReach}
 

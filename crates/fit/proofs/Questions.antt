@@ -1,12 +1,10 @@
 -- What the questions of the tool come to, as the code asks them.
 -- Assumes nothing.
 use Prim.Native.Nat.{ℕ, ◌+◌, ◌*◌, ◌<◌, ◌≤◌}
-use mathlib.Core.Path.{◌≡◌, refl, sym, ap, ◌∙◌}
-use mathlib.Core.Bool.{Bool, true, false, cond, not, ◌&&◌}
+use mathlib.Core.Path.{◌≡◌, refl, sym, ◌∙◌}
+use mathlib.Core.Bool.{Bool, true, cond, not}
 use mathlib.Core.List.{List}
-use native.Mathlib.Omega.{arith}
-use lib.Dec.{ltb, leb, eqb}
-use borrow.Author.Tests.{lt-ltb, leb-true, ltb-true}
+use lib.Dec.{eqb}
 use lib.ListN.{length}
 use Rattle.std.specs.Prelude.{Result, Ok, Err}
 use Rattle.std.proofs.lemmas.Bool.Decides.{nat_tests}
@@ -17,7 +15,6 @@ use Rattle.circuit.specs.declared.questions.Refusal.{Refusal}
 use Rattle.circuit.specs.Gate.{Gate, entry, gate, gates}
 use Rattle.circuit.specs.Kind.{is_in, is_out, has_value}
 use Rattle.circuit.specs.Count.{total, count, in_count}
-use Rattle.circuit.proofs.Tests.{by_cases}
 use Rattle.circuit.proofs.Counts.{bit_le, count_more, count_le}
 use Rattle.circuit.proofs.Verdicts.{each_more, each_refused, asked_on, asked_no, asked_last, then_right}
 use Rattle.circuit.proofs.Loops.{then_assoc}

@@ -1,7 +1,7 @@
 -- `fit::working::follow` meets its contract: the move of the gate is put, and an output's score has that of the gate that it names.
 -- Assumes nothing.
-use Rattle.std.proofs.Common.{rules, arith}
-use Rattle.fit.proofs.Walks.{out_said, gates_there, gates_within, stepped_out, stepped_other}
+use Rattle.std.proofs.Common.{rules}
+use Rattle.fit.proofs.Walks.{out_said, gates_within, stepped_out, stepped_other}
 use Rattle.fit.proofs.working.follow.Goals as goal
 
 pub has_value_at-requires : goal.has_value_at-requires

@@ -1,7 +1,6 @@
 -- `fit::working::walk` meets its contract: the gates before j stay, and their intervals and moves stand in the lists.
 -- Assumes nothing.
-use mathlib.Core.Path.{sym}
-use Rattle.std.proofs.Common.{◌≡◌, ◌<◌, ◌≤◌, rules, arith}
+use Rattle.std.proofs.Common.{◌<◌, ◌≤◌, arith}
 use Rattle.circuit.specs.Gate.{gates}
 use Rattle.circuit.specs.Kind.{is_in}
 use Rattle.circuit.proofs.Counts.{bit_le, count_le}
