@@ -36,7 +36,7 @@ fn take_list<W: Write>(
         Ok(n) => {
             let count = part(n, list);
             if wants_bytes(request.wanted) && !all_bytes(&list[..count]) {
-                complain(to, number, b"a byte above 255")?;
+                complain(to, number, "a byte above 255")?;
                 return Ok(dropped(request));
             }
             Ok(moved_on(with_number(request, within(n) as u32)))
