@@ -37,26 +37,12 @@ use Rattle.joint.specs.declared.Frame.{Frame}
 use Rattle.joint.specs.Code.{Course, Banded, Common, state_of, Going, Moved}
 use Rattle.joint.proofs.Going.{within, rooms as whole-rooms}
 
--- the first party's band
-pub first_band : (f : Frame) (l : List ℕ) → take f.scratch l ≡ band f.scratch l 0
-unfolding band
-first_band f l = let z : 0 * f.scratch ≡ 0 = omega arith in rw z
-
-pub first_room : {f : Frame} {l : List ℕ} → Banded f l → 0 < f.parties → f.scratch ≤ length l
-first_room {f} b some = omega (arith, band_end f.parties f.scratch 0 some, b.room)
-
 -- so their weighed sum is, which the code makes of the first party's
 pub common_sum : (f : Frame) (l : List ℕ) (k : ℕ) (coefficients : List ℕ) → Common f l k → (i : ℕ) → i < f.parties → {v : ℕ}
-    → Is size (value_sum (layout_of f.layout) (take f.scratch l) k coefficients) v
+    → Is size (value_sum (layout_of f.layout) (band f.scratch l 0) k coefficients) v
     → Is size (value_sum (layout_of f.layout) (band f.scratch l i) k coefficients) v
 common_sum f l k coefficients h i l' w =
-    record {
-      is = w.is ∙ sym (sum_ext laws k _ _ (λ t q. ap (ops.mul _) (h i l' t q ∙ first t)));
-      below = w.below;
-    }
-  where
-    first : (t : ℕ) → read (layout_of f.layout) (band f.scratch l 0) (Value t) ≡ read (layout_of f.layout) (take f.scratch l) (Value t)
-    first t = ap (λ (x : List ℕ). read (layout_of f.layout) x (Value t)) (sym (first_band f l))
+    record { is = w.is ∙ sym (sum_ext laws k _ _ (λ t q. ap (ops.mul _) (h i l' t q))); below = w.below }
 
 module _ (O : Ops) (y : Layout) {t : ℕ} (w : t < y.capacity) where
   -- a wire that is written leaves opened values, and so do linear gates

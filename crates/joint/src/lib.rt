@@ -3,6 +3,7 @@
 
 mod asking;
 mod framing;
+mod parts;
 mod receiving;
 mod rounds;
 mod sending;
