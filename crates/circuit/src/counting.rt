@@ -5,15 +5,12 @@ ghost use Rattle.circuit.specs.Round.{shape_words, coefficients_in, commits_in, 
 ghost use Rattle.circuit.specs.Accept.{most_gates};
 ghost use Rattle.circuit.specs.Code.{class_of, shape_of, Tallied};
 
-use crate::{Shape, Tally, rounds, shapes};
+use crate::{Class, Shape, Tally, rounds, shapes};
 
 pub fn one_if(b: bool) -> usize
     ensures { result ≡ cond b 1 0 }
 {
-    if b {
-        return 1;
-    }
-    0
+    usize::from(b)
 }
 
 // How many entries are unchecked after a gate.
@@ -21,11 +18,11 @@ pub fn unchecked_after(s: Shape, unchecked: usize) -> usize
     requires { (unchecked ≤ 2 * most_gates) × (s.openings ≤ 2) }
     ensures { result ≡ unchecked_after (shape_of s) unchecked }
 {
-    let class = s.class;
-    if shapes::is_out(class) {
-        return 0;
+    if shapes::is_out(s.class) {
+        0
+    } else {
+        unchecked + s.openings
     }
-    unchecked + s.openings
 }
 
 // How many words a party sends in all rounds of a gate.
@@ -34,17 +31,12 @@ pub fn words_of(s: Shape, unchecked: usize) -> usize
     ensures { result ≡ over_rounds (shape_words (shape_of s)) (class_rounds unchecked (class_of s.class)) }
 {
     let check = rounds::COMMIT_WORDS + rounds::REVEAL_WORDS;
-    let class = s.class;
-    if shapes::is_linear(class) {
-        return 0;
+    match s.class {
+        Class::Local => 0,
+        Class::Owned | Class::Opens => s.words,
+        Class::Output if unchecked == 0 => s.words + check,
+        Class::Output => check + s.words + check,
     }
-    if !shapes::is_out(class) {
-        return s.words;
-    }
-    if unchecked == 0 {
-        return s.words + check;
-    }
-    check + s.words + check
 }
 
 // How many coefficients all rounds of a gate take.
@@ -52,25 +44,22 @@ pub fn coefficients_of(s: Shape, unchecked: usize) -> usize
     requires { unchecked ≤ 2 * most_gates }
     ensures { result ≡ over_rounds (coefficients_in unchecked) (class_rounds unchecked (class_of s.class)) }
 {
-    let class = s.class;
-    if shapes::is_out(class) {
-        return unchecked + 1;
+    if shapes::is_out(s.class) {
+        unchecked + 1
+    } else {
+        0
     }
-    0
 }
 
 // How many checks a gate has.
 pub fn checks_of(s: Shape, unchecked: usize) -> usize
     ensures { result ≡ over_rounds commits_in (class_rounds unchecked (class_of s.class)) }
 {
-    let class = s.class;
-    if !shapes::is_out(class) {
-        return 0;
+    match s.class {
+        Class::Output if unchecked == 0 => 1,
+        Class::Output => 2,
+        Class::Local | Class::Owned | Class::Opens => 0,
     }
-    if unchecked == 0 {
-        return 1;
-    }
-    2
 }
 
 // Nothing is counted yet.

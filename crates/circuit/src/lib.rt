@@ -13,22 +13,23 @@ pub enum Verdict {
     Refused { number: u32, index: usize },
 }
 
-#[derive(Clone, Copy)]
+// Each kind has its number.
+#[derive(Clone, Copy, PartialEq, Eq)]
 pub enum Kind {
-    In,
-    Add,
-    Sub,
-    Plus,
-    Times,
-    Mul,
-    Out,
-    Sq,
-    Give,
-    Over,
+    In = 1,
+    Add = 2,
+    Sub = 3,
+    Plus = 4,
+    Times = 5,
+    Mul = 6,
+    Out = 7,
+    Sq = 8,
+    Give = 9,
+    Over = 10,
 }
 
 // Worked out alone; an input of one party; opens values; an output.
-#[derive(Clone, Copy)]
+#[derive(Clone, Copy, PartialEq, Eq)]
 pub enum Class {
     Local,
     Owned,
@@ -37,7 +38,7 @@ pub enum Class {
 }
 
 // What a number of a gate is for. A divisor is a constant other than 0.
-#[derive(Clone, Copy)]
+#[derive(Clone, Copy, PartialEq, Eq)]
 pub enum Role {
     Unused,
     Party,
@@ -60,14 +61,14 @@ pub struct Shape {
 }
 
 // Of what is opened and unchecked before an output, and of the output.
-#[derive(Clone, Copy)]
+#[derive(Clone, Copy, PartialEq, Eq)]
 pub enum Check {
     First,
     Second,
 }
 
 // A gate's own round; the opening of an output; the commitment and the reveal of a check.
-#[derive(Clone, Copy)]
+#[derive(Clone, Copy, PartialEq, Eq)]
 pub enum Round {
     Own,
     Open,

@@ -19,32 +19,22 @@ pub const REVEAL_WORDS: usize = 9;
 pub fn is_commit(r: Round) -> bool
     ensures { result ≡ is_commit (round_of r) }
 {
-    match r {
-        Round::Own => false,
-        Round::Open => false,
-        Round::Commit(_) => true,
-        Round::Reveal(_) => false,
-    }
+    matches!(r, Round::Commit(_))
 }
 
 pub fn is_reveal(r: Round) -> bool
     ensures { result ≡ is_reveal (round_of r) }
 {
-    match r {
-        Round::Own => false,
-        Round::Open => false,
-        Round::Commit(_) => false,
-        Round::Reveal(_) => true,
-    }
+    matches!(r, Round::Reveal(_))
 }
 
 // How many words a party sends in a round.
+#[tactic(auto, unfolding(crate::specs::Round::shape_words, crate::specs::Code::shape_of))]
 pub fn words_in(s: Shape, r: Round) -> usize
     ensures { result ≡ shape_words (shape_of s) (round_of r) }
 {
     match r {
-        Round::Own => s.words,
-        Round::Open => s.words,
+        Round::Own | Round::Open => s.words,
         Round::Commit(_) => COMMIT_WORDS,
         Round::Reveal(_) => REVEAL_WORDS,
     }
@@ -67,19 +57,20 @@ pub fn opened_in(unchecked: usize, r: Round) -> usize
     match r {
         Round::Own => unchecked,
         Round::Open => 0,
-        Round::Commit(check) => checked_in(unchecked, check),
-        Round::Reveal(check) => checked_in(unchecked, check),
+        Round::Commit(check) | Round::Reveal(check) => checked_in(unchecked, check),
     }
 }
 
 // How many coefficients a round takes.
+#[tactic(auto, unfolding(crate::specs::Round::coefficients_in))]
 pub fn coefficients_in(unchecked: usize, r: Round) -> usize
     ensures { result ≡ coefficients_in unchecked (round_of r) }
 {
     if is_commit(r) {
-        return opened_in(unchecked, r);
+        opened_in(unchecked, r)
+    } else {
+        0
     }
-    0
 }
 
 // Is there that check at an output before which that many entries are unchecked?
@@ -93,38 +84,23 @@ fn has_check(unchecked: usize, check: Check) -> bool
 }
 
 // Is r one of the rounds of a gate before which that many entries are unchecked?
+#[tactic(auto, using(crate::proofs::RoundLaws::is_among))]
 pub fn has_round(class: Class, unchecked: usize, r: Round) -> bool
     ensures { result ≡ among (round_of r) (class_rounds unchecked (class_of class)) }
 {
     match r {
-        Round::Own => {
-            if shapes::is_in(class) {
-                return true;
-            }
-            shapes::opens(class)
-        }
+        Round::Own => shapes::is_in(class) || shapes::opens(class),
         Round::Open => shapes::is_out(class),
-        Round::Commit(check) => {
-            if shapes::is_out(class) {
-                return has_check(unchecked, check);
-            }
-            false
-        }
-        Round::Reveal(check) => {
-            if shapes::is_out(class) {
-                return has_check(unchecked, check);
-            }
-            false
+        Round::Commit(check) | Round::Reveal(check) => {
+            shapes::is_out(class) && has_check(unchecked, check)
         }
     }
 }
 
 // How many bytes of a nonce are handed over in a round.
+#[tactic(auto, unfolding(crate::specs::Round::nonce_in))]
 pub fn nonce_in(r: Round) -> usize
     ensures { result ≡ nonce_in (round_of r) }
 {
-    if is_commit(r) {
-        return NONCE_SIZE;
-    }
-    0
+    if is_commit(r) { NONCE_SIZE } else { 0 }
 }

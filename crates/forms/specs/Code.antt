@@ -1,9 +1,11 @@
 -- What the code's answer stands for.
 -- Assumes nothing.
+use Rattle.std.specs.Prelude.{ℕ, Result, Ok, Err}
+use Rattle.circuit.specs.Question.{number_of}
+use Rattle.circuit.specs.declared.questions.Refusal.{Refusal}
 use Rattle.forms.specs.Entry as E
-use Rattle.forms.specs.declared.Answer.{Answer}
-use Rattle.forms.specs.declared.Answer.TheVariants.{Refusal, Done}
 
-unfoldable pub answer_of : Answer → E.Answer
-answer_of (Refusal number index) = E.Refusal number index
-answer_of (Done count) = E.Done count
+-- so many gates were read, so many bytes written; or a question was answered with no
+abbrev pub answer_of : Result ℕ Refusal → E.Answer
+answer_of (Ok count) = E.Done count
+answer_of (Err r) = E.Refusal (number_of r.question) r.index

@@ -3,7 +3,7 @@
 #![tactic(auto)]
 
 // The words that begin a form.
-#[derive(Clone, Copy)]
+#[derive(Clone, Copy, PartialEq, Eq)]
 pub enum Head {
     In,
     Add,
@@ -19,17 +19,10 @@ pub enum Head {
 }
 
 // What follows a word: a number; a form; two forms; a form and a number.
-#[derive(Clone, Copy)]
+#[derive(Clone, Copy, PartialEq, Eq)]
 pub enum Sort {
     Leaf,
     One,
     Two,
     Scaled,
-}
-
-// What an entry answers: how many gates were read, how many bytes were written.
-#[derive(Clone, Copy)]
-pub enum Answer {
-    Refusal { number: u32, index: usize },
-    Done { count: usize },
 }

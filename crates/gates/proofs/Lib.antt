@@ -1,3 +1,4 @@
--- What is proved of the pass over the gates, and of what it counts.
+-- What is proved of the pass over the gates, of the scan, and of what is counted.
 pub mod Well
+pub mod Scan
 pub mod Weights

@@ -1,16 +1,18 @@
 // Questions 3 to 7.
-ghost use Rattle.std.specs.Prelude.{◌≡◌, true, false, ℕ, ◌+◌, ◌*◌, ◌<◌, ◌≤◌, length};
-ghost use Rattle.circuit.specs.Verdict.{Accepted, each};
+ghost use Rattle.std.specs.Prelude.{◌≡◌, true, ℕ, ◌+◌, ◌*◌, ◌<◌, ◌≤◌, length, IfOk, IfSome};
+ghost use Rattle.circuit.specs.Verdict.{each};
 ghost use Rattle.circuit.specs.Gate.{gate_size, decode, entry, gate, gates};
 ghost use Rattle.circuit.specs.Kind.{kind_shape, is_divisor};
 ghost use Rattle.circuit.specs.Accept.{most_gates, is_kind, may_name, name_ok, rest_ok, ask_gate, ask_circuit};
 ghost use Rattle.circuit.specs.Valid.{Fits, ValidGate};
-ghost use Rattle.circuit.specs.Code.{verdict_was, role_of, shape_of};
+ghost use Rattle.circuit.specs.Code.{role_of, shape_of};
+ghost use Rattle.circuit.specs.Question.{verdict_of};
 ghost use Rattle.gates.specs.Weight.{weight, weight_before, unsure};
-ghost use Rattle.gates.specs.Code.{survey_of, Counted, SurveyOk};
+ghost use Rattle.gates.specs.Code.{Counted};
 
-use crate::{Finding, Survey, counting, reading};
-use circuit::{Role, Shape, Verdict, shapes};
+use crate::{Survey, counting, reading};
+use circuit::questions::{Question, Refusal, ask};
+use circuit::{Role, Shape, shapes};
 use field::Word;
 
 // Numbers of a gate after its kind.
@@ -69,45 +71,26 @@ fn rest_ok(size: usize, x: usize, role: Role) -> bool
 
 // Questions 4 to 6 of the first count gates: all three of one gate before the next, and of a gate question 5 of each of its numbers before
 // question 6 of any.
-fn scan(parties: usize, size: usize, c: &[Word], count: usize) -> Verdict
+fn scan(parties: usize, size: usize, c: &[Word], count: usize) -> Result<(), Refusal>
     requires { (gate_size * count ≤ length c.now) × (count ≤ most_gates) }
-    ensures { verdict_was result ≡ each count (ask_gate parties size c.now) }
+    ensures { verdict_of result ≡ each count (ask_gate parties size c.now) }
 {
-    let mut j = 0;
-    while j < count {
+    for j in 0..count {
         let at = reading::GATE_SIZE * j;
-        if !reading::is_kind(field::index(c[at])) {
-            return Verdict::Refused {
-                number: 4,
-                index: j,
-            };
-        }
+        ask(Question::Kind, j, reading::is_kind(field::index(c[at])))?;
         let s = reading::shape_at(c, j);
-        let mut k = 0;
-        while k < OPERANDS {
+        for k in 0..OPERANDS {
             let role = shapes::role_of(s, k + 1);
-            if !name_ok(parties, c, j, field::index(c[at + 1 + k]), role) {
-                return Verdict::Refused {
-                    number: 5,
-                    index: j,
-                };
-            }
-            k += 1;
+            let named = name_ok(parties, c, j, field::index(c[at + 1 + k]), role);
+            ask(Question::Named, j, named)?;
         }
-        let mut t = 0;
-        while t < OPERANDS {
+        for t in 0..OPERANDS {
             let role = shapes::role_of(s, t + 1);
-            if !rest_ok(size, field::index(c[at + 1 + t]), role) {
-                return Verdict::Refused {
-                    number: 6,
-                    index: j,
-                };
-            }
-            t += 1;
+            let fits = rest_ok(size, field::index(c[at + 1 + t]), role);
+            ask(Question::Rest, j, fits)?;
         }
-        j += 1;
     }
-    Verdict::Accepted
+    Ok(())
 }
 
 // Question 4 of a gate of that shape, whose kind is that number. A number that is no kind counts as out, so only an output is asked.
@@ -276,89 +259,58 @@ fn well(
 }
 
 // Questions 4 to 6 of the first count gates. Where the pass has said yes, no gate is looked at; the scan is for the first no.
-fn ask_gates(parties: usize, size: usize, c: &[Word], count: usize, yes: bool) -> Verdict
+fn ask_gates(
+    parties: usize,
+    size: usize,
+    c: &[Word],
+    count: usize,
+    yes: bool,
+) -> Result<(), Refusal>
     requires { (gate_size * count ≤ length c.now) × (count ≤ most_gates) × (yes ≡ true → (j : ℕ) → j < count → ValidGate parties size c.now j) }
-    ensures { verdict_was result ≡ each count (ask_gate parties size c.now) }
+    ensures { verdict_of result ≡ each count (ask_gate parties size c.now) }
 {
     if yes {
-        return Verdict::Accepted;
+        return Ok(());
     }
     scan(parties, size, c, count)
 }
 
 // Questions 3 to 7, where yes says that all gates are known to be valid.
-fn ask_all(parties: usize, size: usize, c: &[Word], yes: bool) -> Verdict
+#[tactic(auto, using(circuit::proofs::Verdicts::asked), unfolding(circuit::specs::Accept::ask_circuit, circuit::specs::Accept::ask_size, circuit::specs::Accept::ask_last, circuit::specs::Gate::gates))]
+fn ask_all(parties: usize, size: usize, c: &[Word], yes: bool) -> Result<(), Refusal>
     requires { yes ≡ true → (j : ℕ) → j < gates c.now → ValidGate parties size c.now j }
-    ensures { verdict_was result ≡ ask_circuit parties size c.now }
+    ensures { verdict_of result ≡ ask_circuit parties size c.now }
 {
-    if c.len() % reading::GATE_SIZE != 0 {
-        return Verdict::Refused {
-            number: 3,
-            index: NO_GATE,
-        };
-    }
     let count = c.len() / reading::GATE_SIZE;
-    if count < FEWEST_GATES {
-        return Verdict::Refused {
-            number: 3,
-            index: NO_GATE,
-        };
-    }
-    if MOST_GATES < count {
-        return Verdict::Refused {
-            number: 3,
-            index: NO_GATE,
-        };
-    }
-    match ask_gates(parties, size, c, count, yes) {
-        Verdict::Refused { number, index } => {
-            return Verdict::Refused { number, index };
-        }
-        Verdict::Accepted => {}
-    }
-    if !shapes::is_out(reading::class_at(c, count - 1)) {
-        return Verdict::Refused {
-            number: 7,
-            index: NO_GATE,
-        };
-    }
-    Verdict::Accepted
+    let whole = c.len() % reading::GATE_SIZE == 0;
+    let fits = whole && FEWEST_GATES <= count && count <= MOST_GATES;
+    ask(Question::CircuitSize, NO_GATE, fits)?;
+    ask_gates(parties, size, c, count, yes)?;
+    let ends = shapes::is_out(reading::class_at(c, count - 1));
+    ask(Question::Last, NO_GATE, ends)
 }
 
-// Nothing is known of the gates.
-fn unknown() -> Finding
-    ensures { result.yes ≡ false }
-{
-    Finding {
-        yes: false,
-        here: circuit::counting::no_tally(),
-        all: circuit::counting::no_tally(),
-    }
-}
-
-// Questions 4 to 6 of all gates, and what is counted before a gate and in all, in one pass.
-fn one_pass(parties: usize, size: usize, me: usize, c: &[Word], gate: usize) -> Finding
-    ensures { result.yes ≡ true → ((j : ℕ) → j < gates c.now → ValidGate parties size c.now j)
-        × Counted c.now me gate result.here result.all }
+// Questions 4 to 6 of all gates, and what is counted before a gate and in all, in one pass. Where it finds nothing, the scan is asked.
+fn one_pass(parties: usize, size: usize, me: usize, c: &[Word], gate: usize) -> Option<Survey>
+    ensures { IfSome result (λ s. ((j : ℕ) → j < gates c.now → ValidGate parties size c.now j) × Counted c.now me gate s.here s.all) }
 {
     let count = c.len() / reading::GATE_SIZE;
     if MOST_GATES < count {
-        return unknown();
+        return None;
     }
     let stop = counting::least(gate, count);
     let here = well(parties, size, me, c, 0, stop, 0);
     if here == counting::UNSURE {
-        return unknown();
+        return None;
     }
     let all = well(parties, size, me, c, stop, count, here);
     if all == counting::UNSURE {
-        return unknown();
+        return None;
     }
-    Finding {
-        yes: true,
+    Some(Survey {
         here: counting::tally_of(here, counting::unchecked_before(c, stop)),
         all: counting::tally_of(all, counting::unchecked_before(c, count)),
-    }
+    })
 }
 
 // Are all gates known to be valid?
@@ -374,41 +326,40 @@ fn all_well(parties: usize, size: usize, c: &[Word]) -> bool
 }
 
 // Questions 3 to 7, of a field of that size. It is no entry: it is for the crates above, which ask question 1 before it.
-pub fn accept(parties: usize, size: usize, c: &[Word]) -> Verdict
-    ensures { verdict_was result ≡ ask_circuit parties size c.now }
+pub fn accept(parties: usize, size: usize, c: &[Word]) -> Result<(), Refusal>
+    ensures { verdict_of result ≡ ask_circuit parties size c.now }
 {
     let yes = all_well(parties, size, c);
     ask_all(parties, size, c, yes)
 }
 
-// The counts of an accepted circuit of which the pass has not said yes.
+// The counts of an accepted circuit of which the pass has found nothing.
 fn counted(c: &[Word], me: usize, gate: usize) -> Survey
     requires { gates c.now ≤ most_gates }
-    ensures { (survey_of result ≡ Accepted) × SurveyOk c.now me gate result }
+    ensures { Counted c.now me gate result.here result.all }
 {
     let count = c.len() / reading::GATE_SIZE;
     let stop = counting::least(gate, count);
     let here = counting::tally_between(c, me, 0, stop, circuit::counting::no_tally());
     let all = counting::tally_between(c, me, stop, count, here);
-    Survey::Accepted(here, all)
+    Survey { here, all }
 }
 
 // Questions 3 to 7, with what is counted for party me before a gate and in all.
-pub fn survey(parties: usize, size: usize, me: usize, c: &[Word], gate: usize) -> Survey
-    ensures asked { survey_of result ≡ ask_circuit parties size c.now }
-    ensures accepted { SurveyOk c.now me gate result }
+pub fn survey(
+    parties: usize,
+    size: usize,
+    me: usize,
+    c: &[Word],
+    gate: usize,
+) -> Result<Survey, Refusal>
+    ensures asked { verdict_of result ≡ ask_circuit parties size c.now }
+    ensures accepted { IfOk result (λ s. Counted c.now me gate s.here s.all) }
 {
-    let q = one_pass(parties, size, me, c, gate);
-    match ask_all(parties, size, c, q.yes) {
-        Verdict::Refused { number, index } => {
-            return Survey::Refused { number, index };
-        }
-        Verdict::Accepted => {}
+    let found = one_pass(parties, size, me, c, gate);
+    ask_all(parties, size, c, found.is_some())?;
+    match found {
+        Some(counts) => Ok(counts),
+        None => Ok(counted(c, me, gate)),
     }
-    if q.yes {
-        let here = q.here;
-        let all = q.all;
-        return Survey::Accepted(here, all);
-    }
-    counted(c, me, gate)
 }

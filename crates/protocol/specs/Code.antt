@@ -1,6 +1,6 @@
 -- What the code's types stand for.
 -- Assumes nothing.
-use Rattle.std.specs.Prelude.{ℕ, ◌<◌, ◌≡◌, List}
+use Rattle.std.specs.Prelude.{ℕ, ◌<◌, ◌≡◌, List, Option, None, Some, Result, Ok, Err}
 use Rattle.circuit.specs.Gate.{gates}
 use Rattle.circuit.specs.Count.{prep_at, input_at, unchecked}
 use Rattle.circuit.specs.Code.{round_of}
@@ -14,10 +14,6 @@ use Rattle.protocol.specs.declared.Stage.{Stage}
 use Rattle.protocol.specs.declared.Stage.TheVariants.{Send, Receive, Finished, Aborted}
 use Rattle.protocol.specs.declared.Point.{Point}
 use Rattle.protocol.specs.declared.Site.{Site}
-use Rattle.protocol.specs.declared.Blame.{Blame}
-use Rattle.protocol.specs.declared.Blame.TheVariants.{Nobody, Blames}
-use Rattle.protocol.specs.declared.Ruling.{Ruling}
-use Rattle.protocol.specs.declared.Ruling.TheVariants.{Passed, Stopped}
 
 unfoldable pub layout_of : Layout → S.Layout
 layout_of y = record { gates = y.gates; capacity = y.capacity }
@@ -45,10 +41,10 @@ pub record Sited (c : List ℕ) (i : ℕ) (at : Site) : Type 0 where
   pub input : at.input ≡ input_at c i at.gate
 
 -- whom a stop names, and how a round ends
-unfoldable pub blame_of : Blame → R.Blame
-blame_of Nobody = R.Nobody
-blame_of (Blames i) = R.Blames i
+unfoldable pub blame_of : Option ℕ → R.Blame
+blame_of None = R.Nobody
+blame_of (Some i) = R.Blames i
 
-unfoldable pub ruling_of : Ruling → R.Ruling
-ruling_of Passed = R.Passed
-ruling_of (Stopped b) = R.Stopped (blame_of b)
+unfoldable pub ruling_of : Result Unit (Option ℕ) → R.Ruling
+ruling_of (Ok passed) = R.Passed
+ruling_of (Err b) = R.Stopped (blame_of b)

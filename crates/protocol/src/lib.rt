@@ -47,18 +47,10 @@ pub struct Point {
 }
 
 // Whom a stop names: the party whose reveal does not fit its mark, or nobody.
-#[derive(Clone, Copy)]
-pub enum Blame {
-    Nobody,
-    Blames(usize),
-}
+pub type Blame = Option<usize>;
 
-// How a round ends.
-#[derive(Clone, Copy)]
-pub enum Ruling {
-    Passed,
-    Stopped(Blame),
-}
+// How a round ends: it passes, or it stops the run.
+pub type Ruling = Result<(), Blame>;
 
 // Where a gate's numbers stand, for one party: its record in the preprocessing, the unchecked entries before it, the input for it.
 #[derive(Clone, Copy)]
@@ -70,6 +62,7 @@ pub struct Site {
 }
 
 // A layout that fits a slice has sums that fit a number.
+#[tactic(auto, unfolding(crate::specs::Scratch::offset, crate::specs::Scratch::slots_size, crate::specs::Code::layout_of))]
 pub fn offset_of(y: Layout, s: Slot) -> usize
     requires { (slots_size (layout_of y) ≤ 4611686018427387904) × Within (layout_of y) (slot_of s) }
     ensures { result ≡ offset (layout_of y) (slot_of s) }
@@ -83,6 +76,7 @@ pub fn offset_of(y: Layout, s: Slot) -> usize
 }
 
 // Where the nonce stands in a scratch of that layout.
+#[tactic(auto, unfolding(crate::specs::Scratch::nonce_at, crate::specs::Scratch::slots_size, crate::specs::Code::layout_of))]
 pub fn nonce_at(y: Layout) -> usize
     requires { slots_size (layout_of y) ≤ 4611686018427387904 }
     ensures { result ≡ nonce_at (layout_of y) }
@@ -91,6 +85,7 @@ pub fn nonce_at(y: Layout) -> usize
 }
 
 // Where the marks stand.
+#[tactic(auto, unfolding(crate::specs::Scratch::nonce_at, crate::specs::Scratch::marks_at, crate::specs::Scratch::slots_size, crate::specs::Code::layout_of))]
 pub fn marks_at(y: Layout) -> usize
     requires { slots_size (layout_of y) ≤ 4611686018427387904 }
     ensures { result ≡ marks_at (layout_of y) }
@@ -99,6 +94,7 @@ pub fn marks_at(y: Layout) -> usize
 }
 
 // How long the scratch of one of so many parties is.
+#[tactic(auto, unfolding(crate::specs::Scratch::nonce_at, crate::specs::Scratch::marks_at, crate::specs::Scratch::slots_size, crate::specs::Code::layout_of))]
 pub fn size_of(parties: usize, y: Layout) -> usize
     requires { (parties ≤ 8) × (y.gates ≤ 256) × (y.capacity ≤ 513) }
     ensures { result ≡ marks_at (layout_of y) + parties * commit_words }
@@ -107,6 +103,7 @@ pub fn size_of(parties: usize, y: Layout) -> usize
 }
 
 // The sending half of a round of gate k.
+#[tactic(auto, unfolding(crate::specs::Code::point_of))]
 pub fn sending_at(k: usize, r: Round) -> Point
     ensures { point_of result ≡ record { gate = k; stage = Send (round_of r) } }
 {
@@ -117,6 +114,7 @@ pub fn sending_at(k: usize, r: Round) -> Point
 }
 
 // A run that is aborted names the gate.
+#[tactic(auto, unfolding(crate::specs::Code::point_of, crate::specs::Position::aborted))]
 pub fn aborted_at(j: usize) -> Point
     ensures { point_of result ≡ aborted j }
 {
@@ -130,13 +128,5 @@ pub fn aborted_at(j: usize) -> Point
 pub fn releases(r: Round) -> bool
     ensures { result ≡ releases (round_of r) }
 {
-    match r {
-        Round::Own => false,
-        Round::Open => false,
-        Round::Commit(_) => false,
-        Round::Reveal(check) => match check {
-            Check::First => false,
-            Check::Second => true,
-        },
-    }
+    matches!(r, Round::Reveal(Check::Second))
 }

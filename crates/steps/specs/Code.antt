@@ -10,7 +10,7 @@ use Rattle.protocol.specs.Scratch.{Layout, Value, read}
 use Rattle.protocol.specs.Party.{Party}
 use Rattle.protocol.specs.Receive.{next, finds, left}
 use Rattle.protocol.specs.Code.{point_of, ruling_of}
-use Rattle.steps.specs.declared.Part.{Part}
+use Rattle.steps.specs.declared.parts.Part.{Part}
 use Rattle.steps.specs.declared.Ends.{Ends}
 use Rattle.steps.specs.declared.Conclusion.{Conclusion}
 
@@ -45,7 +45,7 @@ pub record IsPart (v : A.Part) (x : Part) : Type 0 where
   pub low : Low x
 
 -- and of the first and the last of k words
-pub record AreEnds (ws : List ℕ) (k : ℕ) (x : Ends) : Type 0 where
+pub record AreEnds (ws : List ℕ) (k : ℕ) (x : Ends ℕ) : Type 0 where
   pub first : Is size (get_or ws 0 0) x.first
   pub last : Is size (get_or ws (k - 1) 0) x.last
 

@@ -14,7 +14,7 @@ ghost use Rattle.protocol.specs.Code.{layout_of};
 ghost use Rattle.protocol.specs.Ready.{Ready, Sends};
 ghost use Rattle.steps.specs.Code.{pass_size, value_sum, weighed, Weighed, IsPart, AreEnds};
 
-use crate::{Ends, Part, parts, scratch};
+use crate::{Ends, Part, scratch};
 use circuit::Round;
 use circuit::rounds::{NONCE_WORDS, REVEAL_WORDS};
 use field::{Sum, Word};
@@ -54,7 +54,7 @@ pub fn masked(l: &[Word], y: Layout, x: usize, m: &[Word], k: usize) -> Part
     requires { (slots_size (layout_of y) ≤ length l.now) × Held size (layout_of y) l.now x × (k + 1 < length m.now) × Below size m.now }
     ensures { IsPart (masked ops (layout_of y) l.now x m.now k) result }
 {
-    parts::sub(scratch::wire_at(l, y, x), parts::part_at(m, k))
+    scratch::wire_at(l, y, x) - Part::at(m, k)
 }
 
 // The party's part of what an output of gate x shows; a give shows it less its mask, and m starts at its record.
@@ -193,7 +193,7 @@ pub fn opening_words(
     m: &[Word],
     k: usize,
     out: &mut [Word],
-) -> Ends
+) -> Ends<Word>
     requires { (slots_size (layout_of y) ≤ length l.now)
         × Held size (layout_of y) l.now x
         × Held size (layout_of y) l.now z

@@ -1,3 +1,2 @@
 -- What is proved of reading text.
-pub mod Laws
 pub mod Steps

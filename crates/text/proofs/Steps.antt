@@ -1,36 +1,23 @@
 -- The loop of `read_numbers`: what it has read so far, and how each byte moves it on.
 -- Assumes nothing.
-use Prim.Native.Nat.{ℕ, ◌+◌, ◌*◌, ◌-◌, ◌<◌, ◌≤◌}
-use mathlib.Core.Path.{◌≡◌, refl, sym, ◌∙◌}
-use mathlib.Core.Bool.{Bool, true, false, not, ◌||◌, false≢true}
-use mathlib.Core.List.{List}
-use native.Mathlib.Omega.{arith}
-use lib.ListN.{length, get_or, take, drop, take-append-drop}
-use lib.Seq.{length-take-le, drop-drop}
-use lib.Dec.{ltb}
-use borrow.Author.Tests.{ltb-true}
-use Rattle.text.specs.Text.{is_space, is_digit, digit, whole, more, reads, numbers_in, at_start, read_into, stopped, Begun, Ending, Unlike, TooLarge, TooMany, number_end}
-use Rattle.text.specs.Code.{told, numbers_told}
-use Rattle.text.specs.declared.Numbers.TheVariants as N
-use Rattle.text.proofs.Laws.{denied, granted, reads_ends, reads_space, reads_unlike, reads_many, reads_large, reads_digit}
-
--- the numbers that are whole stand at the start of a list, and whether another is begun, with its value
-abbrev pub begun : List ℕ → ℕ → Bool → ℕ → Begun
-begun list count within value = record { numbers = take count list; within = within; value = value }
+use Rattle.std.proofs.Common.{ℕ, ◌+◌, ◌-◌, ◌<◌, ◌≤◌, ◌≡◌, refl, sym, ◌∙◌, Bool, true, false, cond, ◌||◌, List, length, get_or, take, drop, ltb, Option, None, Some, IsSome, is_some, Result, Ok, Err, ltb-true, arith}
+use Rattle.std.proofs.lemmas.List.{drop_more, drop_all, drop-drop, take-append-drop, length-take-le}
+use Rattle.text.specs.Text.{is_space, is_digit, whole, more, reads, numbers_in, at_start, read_into, stopped, Begun, Ending, Reading, Whole, Unlike, TooLarge, TooMany, number_end}
+use Rattle.text.specs.Code.{begun_of, told, numbers_told, digit_told}
+use Rattle.text.specs.declared.Fault.{Fault}
+use Rattle.text.specs.declared.Fault.TheVariants as F
 
 -- the bytes before i are read; list₀ is the list as it was
-pub record SoFar (text list₀ list : List ℕ) (count : ℕ) (within : Bool) (value i : ℕ) : Type 0 where
-  pub upto : i ≤ length text
+pub record SoFar (text list₀ list : List ℕ) (count : ℕ) (begun : Option ℕ) (i : ℕ) : Type 0 where
   pub fits : count ≤ length list
-  pub room : within ≡ true → count < length list
-  pub low : value < number_end
+  pub room : IsSome begun → count < length list
   pub long : length list ≡ length list₀
   pub rest : drop count list ≡ drop count list₀
-  pub reading : reads (length list₀) (begun list count within value) (drop i text) ≡ numbers_in (length list₀) text
+  pub reading : reads (length list₀) (begun_of (take count list) begun) (drop i text) ≡ numbers_in (length list₀) text
 
-pub starts : (text list : List ℕ) → SoFar text list list 0 false 0 0
+pub starts : (text list : List ℕ) → SoFar text list list 0 None 0
 unfolding numbers_in
-starts text list = record { upto = omega arith; fits = omega arith; room = λ e. absurd (false≢true e); low = omega arith; long = refl; rest = refl; reading = refl }
+starts text list = record { fits = omega arith; room = λ e. absurd cc; long = refl; rest = refl; reading = refl }
 
 -- what is the same from a place on is the same from a later place on
 drop_later : (n m : ℕ) (xs ys : List ℕ) → n ≤ m → drop n xs ≡ drop n ys → drop m xs ≡ drop m ys
@@ -38,78 +25,108 @@ drop_later n m xs ys h e =
     let k : m ≡ n + (m - n) = omega arith in
     rw (k, sym (drop-drop (m - n) n xs), sym (drop-drop (m - n) n ys), e)
 
--- a digit may follow only where there is room
-fits_more : {count n : ℕ} (within : Bool) → (within ≡ true → count < n) → (within || ltb count n) ≡ true → count < n
-fits_more true r f = r refl
-fits_more false r f = ltb-true _ _ f
-
 -- a list whose first numbers are these, and which is the same as before behind them
 at_start_lem : {numbers : List ℕ} (later before : List ℕ) (n : ℕ) → n ≤ length later → take n later ≡ numbers → drop n later ≡ drop n before
     → (length numbers ≡ n) × (later ≡ at_start numbers before)
 unfolding at_start
 at_start_lem later before n h e r = rw (← e, length-take-le n later h) (refl, sym (take-append-drop n later) ∙ rw r)
 
-module _ (text list₀ list : List ℕ) (count : ℕ) (within : Bool) (value i : ℕ) (s : SoFar text list₀ list count within value i) where
-  pub ends : (later : List ℕ) (n : ℕ) → length text ≤ i → take n later ≡ whole (begun list count within value) → n ≤ length later → drop n later ≡ drop n list₀
-      → (N.Count n ≡ numbers_told (numbers_in (length list₀) text)) × (later ≡ read_into text list₀)
-  unfolding numbers_told told read_into
-  ends later n h e f r =
-      let (a, b) = at_start_lem later list₀ n f e r in
-      rw (sym s.reading, reads_ends _ _ text i h) (rw a, b)
+-- the end that a fault is
+abbrev ending_of : Fault → Ending
+ending_of F.Unlike = Unlike
+ending_of F.TooLarge = TooLarge
+ending_of F.TooMany = TooMany
 
-  -- a fault
-  faulted : (fault : Ending) → reads (length list₀) (begun list count within value) (drop i text) ≡ stopped (begun list count within value) fault
-      → (told count fault ≡ numbers_told (numbers_in (length list₀) text)) × (list ≡ read_into text list₀)
-  unfolding numbers_told read_into stopped
-  faulted fault e =
-      let (a, b) = at_start_lem list list₀ count s.fits refl s.rest in
-      rw (sym s.reading, e) (rw a, b)
+told_fault : (n : ℕ) (f : Fault) → told n (ending_of f) ≡ Err f
+unfolding told
+told_fault n F.Unlike = refl
+told_fault n F.TooLarge = refl
+told_fault n F.TooMany = refl
 
+-- what a text comes to after a byte that is no space
+abbrev after : ℕ → Begun → List ℕ → Result ℕ Fault → Reading
+after room s rest (Ok value) = reads room (begun_of s.numbers (Some value)) rest
+after room s rest (Err fault) = stopped s (ending_of fault)
+
+module _ (room : ℕ) (s : Begun) (text : List ℕ) (i : ℕ) where
+  reads_ends : length text ≤ i → reads room s (drop i text) ≡ record { numbers = whole s; ending = Whole }
+  unfolding reads
+  reads_ends h = rw drop_all
+
+  module _ (h : i < length text) where
+    reads_space : is_space (get_or text i 0) ≡ true → reads room s (drop i text) ≡ reads room (begun_of (whole s) None) (drop (i + 1) text)
+    unfolding reads
+    reads_space e = rw (drop_more text i 0 h, e)
+
+    reads_other : is_space (get_or text i 0) ≡ false
+        → reads room s (drop i text)
+        ≡ cond (is_digit (get_or text i 0)) (cond (s.within || ltb (length s.numbers) room)
+        (cond (ltb (more s (get_or text i 0)) number_end) (reads room (begun_of s.numbers (Some (more s (get_or text i 0)))) (drop (i + 1) text)) (stopped s TooLarge))
+        (stopped s TooMany)) (stopped s Unlike)
+    unfolding reads
+    reads_other e = rw (drop_more text i 0 h, e)
+
+after_tests : (room : ℕ) (s : Begun) (rest : List ℕ) (d f g : Bool) (v : ℕ)
+    → cond d (cond f (cond g (reads room (begun_of s.numbers (Some v)) rest) (stopped s TooLarge)) (stopped s TooMany)) (stopped s Unlike)
+    ≡ after room s rest (cond d (cond f (cond g (Ok v) (Err F.TooLarge)) (Err F.TooMany)) (Err F.Unlike))
+after_tests room s rest false f g v = refl
+after_tests room s rest true false g v = refl
+after_tests room s rest true true false v = refl
+after_tests room s rest true true true v = refl
+
+-- a digit may follow only where there is room
+allowed : (u : ℕ) {v : ℕ} (d f g : Bool) → cond d (cond f (cond g (Ok u) (Err F.TooLarge)) (Err F.TooMany)) (Err F.Unlike) ≡ Ok v → f ≡ true
+allowed u false f g e = absurd cc
+allowed u true false g e = absurd cc
+allowed u true true g e = refl
+
+digit_room : {count n : ℕ} (begun : Option ℕ) → (IsSome begun → count < n) → (is_some begun || ltb count n) ≡ true → count < n
+digit_room (Some value) r e = r refl
+digit_room None r e = ltb-true _ _ e
+
+module _ (text list₀ list : List ℕ) (count : ℕ) (begun : Option ℕ) (i : ℕ) (s : SoFar text list₀ list count begun i) where
   pub rest_after : (later : List ℕ) (n : ℕ) → count ≤ n → drop n later ≡ drop n list → drop n later ≡ drop n list₀
   rest_after later n h e = e ∙ drop_later count n list list₀ h s.rest
 
+  pub ends : (later : List ℕ) (n : ℕ) → length text ≤ i → take n later ≡ whole (begun_of (take count list) begun) → count ≤ n → n ≤ length later → drop n later ≡ drop n list
+      → (Ok n ≡ numbers_told (numbers_in (length list₀) text)) × (later ≡ read_into text list₀)
+  unfolding numbers_told told read_into
+  ends later n h e k f r =
+      let (a, b) = at_start_lem later list₀ n f e (rest_after later n k r) in
+      rw (sym s.reading, reads_ends _ _ text i h) (rw a, b)
+
   module _ (h : i < length text) where
     pub spaces : {q : Bool} (later : List ℕ) (n : ℕ) → q ≡ is_space (get_or text i 0) → q ≡ true
-        → take n later ≡ whole (begun list count within value)
+        → take n later ≡ whole (begun_of (take count list) begun)
         → count ≤ n → n ≤ length later → length later ≡ length list → drop n later ≡ drop n list
-        → SoFar text list₀ later n false 0 (i + 1)
+        → SoFar text list₀ later n None (i + 1)
     spaces later n e q t a b l r = record {
-      upto = omega arith;
       fits = b;
-      room = λ x. absurd (false≢true x);
-      low = omega arith;
+      room = λ x. absurd cc;
       long = l ∙ s.long;
       rest = rest_after later n a r;
       reading = rw t (sym (reads_space _ _ text i h (sym e ∙ q)) ∙ s.reading);
     }
 
-    module _ {q : Bool} (e : q ≡ is_space (get_or text i 0)) (e₀ : q ≡ false) {u : Bool} (d : u ≡ is_digit (get_or text i 0)) where
-      pub unlike : not u ≡ true → (N.Unlike ≡ numbers_told (numbers_in (length list₀) text)) × (list ≡ read_into text list₀)
-      unfolding told
-      unlike d₀ = faulted Unlike (reads_unlike _ _ text i h (sym e ∙ e₀) (sym d ∙ denied u d₀))
+    module _ {q : Bool} (e : q ≡ is_space (get_or text i 0)) (e₀ : q ≡ false) {r : Result ℕ Fault} (d : r ≡ digit_told begun (get_or text i 0) (ltb count (length list))) where
+      moved : after (length list₀) (begun_of (take count list) begun) (drop (i + 1) text) r ≡ numbers_in (length list₀) text
+      unfolding digit_told more
+      moved =
+          let asked : ltb count (length list) ≡ ltb (length (take count list)) (length list₀) = rw (length-take-le count list s.fits, s.long) in
+          rw (d, ← after_tests _ (begun_of (take count list) begun) (drop (i + 1) text), asked, ← reads_other _ (begun_of (take count list) begun) text i h (sym e ∙ e₀)) s.reading
 
-      module _ (d₁ : not u ≡ false) {t : Bool} (f : t ≡ (within || ltb count (length list))) where
-        -- the list is as long as it was, and so is the part that is filled
-        asked : (within || ltb (length (take count list)) (length list₀)) ≡ t
-        asked = rw (length-take-le count list s.fits, sym s.long) (sym f)
+      pub faulted : {f : Fault} → r ≡ Err f → (Err f ≡ numbers_told (numbers_in (length list₀) text)) × (list ≡ read_into text list₀)
+      unfolding numbers_told read_into stopped
+      faulted {f} g =
+          let (a, b) = at_start_lem list list₀ count s.fits refl s.rest in
+          rw (sym moved, g) (sym (told_fault _ f), b)
 
-        pub many : not t ≡ true → (N.TooMany ≡ numbers_told (numbers_in (length list₀) text)) × (list ≡ read_into text list₀)
-        unfolding told
-        many f₀ = faulted TooMany (reads_many _ _ text i h (sym e ∙ e₀) (sym d ∙ granted u d₁) (asked ∙ denied t f₀))
-
-        module _ (f₁ : not t ≡ false) {larger : ℕ} (m : larger ≡ value * 10 + digit (get_or text i 0)) where
-          pub large : number_end ≤ larger → (N.TooLarge ≡ numbers_told (numbers_in (length list₀) text)) × (list ≡ read_into text list₀)
-          unfolding more told
-          large g = faulted TooLarge (reads_large _ (begun list count within value) text i h (sym e ∙ e₀) (sym d ∙ granted u d₁) (asked ∙ granted t f₁) (rw (sym m) g))
-
-          pub digits : larger < number_end → SoFar text list₀ list count true larger (i + 1)
-          unfolding more
-          digits g = record {
-            upto = omega arith;
-            fits = s.fits;
-            room = λ x. fits_more within s.room (sym f ∙ granted t f₁);
-            low = g;
-            long = s.long;
-            rest = s.rest;
-            reading = rw m (sym (reads_digit _ (begun list count within value) text i h (sym e ∙ e₀) (sym d ∙ granted u d₁) (asked ∙ granted t f₁) (rw (sym m) g)) ∙ s.reading);
-          }
+      pub digits : {v : ℕ} → r ≡ Ok v → SoFar text list₀ list count (Some v) (i + 1)
+      unfolding digit_told
+      digits {v} g = record {
+        fits = s.fits;
+        room = λ x. digit_room begun s.room (allowed _ _ _ _ (sym d ∙ g));
+        long = s.long;
+        rest = s.rest;
+        reading = rw g at moved;
+      }

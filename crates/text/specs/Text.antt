@@ -1,6 +1,8 @@
 -- Words and numbers in a line of text, as docs/REPLAY.md has them. A byte is its number in ASCII.
 -- Assumes nothing.
-use Rattle.std.specs.Prelude.{ℕ, suc, ◌+◌, ◌*◌, ◌-◌, Bool, true, false, cond, not, ◌&&◌, ◌||◌, List, [], ◌∷◌, ◌++◌, length, drop, eqb, ltb, leb}
+use Rattle.std.specs.List.{prefix_len}
+use Rattle.std.specs.Str.{bytes_eq}
+use Rattle.std.specs.Prelude.{ℕ, ◌+◌, ◌*◌, ◌-◌, Bool, true, false, cond, not, ◌&&◌, ◌||◌, List, [], ◌∷◌, ◌++◌, length, drop, eqb, ltb, leb}
 
 -- "Words are separated by spaces, tabs or carriage returns."
 unfoldable pub is_space : ℕ → Bool
@@ -18,16 +20,12 @@ unfoldable pub belongs : Bool → ℕ → Bool
 belongs spaces b = cond spaces (is_space b) (not (is_space b))
 
 -- how long the run is that a text begins with
-unfoldable pub run : Bool → List ℕ → ℕ
-run spaces [] = 0
-run spaces (b ∷ bs) = cond (belongs spaces b) (suc (run spaces bs)) 0
+abbrev pub run : Bool → List ℕ → ℕ
+run spaces text = prefix_len (belongs spaces) text
 
 -- whether two texts are the same
-unfoldable pub alike : List ℕ → List ℕ → Bool
-alike [] [] = true
-alike [] (y ∷ ys) = false
-alike (x ∷ xs) [] = false
-alike (x ∷ xs) (y ∷ ys) = eqb x y && alike xs ys
+abbrev pub alike : List ℕ → List ℕ → Bool
+alike = bytes_eq
 
 -- "A number is decimal digits, of a value from 0 to 4294967295."
 abbrev pub number_end : ℕ

@@ -1,46 +1,30 @@
 // Words and numbers in a line of text.
 #![tactic(auto)]
 
-ghost use Rattle.std.specs.Prelude.{◌+◌, ◌*◌, ◌<◌, ◌≤◌, ◌≡◌, true, ◌||◌, ltb, length, take, drop};
-ghost use Rattle.text.specs.Text.{is_space, is_digit, digit, belongs, run, alike, numbers_in, read_into, whole};
-ghost use Rattle.text.specs.Code.{Word, numbers_told};
+ghost use Rattle.std.specs.Prelude.{◌+◌, ◌<◌, ◌≤◌, ◌≡◌, ltb, length, take, drop, IsSome};
+ghost use Rattle.text.specs.Text.{is_space, run, numbers_in, read_into, whole};
+ghost use Rattle.text.specs.Code.{Word, begun_of, numbers_told, digit_told};
 
-// Where a word starts and ends in its line. Where there is no word, both are the line's end.
+// Where a word starts and ends in its line; it is Copy, as a Range is not. Where there is no word, both are the line's end.
 #[derive(Clone, Copy)]
 pub struct Span {
     pub start: usize,
     pub end: usize,
 }
 
-// How many numbers a text has, or the first thing that is wrong with it.
-#[derive(Clone, Copy)]
-pub enum Numbers {
-    Count(usize),
+// The first thing that is wrong with a text of numbers.
+#[derive(Clone, Copy, PartialEq, Eq)]
+pub enum Fault {
     Unlike,
     TooLarge,
     TooMany,
 }
 
-const ZERO: u8 = 48;
-
-const LARGEST: u64 = 4294967295;
-
+#[tactic(auto, unfolding(crate::specs::Text::is_space))]
 fn is_space(b: u8) -> bool
     ensures { result ≡ is_space b }
 {
-    b == 32 || (b == 9 || b == 13)
-}
-
-fn is_digit(b: u8) -> bool
-    ensures { result ≡ is_digit b }
-{
-    ZERO <= b && b <= 57
-}
-
-fn belongs_to(spaces: bool, b: u8) -> bool
-    ensures { result ≡ belongs spaces b }
-{
-    if spaces { is_space(b) } else { !is_space(b) }
+    matches!(b, b' ' | b'\t' | b'\r')
 }
 
 // Where a run of spaces, or of other bytes, ends.
@@ -48,14 +32,8 @@ fn run_end(line: &[u8], from: usize, spaces: bool) -> usize
     requires { from ≤ length line.now }
     ensures { (result ≡ from + run spaces (drop from line.now)) × (result ≤ length line.now) }
 {
-    let mut i = from;
-    while i < line.len() {
-        if !belongs_to(spaces, line[i]) {
-            return i;
-        }
-        i += 1;
-    }
-    i
+    let rest = line[from..].iter();
+    from + rest.take_while(|b| is_space(**b) == spaces).count()
 }
 
 // The first word at or after a place of a line.
@@ -68,83 +46,51 @@ pub fn word_from(line: &[u8], from: usize) -> Span
     Span { start, end }
 }
 
-// Whether two texts are the same.
-pub fn same(a: &[u8], b: &[u8]) -> bool
-    ensures { result ≡ alike a.now b.now }
+// The number that is begun, if one is, with one more digit. Another may begin only where there is room for it.
+#[tactic(auto, unfolding(crate::specs::Text::is_digit, crate::specs::Text::digit, crate::specs::Code::digit_told))]
+fn with_digit(begun: Option<u32>, b: u8, count: usize, room: usize) -> Result<u32, Fault>
+    ensures { result ≡ digit_told begun b (ltb count room) }
 {
-    if a.len() != b.len() {
-        return false;
+    if !b.is_ascii_digit() {
+        return Err(Fault::Unlike);
     }
-    let mut i = 0;
-    while i < a.len() {
-        if a[i] != b[i] {
-            return false;
-        }
-        i += 1;
+    if begun.is_none() && room <= count {
+        return Err(Fault::TooMany);
     }
-    true
-}
-
-// Whether a digit may follow: another number may begin only where there is room for it.
-fn has_room(within: bool, count: usize, room: usize) -> bool
-    ensures { result ≡ (within || ltb count room) }
-{
-    within || count < room
-}
-
-// The value with one more digit.
-fn with_digit(value: u32, b: u8) -> u64
-    requires { is_digit b ≡ true }
-    ensures { result ≡ value * 10 + digit b }
-{
-    (value as u64) * 10 + ((b - ZERO) as u64)
+    let larger = u64::from(begun.unwrap_or(0)) * 10 + u64::from(b - b'0');
+    u32::try_from(larger).map_err(|_| Fault::TooLarge)
 }
 
 // Puts the number that is begun, if one is, behind those that are whole. How many are whole then.
-fn put(list: &mut [u32], count: usize, within: bool, value: u32) -> usize
-    requires { (count ≤ length list.old) × (within ≡ true → count < length list.old) }
-    ensures list_after { take result list.new ≡ whole (record { numbers = take count list.old; within = within; value = value }) }
+#[tactic(auto, using(std::proofs::lemmas::List::take_more_set), unfolding(crate::specs::Text::whole))]
+fn put(list: &mut [u32], count: usize, begun: Option<u32>) -> usize
+    requires { (count ≤ length list.old) × (IsSome begun → count < length list.old) }
+    ensures list_after { take result list.new ≡ whole (begun_of (take count list.old) begun) }
     ensures lower_bound { (count ≤ result) × (result ≤ length list.new) × (drop result list.new ≡ drop result list.old) }
 {
-    if within {
-        list[count] = value;
-        return count + 1;
+    match begun {
+        Some(value) => {
+            list[count] = value;
+            count + 1
+        }
+        None => count,
     }
-    count
 }
 
 // Reads the numbers of a text into the start of a list: after a fault, those that are whole before it.
-pub fn read_numbers(text: &[u8], list: &mut [u32]) -> Numbers
+pub fn read_numbers(text: &[u8], list: &mut [u32]) -> Result<usize, Fault>
     ensures told { result ≡ numbers_told (numbers_in (length list.old) text.now) }
     ensures list { list.new ≡ read_into text.now list.old }
 {
     let mut count = 0;
-    let mut within = false;
-    let mut value: u32 = 0;
-    let mut i = 0;
-    while i < text.len() {
-        let b = text[i];
-        if is_space(b) {
-            count = put(list, count, within, value);
-            within = false;
-            value = 0;
-            i += 1;
-            continue;
+    let mut begun = None;
+    for b in text {
+        if is_space(*b) {
+            count = put(list, count, begun);
+            begun = None;
+        } else {
+            begun = Some(with_digit(begun, *b, count, list.len())?);
         }
-        if !is_digit(b) {
-            return Numbers::Unlike;
-        }
-        if !has_room(within, count, list.len()) {
-            return Numbers::TooMany;
-        }
-        let larger = with_digit(value, b);
-        if LARGEST < larger {
-            return Numbers::TooLarge;
-        }
-        within = true;
-        value = larger as u32;
-        i += 1;
     }
-    count = put(list, count, within, value);
-    Numbers::Count(count)
+    Ok(put(list, count, begun))
 }

@@ -9,6 +9,6 @@ pub returns-then-is_out : goal.returns-then-is_out
 returns-then-is_out c =
     rw (is_class_lem _ (sym c.is_out.ensures ∙ c.if-is_out.true)) (sym (coefficients_all _))
 
-pub returns : goal.returns
-returns c =
+pub returns-else-is_out : goal.returns-else-is_out
+returns-else-is_out c =
     sym (coefficients_valued _ _ (sym c.is_out.ensures ∙ c.if-is_out.false))

@@ -10,7 +10,7 @@ unfolding shape_of
 returns-then-is_out c =
     sym (unchecked_out _ _ (sym c.is_out.ensures ∙ c.if-is_out.true))
 
-pub returns : goal.returns
+pub returns-else-is_out : goal.returns-else-is_out
 unfolding shape_of
-returns c =
+returns-else-is_out c =
     sym (unchecked_valued _ _ (sym c.is_out.ensures ∙ c.if-is_out.false))

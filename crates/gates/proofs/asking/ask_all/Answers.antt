@@ -1,47 +1,25 @@
 -- `gates::asking::ask_all` meets its contract: the size, the gates and the last gate are asked in the order of the definition.
 -- Assumes nothing.
-use mathlib.Core.Path.{ap, ◌∙◌}
-use borrow.Author.Rules.{rules}
-use Rattle.circuit.specs.Accept.{ask_size, ask_circuit}
-use Rattle.circuit.specs.Verdict.{ask, ◌then◌}
+use mathlib.Core.Path.{◌≡◌, sym}
+use mathlib.Core.Bool.{true}
+use native.Mathlib.Omega.{arith}
+use Rattle.std.proofs.lemmas.Grind.{common_steps}
 use Rattle.circuit.specs.Gate.{gates}
-use Rattle.circuit.specs.Kind.{Output, is_class}
-use Rattle.circuit.specs.Code.{verdict_was}
-use Rattle.circuit.proofs.Asking.{circuit_gates, circuit_last, circuit_ok}
-use Rattle.circuit.proofs.Tests.{tests}
+use Rattle.circuit.proofs.Verdicts.{ask_true}
 use Rattle.gates.proofs.asking.ask_all.Goals as goal
-
-pub returns-then-c-ne0 : goal.returns-then-c-ne0
-unfolding verdict_was ask_circuit ask_size gates ask ◌then◌
-returns-then-c-ne0 c =
-    search tests
-
-pub returns-then-count-lt-FEWEST_GATES : goal.returns-then-count-lt-FEWEST_GATES
-unfolding verdict_was ask_circuit ask_size gates ask ◌then◌
-returns-then-count-lt-FEWEST_GATES c =
-    search tests
-
-pub returns-then-count-gt-MOST_GATES : goal.returns-then-count-gt-MOST_GATES
-unfolding verdict_was ask_circuit ask_size gates ask ◌then◌
-returns-then-count-gt-MOST_GATES c =
-    search tests
 
 pub ask_gates-requires : goal.ask_gates-requires
 unfolding gates
 ask_gates-requires c =
-    (search rules, search rules, λ e j h. c.requires e j h)
+    let h : c.if-count-ge-FEWEST_GATES.fits ≡ true = ask_true _ _ _ (sym c.in_ok-ask.ensures) in
+    (omega arith, grind (arith, common_steps), λ e j l. c.requires e j l)
 
-pub returns-in-Refused : goal.returns-in-Refused
-unfolding verdict_was gates
-returns-in-Refused c =
-    circuit_gates _ _ _ c.if-c-ne0.false c.if-count-lt-FEWEST_GATES.false c.if-count-gt-MOST_GATES.false (rw c.in-Refused.is at c.ask_gates.ensures)
+pub overflow_sub-count : goal.overflow_sub-count
+overflow_sub-count c =
+    let h : c.if-count-ge-FEWEST_GATES.fits ≡ true = ask_true _ _ _ (sym c.in_ok-ask.ensures) in
+    grind (arith, common_steps)
 
-pub returns-then-not-is_out : goal.returns-then-not-is_out
-unfolding verdict_was gates
-returns-then-not-is_out c =
-    circuit_last _ _ _ c.if-c-ne0.false c.if-count-lt-FEWEST_GATES.false c.if-count-gt-MOST_GATES.false (rw c.in-Accepted.is at c.ask_gates.ensures) (c.is_out.ensures ∙ ap (is_class Output) c.class_at.ensures) c.if-not-is_out.true-raw
-
-pub returns : goal.returns
-unfolding verdict_was gates
-returns c =
-    circuit_ok _ _ _ c.if-c-ne0.false c.if-count-lt-FEWEST_GATES.false c.if-count-gt-MOST_GATES.false (rw c.in-Accepted.is at c.ask_gates.ensures) (c.is_out.ensures ∙ ap (is_class Output) c.class_at.ensures) c.if-not-is_out.false-raw
+pub class_at-requires : goal.class_at-requires
+class_at-requires c =
+    let h : c.if-count-ge-FEWEST_GATES.fits ≡ true = ask_true _ _ _ (sym c.in_ok-ask.ensures) in
+    grind (arith, common_steps)

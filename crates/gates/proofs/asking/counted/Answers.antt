@@ -1,9 +1,7 @@
 -- `gates::asking::counted` meets its contract: the count goes on from no gate to the one asked for, and from there to the end.
 -- Assumes nothing.
-use mathlib.Core.Path.{refl}
 use native.Mathlib.Omega.{arith}
 use Rattle.circuit.specs.Gate.{gates}
-use Rattle.gates.specs.Code.{survey_of}
 use Rattle.gates.proofs.asking.counted.Goals as goal
 
 pub tally_between-here-requires : goal.tally_between-here-requires
@@ -17,6 +15,6 @@ tally_between-all-requires c =
     (c.least-stop.ensures.1, omega arith, omega (arith, c.requires), c.tally_between-here.ensures)
 
 pub returns : goal.returns
-unfolding survey_of gates
+unfolding gates
 returns c =
-    (refl, record { here = λ h. rw (c.least-stop.ensures.2 h) at c.tally_between-here.ensures; all = c.tally_between-all.ensures })
+    record { here = λ h. rw (c.least-stop.ensures.2 h) at c.tally_between-here.ensures; all = c.tally_between-all.ensures }

@@ -2,33 +2,24 @@
 -- the other and is left at the first that is no element.
 -- Assumes nothing.
 use mathlib.Core.Path.{sym}
-use borrow.Author.Tests.{lt-ltb, le-ltb}
-use native.Mathlib.Omega.{arith}
+use borrow.Author.Tests.{lt-ltb}
 use Rattle.circuit.specs.Verdict.{elements}
-use Rattle.circuit.specs.Code.{verdict_was}
-use Rattle.circuit.proofs.Verdicts.{ask_yes, ask_no, each_all}
-use Rattle.circuit.proofs.Loops.{asking_starts, asking_goes_on, asking_refuses, asking_ends}
+use Rattle.circuit.proofs.Verdicts.{ask_yes, each_all}
+use native.Mathlib.Omega.{arith}
+use borrow.Author.Rules.{rules}
+use Rattle.party.proofs.Loops.{each_start, each_no}
 use Rattle.party.proofs.asking.ask_elements.Goals as goal
 
 pub returns-then-all_elements : goal.returns-then-all_elements
-unfolding verdict_was elements
+unfolding elements
 returns-then-all_elements c =
     sym (each_all _ _ (λ k l. ask_yes _ _ (lt-ltb _ _ (c.all_elements.ensures.0 c.if-all_elements.true k l))))
 
 pub loop-k-init : goal.loop-k-init
 loop-k-init c =
-    asking_starts _ _
+    each_start _ _
 
-pub returns-then-xs-k-ge-SIZE : goal.returns-then-xs-k-ge-SIZE
-unfolding verdict_was elements
-returns-then-xs-k-ge-SIZE c =
-    asking_refuses _ _ _ c.loop-k.invariant (omega arith) (ask_no _ _ (le-ltb _ _ c.if-xs-k-ge-SIZE.true))
-
-pub loop-k-preserved : goal.loop-k-preserved
-loop-k-preserved c =
-    asking_goes_on _ _ _ c.loop-k.invariant (omega arith) (ask_yes _ _ (lt-ltb _ _ c.if-xs-k-ge-SIZE.false))
-
-pub returns : goal.returns
-unfolding verdict_was elements
-returns c =
-    asking_ends _ _ _ c.loop-k.invariant (omega arith)
+pub returns-in_err-ask : goal.returns-in_err-ask
+unfolding elements
+returns-in_err-ask c =
+    each_no _ _ _ c.loop-k.invariant (omega arith) c.ask.ensures c.in_err-ask.was (search rules)
