@@ -1,13 +1,13 @@
 -- Opened values are the same to all parties: they are sums of words that all receive.
 -- Assumes nothing.
-use Prim.Native.Nat.{ℕ, zero, suc, ◌+◌, ◌-◌, ◌*◌, ◌<◌, ◌≤◌}
+use Prim.Native.Nat.{ℕ, zero, suc, ◌+◌, ◌-◌, ◌<◌, ◌≤◌}
 use mathlib.Core.Path.{◌≡◌, refl, sym, ap, ◌∙◌}
 use mathlib.Core.Bool.{Bool, true, false, cond}
 use mathlib.Core.List.{List}
 use native.Mathlib.Decide.{ℕ_discrete}
 use native.Mathlib.Omega.{arith}
 use lib.Dec.{eqb}
-use lib.ListN.{length, take}
+use lib.ListN.{length}
 use borrow.Author.Tests.{eqb-true, eqb-false}
 use Rattle.algebra.specs.Ops.{Ops}
 use Rattle.algebra.specs.Element.{Is}
@@ -28,13 +28,12 @@ use Rattle.protocol.specs.Receive.{after_input, put_differences, after_opening, 
 use Rattle.protocol.specs.Code.{layout_of}
 use Rattle.protocol.specs.Joint.{Joint, party}
 use Rattle.protocol.specs.Run.{said, notes, step}
-use Rattle.protocol.proofs.Bands.{band_end}
 use Rattle.protocol.proofs.Tails.{slots_room}
 use Rattle.protocol.proofs.Marks.{ends_other}
 use Rattle.protocol.proofs.Slots.{length_opened, value_put, value_opened_same, value_opened_other}
 use Rattle.steps.specs.Code.{value_sum}
 use Rattle.joint.specs.declared.Frame.{Frame}
-use Rattle.joint.specs.Code.{Course, Banded, Common, state_of, Going, Moved}
+use Rattle.joint.specs.Code.{Course, Common, state_of, Going, Moved}
 use Rattle.joint.proofs.Going.{within, rooms as whole-rooms}
 
 -- so their weighed sum is, which the code makes of the first party's

@@ -1,14 +1,14 @@
 -- A list in which each party has its part, while each in turn is lent it.
 -- Assumes nothing.
 use Prim.Native.Nat.{ℕ, ◌+◌, ◌-◌, ◌*◌, ◌<◌, ◌≤◌}
-use mathlib.Core.Path.{◌≡◌, refl, sym, ap, ◌∙◌, subst}
+use mathlib.Core.Path.{◌≡◌, refl, sym, ap, ◌∙◌}
 use mathlib.Core.List.{List, [], ◌∷◌, ◌++◌, append_assoc, append-nil}
 use native.Mathlib.Decide.{ℕ_discrete}
-use native.Mathlib.Nat.{add-sub_cancel_left, suc-mul, mul-le-mul_right}
+use native.Mathlib.Nat.{add-sub_cancel_left, suc-mul}
 use native.Mathlib.Numerals.{add-one}
 use native.Mathlib.Omega.{arith}
 use lib.ListN.{length, get_or, set, length-set, drop_of_length-le, take, drop, length-drop, length-append, take-append-drop}
-use lib.Seq.{length-take-le, take_at, drop_at, drop-drop, take-append-le, drop-cons}
+use lib.Seq.{length-take-le, take_at, drop_at, drop-drop, drop-cons}
 use borrow.Rule.Slice.PartMut.{put_mid, same_len_mid}
 use denote.Ref.{MutBor}
 use denote.Param.Members.{Shared}
@@ -20,7 +20,6 @@ use Rattle.protocol.proofs.Filling.{Filled}
 use Rattle.protocol.proofs.Gathering.{each_set}
 use Rattle.protocol.specs.Send.{overwrite}
 use Rattle.protocol.proofs.Bands.{band_end, band_front, joined_bands}
-use Rattle.joint.proofs.Cutting.{drop_take}
 use Rattle.joint.specs.Parts.{PartsLeft, WordsGiven}
 
 -- the part from number a on is put back as ys

@@ -9,35 +9,37 @@ ghost use Rattle.protocol.specs.Scratch.{band};
 ghost use Rattle.joint.specs.Code.{Small, Counted, CountedOn, Placed, Framed, prep_from, key_in, Prepared, Banded};
 
 use crate::Frame;
+use crate::parts::part_of;
 use circuit::Totals;
 use field::Word;
 use protocol::Layout;
 
 impl Frame {
     // Party i's key share, which is the first number of its preprocessing.
+    #[tactic(auto, unfolding(protocol::specs::Scratch::band))]
     pub fn key(self, preps: &[Word], i: usize) -> Word
         requires { (i < self.parties) × Prepared self preps.now 0 1 }
         ensures { result ≡ key_in self preps.now i }
     {
-        preps[i * self.prep]
+        part_of(preps, self.prep, i)[0]
     }
 
     // Party i's preprocessing from number at on.
+    #[tactic(auto, unfolding(protocol::specs::Scratch::band))]
     pub fn prep_from(self, preps: &[Word], at: usize, i: usize) -> &[Word]
         requires { (i < self.parties) × Prepared self preps.now at 0 }
         ensures { result.now ≡ prep_from self preps.now at i }
     {
-        let start = i * self.prep;
-        &preps[start + at..start + self.prep]
+        &part_of(preps, self.prep, i)[at..]
     }
 
     // Party i's band of the scratch of all.
+    #[tactic(auto, unfolding(protocol::specs::Scratch::band))]
     pub fn band(self, scratch: &[Word], i: usize) -> &[Word]
         requires { (i < self.parties) × Banded self scratch.now }
         ensures { result.now ≡ band self.scratch scratch.now i }
     {
-        let start = i * self.scratch;
-        &scratch[start..start + self.scratch]
+        part_of(scratch, self.scratch, i)
     }
 }
 

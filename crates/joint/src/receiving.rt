@@ -79,8 +79,7 @@ pub fn receive_outputs(
         ≡ rebanded f (λ i. after_open_output ops (layout_of f.layout) (band f.scratch scratch.old i) (shown ops (layout_of f.layout) (band f.scratch scratch.old i) give x (prep_from f preps.now at i)) e) scratch.old }
 {
     each_part(f.parties, f.scratch, scratch, |i, band| {
-        let record = f.prep_from(preps, at, i);
-        steps::receiving::after_open_output(f.layout, band, x, give, record, e);
+        steps::receiving::after_open_output(f.layout, band, x, give, f.prep_from(preps, at, i), e);
     });
 }
 
@@ -104,7 +103,12 @@ pub fn listed_score(
         ≡ score ops (layout_of f.layout) (band f.scratch scratch.now (receiver (gate c.now j))) give (prep_from f preps.now at (receiver (gate c.now j))) }
 {
     let i = gates::reading::receiver_at(c, j);
-    steps::receiving::score_of(f.band(scratch, i), f.layout, give, f.prep_from(preps, at, i))
+    steps::receiving::score_of(
+        f.band(scratch, i),
+        f.layout,
+        give,
+        f.prep_from(preps, at, i),
+    )
 }
 
 // A commitment, whose words are the marks of all.

@@ -19,7 +19,7 @@ use crate::Frame;
 use crate::parts::{each_part, each_word, part_of};
 use circuit::rounds::{COMMIT_WORDS, NONCE_SIZE, REVEAL_WORDS};
 use field::Word;
-use steps::{Ends, Sums};
+use steps::Ends;
 
 // Each party's word of an in gate into out. Its record stands at number at of each party's preprocessing, and each party's next input at its
 // place.
@@ -56,7 +56,7 @@ pub fn opening_words(
     preps: &[Word],
     scratch: &[Word],
     out: &mut [Word],
-) -> Ends
+) -> Ends<Word>
     requires { (1 ≤ k)
         × (k ≤ 2)
         × Prepared f preps.now at (2 * k + 2)
@@ -69,7 +69,7 @@ pub fn opening_words(
     ensures sums { Is size (heard_sum ops f.parties k 0 out.new) result.first
         × Is size (heard_sum ops f.parties k (k - 1) out.new) result.last }
 {
-    let mut sums = Sums { first: 0, last: 0 };
+    let mut sums = Ends { first: 0, last: 0 };
     // No each_part: the clauses of a function that takes a closure tell nothing of sums that the closure adds to.
     for i in 0..f.parties {
         let start = i * k;

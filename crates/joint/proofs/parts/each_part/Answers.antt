@@ -1,7 +1,5 @@
-use borrow.Author.Rules.{rules}
-use mathlib.Core.Path.{◌∙◌, refl}
 use native.Mathlib.Omega.{arith}
-use Rattle.joint.proofs.Parting.{PartsDone, parts_start, parts_fit, parts_again, part_kept, part_long, parts_done}
+use Rattle.joint.proofs.Parting.{parts_start, parts_fit, parts_again, part_kept, part_long, parts_done}
 use Rattle.joint.proofs.parts.each_part.Goals as goal
 
 pub loop-i-init : goal.loop-i-init

@@ -1,24 +1,12 @@
 -- `joint::receiving::receive_marks` meets its contract: each party is lent its band.
 -- Assumes nothing.
-use Prim.Native.Nat.{ℕ, ◌+◌, ◌*◌, ◌<◌, ◌≤◌}
-use mathlib.Core.Path.{◌≡◌, sym}
-use mathlib.Core.Bool.{true}
-use mathlib.Core.List.{List}
-use native.Mathlib.Omega.{arith}
+use Prim.Native.Nat.{◌+◌, ◌≤◌}
 use borrow.Author.Rules.{rules}
-use lib.ListN.{length, drop}
-use Rattle.protocol.specs.Scratch.{band, slots_size, marks_at}
-use Rattle.circuit.specs.Round.{commit_words}
-use Rattle.circuit.specs.Gate.{gate_of}
-use Rattle.circuit.specs.Kind.{mask_size}
-use Rattle.circuit.specs.Code.{kind_of}
+use lib.ListN.{length}
+use Rattle.protocol.specs.Scratch.{marks_at}
 use Rattle.protocol.specs.Code.{layout_of}
-use Rattle.protocol.specs.Ready.{Opening}
-use Rattle.protocol.specs.Holding.{Held, Opened, Reads}
-use Rattle.field.specs.Words.{size}
-use Rattle.joint.specs.Code.{key_in, prep_from}
 use Rattle.joint.proofs.Parting.{parts_joined}
-use Rattle.joint.proofs.Cutting.{with_key, from_there, taken_key, taken_long, taken_low, taken_room, band_tail, mask_cut}
+use Rattle.joint.proofs.Cutting.{band_tail}
 use Rattle.joint.proofs.ReceiveTurns.{marks_left}
 use Rattle.joint.proofs.receiving.receive_marks.Goals as goal
 

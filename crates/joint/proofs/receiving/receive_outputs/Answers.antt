@@ -1,24 +1,19 @@
 -- `joint::receiving::receive_outputs` meets its contract: each party is lent its band.
 -- Assumes nothing.
-use Prim.Native.Nat.{ℕ, ◌+◌, ◌*◌, ◌<◌, ◌≤◌}
-use mathlib.Core.Path.{◌≡◌, sym}
+use Prim.Native.Nat.{ℕ, ◌≤◌}
+use mathlib.Core.Path.{◌≡◌}
 use mathlib.Core.Bool.{true}
 use mathlib.Core.List.{List}
-use native.Mathlib.Omega.{arith}
 use borrow.Author.Rules.{rules}
-use lib.ListN.{length, drop}
-use Rattle.protocol.specs.Scratch.{band, slots_size, marks_at}
-use Rattle.circuit.specs.Round.{commit_words}
-use Rattle.circuit.specs.Gate.{gate_of}
+use lib.ListN.{length}
+use Rattle.protocol.specs.Scratch.{band}
 use Rattle.circuit.specs.Kind.{mask_size}
-use Rattle.circuit.specs.Code.{kind_of}
 use Rattle.protocol.specs.Code.{layout_of}
-use Rattle.protocol.specs.Ready.{Opening}
-use Rattle.protocol.specs.Holding.{Held, Opened, Reads}
+use Rattle.protocol.specs.Holding.{Held}
 use Rattle.field.specs.Words.{size}
-use Rattle.joint.specs.Code.{key_in, prep_from}
+use Rattle.joint.specs.Code.{prep_from}
 use Rattle.joint.proofs.Parting.{parts_joined}
-use Rattle.joint.proofs.Cutting.{with_key, from_there, taken_key, taken_long, taken_low, taken_room, band_tail, mask_cut}
+use Rattle.joint.proofs.Cutting.{taken_low, taken_room, mask_cut}
 use Rattle.joint.proofs.ReceiveTurns.{output_left}
 use Rattle.joint.proofs.receiving.receive_outputs.Goals as goal
 

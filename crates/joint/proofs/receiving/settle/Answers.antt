@@ -4,7 +4,6 @@ use Prim.Native.Nat.{ℕ}
 use mathlib.Core.Path.{◌≡◌, sym, ap, ◌∙◌}
 use mathlib.Core.Bool.{Bool}
 use mathlib.Core.List.{List}
-use native.Mathlib.Omega.{arith}
 use Rattle.circuit.specs.Gate.{Kind, gate}
 use Rattle.circuit.specs.Kind.{Local, kind_shape, is_class, is_linear}
 use Rattle.circuit.specs.declared.Kind as code

@@ -1,21 +1,17 @@
 -- `joint::sending::check_shares` meets its contract: each party gives its word. The opened values are the same to all, so that their sum is that of the first party.
 -- Assumes nothing.
-use Prim.Native.Nat.{ℕ, ◌+◌, ◌-◌, ◌*◌, ◌<◌, ◌≤◌}
-use mathlib.Core.Path.{◌≡◌, sym, refl, ap, ◌∙◌}
-use mathlib.Core.Bool.{true}
+use Prim.Native.Nat.{ℕ, ◌+◌, ◌-◌, ◌<◌, ◌≤◌}
+use mathlib.Core.Path.{◌≡◌}
 use mathlib.Core.List.{List}
 use native.Mathlib.Omega.{arith}
 use borrow.Author.Rules.{rules}
-use lib.ListN.{length, drop, get_or}
-use Rattle.protocol.specs.Scratch.{band, slots_size, marks_at}
-use Rattle.circuit.specs.Round.{commit_words, reveal_words}
-use Rattle.circuit.specs.Kind.{mask_size}
+use lib.ListN.{length}
+use Rattle.protocol.specs.Scratch.{band, slots_size}
 use Rattle.protocol.specs.Code.{layout_of}
-use Rattle.protocol.specs.Holding.{Below, Held, Opened}
-use Rattle.protocol.specs.Send.{input_word, shown, mark, revealed}
-use Rattle.field.specs.Words.{size, ops}
-use Rattle.joint.specs.Code.{key_in, prep_from, share_in, revealed_by, part}
-use Rattle.joint.proofs.Cutting.{from_there, with_key, taken_key, taken_long, taken_low, taken_room, cut_low, cut_long, band_tail, band_room, mask_cut}
+use Rattle.protocol.specs.Holding.{Below, Opened}
+use Rattle.field.specs.Words.{size}
+use Rattle.joint.specs.Code.{key_in, share_in, part}
+use Rattle.joint.proofs.Cutting.{taken_key, taken_room, band_room}
 use Rattle.algebra.specs.Element.{Is}
 use Rattle.steps.specs.Code.{value_sum}
 use Rattle.protocol.proofs.Said.{below_part}
@@ -33,13 +29,13 @@ each_word-requires c = λ i h.
     let inside : i < c.args.f.parties = omega (arith, h, c.requires.9) in
     let drawn : List ℕ = part c.args.u (c.args.u + c.args.k) c.args.coefficients.now in
     let asks : (l : List ℕ) → l ≡ band c.args.f.scratch c.args.scratch.now i → (key : ℕ) → key ≡ key_in c.args.f c.args.preps.now i
-        → Is size (value_sum (layout_of c.args.f.layout) l c.args.k drawn) c.weigh_values-sum.result
-        × (slots_size (layout_of c.args.f.layout) ≤ length l)
-        × (0 < (layout_of c.args.f.layout).capacity)
-        × (key < size)
-        × (c.args.k ≤ length drawn)
-        × Below size drawn
-        × ((t : ℕ) → t < c.args.k → Opened size (layout_of c.args.f.layout) l t) = λ l a key b. (
+    → Is size (value_sum (layout_of c.args.f.layout) l c.args.k drawn) c.weigh_values-sum.result
+    × (slots_size (layout_of c.args.f.layout) ≤ length l)
+    × (0 < (layout_of c.args.f.layout).capacity)
+    × (key < size)
+    × (c.args.k ≤ length drawn)
+    × Below size drawn
+    × ((t : ℕ) → t < c.args.k → Opened size (layout_of c.args.f.layout) l t) = λ l a key b. (
       rw a (common_sum c.args.f c.args.scratch.now c.args.k drawn c.requires.8 i inside (rw c.band.ensures at c.weigh_values-sum.ensures)),
       taken_room c.requires.2 i inside a,
       c.requires.7,

@@ -1,21 +1,16 @@
 -- `joint::sending::input_words` meets its contract: each party gives its word.
 -- Assumes nothing.
-use Prim.Native.Nat.{ℕ, ◌+◌, ◌*◌, ◌<◌, ◌≤◌}
-use mathlib.Core.Path.{◌≡◌, sym, refl, ap, ◌∙◌}
-use mathlib.Core.Bool.{true}
+use Prim.Native.Nat.{ℕ, ◌<◌}
+use mathlib.Core.Path.{◌≡◌}
 use mathlib.Core.List.{List}
 use native.Mathlib.Omega.{arith}
 use borrow.Author.Rules.{rules}
-use lib.ListN.{length, drop, get_or}
-use Rattle.protocol.specs.Scratch.{band, slots_size, marks_at}
-use Rattle.circuit.specs.Round.{commit_words, reveal_words}
-use Rattle.circuit.specs.Kind.{mask_size}
-use Rattle.protocol.specs.Code.{layout_of}
-use Rattle.protocol.specs.Holding.{Below, Held, Opened}
-use Rattle.protocol.specs.Send.{input_word, shown, mark, revealed}
+use lib.ListN.{length, get_or}
+use Rattle.protocol.specs.Holding.{Below}
+use Rattle.protocol.specs.Send.{input_word}
 use Rattle.field.specs.Words.{size, ops}
-use Rattle.joint.specs.Code.{key_in, prep_from, share_in, revealed_by, part}
-use Rattle.joint.proofs.Cutting.{from_there, with_key, taken_key, taken_long, taken_low, taken_room, cut_low, cut_long, band_tail, band_room, mask_cut}
+use Rattle.joint.specs.Code.{prep_from}
+use Rattle.joint.proofs.Cutting.{from_there, taken_long, taken_low}
 use Rattle.joint.proofs.Parting.{words_joined}
 use Rattle.joint.proofs.sending.input_words.Goals as goal
 

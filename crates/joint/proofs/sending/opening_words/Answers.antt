@@ -1,11 +1,13 @@
 -- `joint::sending::opening_words` meets its contract. The loop's invariant: the parties before i have their words in out, and the rest is as it was; their first and last words are added up. The measure is the number of parties left.
 -- Assumes nothing.
 use Prim.Native.Nat.{ℕ, ◌<◌}
+use mathlib.Core.Path.{◌≡◌}
+use lib.ListN.{length}
 use native.Mathlib.Omega.{arith}
 use Rattle.field.specs.Words.{ops}
 use Rattle.field.proofs.Laws.{laws}
 use Rattle.protocol.proofs.Summing.{running_start, running_more}
-use Rattle.protocol.proofs.Filling.{filled_start, filled_length, filled_fits, filled_again}
+use Rattle.protocol.proofs.Filling.{filled_start, filled_fits, filled_again}
 use Rattle.protocol.proofs.Gathering.{put_room, part_room, part_put, put_done}
 use Rattle.joint.proofs.Cutting.{cut_long, cut_low, band_room}
 use Rattle.joint.proofs.Parting.{filled_to}
@@ -45,7 +47,7 @@ heard_ends-requires c = (
 
 pub returns : goal.returns
 returns c =
-    let each : (i : ℕ) → i < c.args.f.parties → _ = λ i h. opened_words_lem ops _ _ _ _ _ _ c.requires.0 c.requires.1 in
+    let each : (i : ℕ) → i < c.args.f.parties → length (opened_words c.args.f c.args.preps.now c.args.scratch.now c.args.at c.args.x c.args.z c.args.k i) ≡ c.args.k = λ i h. opened_words_lem ops _ _ _ _ _ _ c.requires.0 c.requires.1 in
     let d = put_done _ _ _ c.requires.5 (λ m h. opened_words_lem ops _ _ _ _ _ _ c.requires.0 c.requires.1) c.loop-i.invariant.0 (omega arith) in
     record {
       out = d;

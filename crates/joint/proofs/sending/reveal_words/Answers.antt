@@ -1,24 +1,19 @@
 -- `joint::sending::reveal_words` meets its contract: each party is lent its part.
 -- Assumes nothing.
-use Prim.Native.Nat.{ℕ, ◌+◌, ◌*◌, ◌<◌, ◌≤◌}
-use mathlib.Core.Path.{◌≡◌, sym, refl, ap, ◌∙◌}
-use mathlib.Core.Bool.{true}
+use Prim.Native.Nat.{ℕ, ◌<◌, ◌≤◌}
+use mathlib.Core.Path.{◌≡◌}
 use mathlib.Core.List.{List}
 use native.Mathlib.Omega.{arith}
 use borrow.Author.Rules.{rules}
-use lib.ListN.{length, drop, get_or}
-use Rattle.protocol.specs.Scratch.{band, slots_size, marks_at}
-use Rattle.circuit.specs.Round.{commit_words, reveal_words}
-use Rattle.circuit.specs.Kind.{mask_size}
+use lib.ListN.{length}
+use Rattle.protocol.specs.Scratch.{band, marks_at}
+use Rattle.circuit.specs.Round.{reveal_words}
 use Rattle.protocol.specs.Code.{layout_of}
-use Rattle.protocol.specs.Holding.{Below, Held, Opened}
-use Rattle.protocol.specs.Send.{input_word, shown, mark, revealed}
-use Rattle.field.specs.Words.{size, ops}
-use Rattle.joint.specs.Code.{key_in, prep_from, share_in, revealed_by, part}
-use Rattle.joint.proofs.Cutting.{from_there, with_key, taken_key, taken_long, taken_low, taken_room, cut_low, cut_long, band_tail, band_room, mask_cut}
+use Rattle.joint.specs.Code.{revealed_by}
+use Rattle.joint.proofs.Cutting.{band_tail}
 use Rattle.protocol.specs.Send.{overwrite}
 use Rattle.protocol.proofs.Words.{length_band}
-use Rattle.joint.proofs.SendTurns.{mark_long, reveal_long}
+use Rattle.joint.proofs.SendTurns.{reveal_long}
 use Rattle.joint.proofs.Parting.{parts_all, fills}
 use Rattle.joint.proofs.sending.reveal_words.Goals as goal
 
