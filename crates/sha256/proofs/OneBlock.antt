@@ -4,7 +4,7 @@ use Rattle.std.proofs.Common.{◌≡◌, ℕ, zero, suc, ◌+◌, ◌-◌, ◌*�
 use lib.Seq.{take-length, take-append-add}
 use Rattle.sha256.specs.Sha256.{H₀, bytes_of, padding, pad, word_of, words_of, compress, blocks, sha256}
 use Rattle.sha256.specs.Digest.{bytes, digest}
-use Rattle.sha256.specs.Digest.Laws.{digest_is, digest_long}
+use Rattle.sha256.specs.Digest.Laws.{digest_is}
 use Rattle.sha256.proofs.Bytes.{words_back, length_bytes}
 
 set_append_add : (xs ys : List ℕ) (i a : ℕ) → set (xs ++ ys) (length xs + i) a ≡ xs ++ set ys i a
@@ -59,7 +59,3 @@ module _ (m w : List ℕ) (h : length m ≤ 13) (low : (i : ℕ) → get_or m i 
       let u : List ℕ = set (set w (length m) 0x8000_0000) 15 (32 * length m) in
       let lu : length u ≡ 64 = simp length-set (omega arith) in
       once (bytes m) (take 16 u) padded (length-take-le 16 u (omega arith)) ∙ sym (digest_is m)
-
--- a hash written over the front of a list
-pub written_over : (m z : List ℕ) {h : List ℕ} → h ≡ digest m → h ++ drop (length h) z ≡ digest m ++ drop 8 z
-written_over m z e = ap (λ (l : List ℕ). l ++ drop (length l) z) e ∙ ap (λ (k : ℕ). digest m ++ drop k z) (digest_long m)
