@@ -6,7 +6,7 @@ ghost use Rattle.sha256.specs.Sha256 as spec;
 use crate::functions;
 
 // The constants of the rounds.
-static K: [u32; 64] = [
+const K: [u32; 64] = [
     0x428a_2f98,
     0x7137_4491,
     0xb5c0_fbcf,
@@ -83,8 +83,8 @@ const BLOCK: usize = 16;
 const TURN: usize = 8;
 
 // Writes the next eight words of a schedule whose first t + 16 words are there. Each is made of the words 2, 7, 15 and 16 before it.
-fn extend(w: &mut [u32], t: usize)
-    requires { (length w.old ≡ 64) × (t + 24 ≤ 64) }
+fn extend(w: &mut [u32; 64], t: usize)
+    requires { t + 24 ≤ 64 }
     ensures { w.new ≡ spec.extend 8 (take (t + 16) w.old) ++ drop (t + 24) w.old }
 {
     for i in 0..TURN {
@@ -106,27 +106,27 @@ fn turn(hash: [u32; 8], k: &[u32], w: &[u32]) -> [u32; 8]
     v
 }
 
-// All rounds of the block that is the first sixteen words of w, whose other words become its schedule.
-fn rounds(hash: [u32; 8], w: &mut [u32]) -> [u32; 8]
-    requires { length w.old ≡ 64 }
+// All rounds of the block that is the first sixteen words of w, whose other words become its schedule. The constants are copied once: `K[t..]` in the
+// loop would make all of them at every turn.
+fn rounds(hash: [u32; 8], w: &mut [u32; 64]) -> [u32; 8]
     ensures value { result ≡ spec.rounds spec.K (spec.schedule (take 16 w.old)) hash }
     ensures w_after { w.new ≡ spec.schedule (take 16 w.old) }
 {
+    let k = K;
     let mut v = hash;
     for i in 0..ROUNDS / TURN {
         let t = TURN * i;
         if t < ROUNDS - BLOCK {
             extend(w, t);
         }
-        let next = turn(v, &K[t..t + TURN], &w[t..t + TURN]);
+        let next = turn(v, &k[t..t + TURN], &w[t..t + TURN]);
         v = next;
     }
     v
 }
 
 // The hash after the block that is the first sixteen words of w.
-pub fn compress(hash: [u32; 8], w: &mut [u32]) -> [u32; 8]
-    requires { length w.old ≡ 64 }
+pub fn compress(hash: [u32; 8], w: &mut [u32; 64]) -> [u32; 8]
     ensures value { result ≡ spec.compress hash (take 16 w.old) }
     ensures w_after { w.new ≡ spec.schedule (take 16 w.old) }
 {
