@@ -1,13 +1,12 @@
 -- How the sums over words heard and over opened entries go on by one term.
 -- Assumes nothing.
 use Prim.Native.Nat.{ℕ, zero, suc, ◌+◌, ◌*◌, ◌<◌, ◌≤◌}
-use mathlib.Core.Path.{◌≡◌, refl, ap, ◌∙◌, subst}
+use mathlib.Core.Path.{◌≡◌, refl, ap, subst}
 use mathlib.Core.List.{List}
 use native.Mathlib.Omega.{arith}
 use native.Mathlib.Numerals.{add-one}
 use native.Mathlib.Nat.{le_trans, mul-le-mul_right, suc-mul}
 use lib.ListN.{length, get_or}
-use Rattle.algebra.specs.Element.{Is}
 use Rattle.algebra.specs.Ops.{Ops}
 use Rattle.algebra.specs.Field.{Field}
 use Rattle.algebra.proofs.Ring.{add_lt}
@@ -16,7 +15,6 @@ use Rattle.algebra.specs.Sum.{sum}
 use Rattle.protocol.specs.Scratch.{Layout, Value, ValueMac, offset, slots_size, read}
 use Rattle.protocol.specs.Holding.{Opened}
 use Rattle.protocol.specs.Send.{check_share}
-use Rattle.protocol.specs.Receive.{heard_sum}
 
 -- i terms of a row are added up
 pub record Added (O : Ops) (f : ℕ → ℕ) (i acc : ℕ) : Type 0 where

@@ -1,15 +1,13 @@
 -- How sums of products of coefficients and numbers go on, pass by pass, and what they are of parts of lists.
 -- Assumes nothing.
 use Prim.Native.Nat.{ℕ, zero, suc, ◌+◌, ◌-◌, ◌<◌, ◌≤◌}
-use mathlib.Core.Path.{◌≡◌, refl, sym, ap, ap₂, ◌∙◌}
+use mathlib.Core.Path.{◌≡◌, sym, ap, ap₂, ◌∙◌}
 use mathlib.Core.List.{List}
 use native.Mathlib.Omega.{arith}
 use mathlib.Core.Logic.{inl, inr}
 use lib.ListN.{length, get_or, take, drop, get_or-eq_default}
 use Rattle.std.proofs.lemmas.List.{get_or-drop, get_or-take, length-take-le, length-drop}
 use Rattle.std.proofs.lemmas.Bool.{cases_lt}
-use Rattle.algebra.specs.Ops.{Ops}
-use Rattle.algebra.specs.Field.{Field}
 use Rattle.algebra.specs.Sum.{sum}
 use native.Mathlib.Numerals.{add-one}
 use Rattle.algebra.proofs.Ring.{norm_norm}
@@ -53,10 +51,10 @@ weighed_part l coefficients at k h few =
 
 -- elements that stand side by side in a list are elements as a part of it, and behind its end stands 0
 pub below_take : (k : ℕ) (xs : List ℕ) → k ≤ length xs → ((t : ℕ) → t < k → get_or xs t 0 < size) → Below size (take k xs)
-below_take k xs fits h i = 
+below_take k xs fits h i =
     elim (cases_lt i k) [
-      inl less ↦ rw (get_or-take k xs i 0 less) (h i less)
-    | inr more ↦ rw (get_or-eq_default (take k xs) 0 {n = i} (omega (arith, length-take-le k xs fits))) (omega arith)
+      | inl less ↦ rw (get_or-take k xs i 0 less) (h i less)
+      | inr more ↦ rw (get_or-eq_default (take k xs) 0 {n = i} (omega (arith, length-take-le k xs fits))) (omega arith)
     ]
 
 pub below_drop : (at : ℕ) (xs : List ℕ) → Below size xs → Below size (drop at xs)
@@ -70,10 +68,11 @@ pub parts_asked : (l coefficients : List ℕ) (at k : ℕ) → at + k ≤ length
 parts_asked l coefficients at k h low few low' =
     let z : at + k - at ≡ k = omega arith in
     let m : k ≤ length (drop at l) = omega (arith, length-drop at l) in
-    rw z
-    (length-take-le k (drop at l) m ∙ sym (length-take-le k coefficients few),
-    below_take k (drop at l) m (λ t less. rw (get_or-drop at l t 0) (low t less)),
-    below_take k coefficients few (λ t less. low' t))
+    rw z (
+      length-take-le k (drop at l) m ∙ sym (length-take-le k coefficients few),
+      below_take k (drop at l) m (λ t less. rw (get_or-drop at l t 0) (low t less)),
+      below_take k coefficients few (λ t less. low' t),
+    )
 
 -- what is asked of a pass
 pub pass_asked : (values coefficients : List ℕ) (t to : ℕ) → t ≤ to → length values ≡ length coefficients → to ≤ length coefficients
@@ -85,11 +84,12 @@ pub pass_asked : (values coefficients : List ℕ) (t to : ℕ) → t ≤ to → 
     × Below size (take (to - t) (drop t coefficients))
 pass_asked values coefficients t to h long fits low low' =
     let m : to - t ≤ length (drop t values) = omega (arith, length-drop t values) in
-    let n : to - t ≤ length (drop t coefficients) = omega (arith, length-drop t coefficients) in
-    (length-take-le (to - t) (drop t values) m ∙ sym (length-take-le (to - t) (drop t coefficients) n),
-    length-take-le (to - t) (drop t coefficients) n,
-    below_take (to - t) (drop t values) m (λ i less. below_drop t values low i),
-    below_take (to - t) (drop t coefficients) n (λ i less. below_drop t coefficients low' i))
+    let n : to - t ≤ length (drop t coefficients) = omega (arith, length-drop t coefficients) in (
+      length-take-le (to - t) (drop t values) m ∙ sym (length-take-le (to - t) (drop t coefficients) n),
+      length-take-le (to - t) (drop t coefficients) n,
+      below_take (to - t) (drop t values) m (λ i less. below_drop t values low i),
+      below_take (to - t) (drop t coefficients) n (λ i less. below_drop t coefficients low' i),
+    )
 
 -- the products before t, and those from t on before to
 pub weighed_on : (values coefficients : List ℕ) (t to : ℕ) → t ≤ to → length values ≡ length coefficients → to ≤ length coefficients

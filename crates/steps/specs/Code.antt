@@ -1,9 +1,9 @@
 -- What the code's parts stand for.
 -- Assumes nothing.
-use Rattle.std.specs.Prelude.{ℕ, ◌+◌, ◌-◌, ◌<◌, ◌≡◌, List, get_or}
+use Rattle.std.specs.Prelude.{ℕ, ◌-◌, ◌<◌, ◌≡◌, List, get_or}
 use Rattle.algebra.specs.Element.{Is}
 use Rattle.algebra.specs.Sum.{sum}
-use Rattle.field.specs.Words.{size, ops, sum_size}
+use Rattle.field.specs.Words.{size, ops}
 use Rattle.circuit.specs.Round.{Round}
 use Rattle.protocol.specs.Part as A
 use Rattle.protocol.specs.Scratch.{Layout, Value, read}

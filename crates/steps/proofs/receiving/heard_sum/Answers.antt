@@ -1,6 +1,5 @@
 -- `steps::receiving::heard_sum` meets its contract: after i turns the sum is that of the first i parties' words.
 -- Assumes nothing.
-use Prim.Native.Nat.{ℕ}
 use mathlib.Core.Path.{◌≡◌, refl}
 use native.Mathlib.Omega.{arith}
 use Rattle.field.proofs.Laws.{laws}
