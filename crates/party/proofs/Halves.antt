@@ -2,16 +2,18 @@
 -- Assumes nothing.
 use Prim.Native.Nat.{ℕ, ◌+◌, ◌*◌, ◌<◌, ◌≤◌}
 use mathlib.Core.Path.{◌≡◌, refl, sym, ap, subst, ◌∙◌}
-use mathlib.Core.Bool.{Bool, true, false, ◌&&◌}
+use mathlib.Core.Bool.{Bool, true, cond, ◌&&◌}
 use mathlib.Core.List.{List}
 use native.Mathlib.Omega.{arith}
+use Rattle.std.specs.Prelude.{Option, Some, None}
 use lib.ListN.{length, drop}
 use Rattle.field.specs.Words.{size, ops}
-use Rattle.circuit.specs.Verdict.{Verdict, Accepted, Refused, ask, ◌then◌}
+use Rattle.circuit.specs.Verdict.{Verdict, Accepted, ◌then◌}
 use Rattle.circuit.specs.Gate.{gate_size, gate, gates}
 use Rattle.circuit.specs.Kind.{is_give, seen_by, alone}
 use Rattle.circuit.specs.Count.{unchecked}
 use Rattle.circuit.specs.Round.{Round, rounds, among}
+use Rattle.circuit.specs.declared.Round.{Round as Told}
 use Rattle.protocol.specs.Scratch.{slots_size}
 use Rattle.protocol.specs.Position as At
 use Rattle.protocol.specs.Party.{Party}
@@ -20,14 +22,15 @@ use Rattle.protocol.specs.Receive.{Ruling, Passed, Stopped, score, next, finds, 
 use Rattle.protocol.specs.Holding.{Below, Opened}
 use Rattle.protocol.specs.Code.{layout_of, stage_of, Sited}
 use Rattle.protocol.specs.Ready.{Ready}
+use Rattle.protocol.specs.declared.Stage as D
 use Rattle.protocol.specs.declared.Layout.{Layout}
 use Rattle.protocol.specs.declared.Site.{Site}
-use Rattle.protocol.specs.Ask.{most_parties, ask_lent, ask_send_round, ask_receive_round, ask_send, ask_receive}
+use Rattle.protocol.specs.Ask.{most_parties, ask_send_round, ask_receive_round, ask_send, ask_receive}
 use Rattle.protocol.specs.Entry as E
-use Rattle.party.specs.Code.{position_of, leads_to, Posed, lent_of, LentOk, place_of, PlaceOk, LentTo, RoundAt, Sendable, Receivable}
+use Rattle.party.specs.Code.{position_of, leads_to, Posed, place_of, LentTo, RoundAt, Sendable, Receivable}
 use Rattle.party.specs.declared.Position.{Position}
-use Rattle.party.specs.declared.Lent as D
 use Rattle.circuit.proofs.Tests.{by_cases, both_left}
+use Rattle.circuit.proofs.Loops.{then_assoc}
 use Rattle.protocol.proofs.Answers.{release_second}
 use Rattle.protocol.proofs.Scoring.{score_asks, score_made}
 use Rattle.protocol.proofs.Accepted.{Lends, parties_few, gate_occurs, stage_occurs_lem, entries_fit, sends, receives}
@@ -36,49 +39,35 @@ use Rattle.protocol.proofs.Tails.{slots_room}
 use Rattle.party.proofs.Accepted.{positive, lends_here}
 use Rattle.protocol.proofs.Entries.{asked, half_decides, sending_at_lem, receiving_at_lem, Sending, send_done, Receiving, receive_done}
 
--- questions 1 to 13, by the one that decides
-module _ (P : Party) (l : List ℕ) (at : At.Position) where
-  pub lent_refuses : {number index : ℕ} → ask_lent size P l ≡ Refused number index → Refused number index ≡ place_of P l at
-  unfolding place_of ◌then◌
-  lent_refuses e = rw e
+-- all questions of a call: 1 to 13, and then those of its half
+pub placed : (P : Party) (l : List ℕ) (at : At.Position) (half : Verdict) {v : Verdict} → v ≡ (place_of P l at then half) → v ≡ asked size P l at half
+unfolding place_of
+placed P l at half e = e ∙ then_assoc _ _ _
 
-  pub place_refuses : ask_lent size P l ≡ Accepted → At.occurs size P.circuit at ≡ false → Refused 13 0 ≡ place_of P l at
-  unfolding place_of ◌then◌ ask
-  place_refuses e f = rw (e, f)
+-- a stage at which nothing is sent, or nothing received
+module _ {A : Type 0} (other : A) (f : Round → A) where
+  pub sends_nothing : (s : D.Stage) → ((r : Told) → s ≡ D.Stage.Send r → ⊥) → other ≡ At.when_sending (stage_of s) other f
+  unfolding At.when_sending
+  sends_nothing (D.Stage.Send r) never = absurd (never r refl)
+  sends_nothing (D.Stage.Receive r) never = refl
+  sends_nothing D.Stage.Finished never = refl
+  sends_nothing D.Stage.Aborted never = refl
 
-  pub place_accepts : ask_lent size P l ≡ Accepted → At.occurs size P.circuit at ≡ true → Accepted ≡ place_of P l at
-  unfolding place_of ◌then◌ ask
-  place_accepts e f = rw (e, f)
-
-  -- they come first
-  pub placed_refuses : {number index : ℕ} (half : Verdict) → place_of P l at ≡ Refused number index → Refused number index ≡ asked size P l at half
-  unfolding place_of ◌then◌
-  placed_refuses {number} {index} half e = go (ask_lent size P l) e
-    where
-      go : (v : Verdict) → (v then ask 13 0 (At.occurs size P.circuit at)) ≡ Refused number index
-          → Refused number index ≡ (v then ask 13 0 (At.occurs size P.circuit at) then half)
-      go Accepted e = rw e
-      go (Refused m k) e = sym e
-
-pub lent_to : (P : Party) (l : List ℕ) (gate : ℕ) {x : D.Lent} {y : Layout} {site : Site}
-    → lent_of x ≡ ask_lent size P l → LentOk P.circuit P.me gate x → x ≡ D.Lent.Accepted y site → LentTo P l y site gate
-unfolding lent_of
-lent_to P l gate {y} {site} e h g =
-    let ok = (rw g at h) in
-    record { accepted = sym e ∙ ap lent_of g; lay = ok.0; here = ok.1; sited = ok.2 }
-
-pub round_at_lem : (P : Party) (l : List ℕ) (at : Position) {x : D.Lent} {y : Layout} {site : Site}
-    → PlaceOk P l at x → x ≡ D.Lent.Accepted y site → RoundAt P l y site at
-round_at_lem P l at h g = rw g at h
+  pub receives_nothing : (s : D.Stage) → ((r : Told) → s ≡ D.Stage.Receive r → ⊥) → other ≡ At.when_receiving (stage_of s) other f
+  unfolding At.when_receiving
+  receives_nothing (D.Stage.Send r) never = refl
+  receives_nothing (D.Stage.Receive r) never = absurd (never r refl)
+  receives_nothing D.Stage.Finished never = refl
+  receives_nothing D.Stage.Aborted never = refl
 
 -- what the code makes of a round's end is what is defined
-leads_is : (P : Party) (j held : ℕ) (r : Round) {told : Bool} {output w : ℕ} (v : Ruling)
+leads_is : (P : Party) (j held : ℕ) (r : Round) {told : Bool} {output : Option ℕ} (w : ℕ) (v : Ruling)
     → told ≡ (E.releases r && seen_by (alone P.me) (gate P.circuit j))
-    → (told ≡ true → output ≡ w)
-    → leads_to r held told output v (next P.circuit j r v) ≡ E.concludes ops P w j held r v
+    → output ≡ cond told (Some w) None
+    → leads_to r held output v (next P.circuit j r v) ≡ E.concludes ops P w j held r v
 unfolding leads_to E.concludes E.next_position
-leads_is P j held r {told} Passed e h = rw (← e) (by_cases told (λ b. rw (b, h b)) (λ b. rw b))
-leads_is P j held r (Stopped b) e h = refl
+leads_is P j held r {told} w Passed e h = rw (h, ← e) (by_cases told (λ b. rw b) (λ b. rw b))
+leads_is P j held r w (Stopped b) e h = refl
 
 module _ (P : Party) (l : List ℕ) (y : Layout) (site : Site) where
   -- what question 13 asks
@@ -184,16 +173,16 @@ module _ (P : Party) (l : List ℕ) (y : Layout) (site : Site) where
           (j ∙ ap (λ (k : ℕ). overwrite (sent ops P l k at.held coefficients nonce r) out) s.here) k
 
     module _ (heard : List ℕ) (s : Receivable P l at heard y site r) where
-      pub received_done : {told : Bool} {output : ℕ} {v : Ruling} {x : At.Point} {a : E.Answer} {later : List ℕ} → ask_receive size P l (position_of at) heard ≡ Accepted
+      pub received_done : {told : Bool} {output : Option ℕ} {v : Ruling} {x : At.Point} {a : E.Answer} {later : List ℕ} → ask_receive size P l (position_of at) heard ≡ Accepted
           → told ≡ (E.releases r && seen_by (alone P.me) (gate P.circuit site.gate))
-          → (told ≡ true → output ≡ score ops (layout_of y) l (is_give (gate P.circuit site.gate)) (drop site.prep P.prep))
+          → output ≡ cond told (Some (score ops (layout_of y) l (is_give (gate P.circuit site.gate)) (drop site.prep P.prep))) None
           → v ≡ finds ops P l r heard
           → x ≡ next P.circuit site.gate r (finds ops P l r heard)
-          → a ≡ leads_to r at.held told output v x
+          → a ≡ leads_to r at.held output v x
           → later ≡ left ops P (finds ops P l r heard) l site.gate r heard
           → Receiving ops P l (position_of at) heard a later
       unfolding position_of E.outcome
-      received_done e t o w x a j =
+      received_done {told} e t o w x a j =
           receive_done ops P l (position_of at) heard r e s.half
-          (a ∙ rw (w, x, ← s.here) (leads_is P site.gate at.held r (finds ops P l r heard) t (λ b. score_made ops P l y site r s.receives.ready refl refl (o b))))
+          (a ∙ rw (w, x, ← s.here) (leads_is P site.gate at.held r _ (finds ops P l r heard) t (o ∙ ap (λ (w : ℕ). cond told (Some w) None) (score_made ops P l y site r s.receives.ready refl refl refl))))
           (j ∙ ap (λ (k : ℕ). left ops P (finds ops P l r heard) l k r heard) s.here)

@@ -1,27 +1,27 @@
 -- What questions 1 to 12 come to, and what their acceptance gives.
 -- Assumes nothing.
 use Prim.Native.Nat.{ℕ, ◌+◌, ◌*◌, ◌/◌, ◌<◌, ◌≤◌}
-use mathlib.Core.Path.{◌≡◌, refl, sym, ap, ap₂, subst, ◌∙◌}
+use mathlib.Core.Path.{◌≡◌, refl, sym, ap, ap₂, ◌∙◌}
 use mathlib.Core.List.{List}
 use native.Mathlib.Omega.{arith}
 use lib.ListN.{length}
-use lib.Dec.{ltb, leb, eqb}
+use lib.Dec.{leb, eqb}
+use Rattle.std.specs.Prelude.{Result, Ok}
 use Rattle.field.specs.Words.{size}
-use Rattle.circuit.specs.Verdict.{Verdict, Accepted, Refused, ask, ◌then◌, elements}
+use Rattle.circuit.specs.Verdict.{Verdict, Accepted, ask, ◌then◌, elements}
 use Rattle.circuit.specs.Gate.{gate_size, gates}
 use Rattle.circuit.specs.Count.{prep_size, capacity, input_count}
 use Rattle.circuit.specs.Round.{commit_words}
 use Rattle.circuit.specs.Accept.{ask_circuit}
 use Rattle.circuit.specs.Valid.{Valid}
-use Rattle.circuit.specs.Code.{verdict_was, Tallied}
-use Rattle.circuit.specs.declared.Verdict as Told
+use Rattle.circuit.specs.Question.{verdict_of}
+use Rattle.circuit.specs.Code.{Tallied}
+use Rattle.circuit.specs.declared.questions.Refusal.{Refusal}
 use Rattle.circuit.specs.declared.Tally.{Tally}
-use Rattle.circuit.proofs.Verdicts.{then_refused, then_passed, then_left, ask_true}
+use Rattle.circuit.proofs.Verdicts.{ask_true}
 use Rattle.circuit.proofs.Tests.{both_right}
 use borrow.Author.Tests.{leb-true}
 use Rattle.circuit.proofs.Valid.{valid}
-use Rattle.gates.specs.Code.{survey_of, Counted, SurveyOk}
-use Rattle.gates.specs.declared.Survey as D
 use Rattle.circuit.proofs.Tallies.{tally_low}
 use Rattle.protocol.specs.Scratch as S
 use Rattle.protocol.specs.Party.{Party}
@@ -29,7 +29,7 @@ use Rattle.protocol.specs.Code.{layout_of, Sited}
 use Rattle.protocol.specs.declared.Layout.{Layout}
 use Rattle.protocol.specs.declared.Site.{Site}
 use Rattle.protocol.specs.Ask.{ask_parties, ask_lent}
-use Rattle.circuit.proofs.Loops.{then_assoc}
+use Rattle.party.specs.Code.{LentTo}
 
 -- questions 8 to 12, of the lengths a, b and s
 abbrev pub lists_asked : List ℕ → List ℕ → ℕ → ℕ → ℕ → ℕ → Verdict
@@ -40,39 +40,13 @@ lists_asked prep inputs room a b s =
     then elements 11 size inputs
     then ask 12 0 (leb s room)
 
-module _ (P : Party) (l : List ℕ) where
-  -- 1 and 2, then 3 to 7, and then 8 to 12
-  pub lent_split :
-      ask_lent size P l
-      ≡ ((ask_parties P.parties then ask 2 0 (ltb P.me P.parties))
-      then ask_circuit P.parties size P.circuit
-      then lists_asked P.prep P.inputs (length l) (prep_size P.circuit) (input_count P.circuit P.me) (S.scratch_size P.parties P.circuit))
-  unfolding ask_lent
-  lent_split = sym (then_assoc _ _ _)
+-- what 3 to 7 answered, in the field that stands below
+module _ (n m : ℕ) (c : List ℕ) (is : m ≡ size) where
+  pub survey_said : {v : Verdict} → v ≡ ask_circuit n m c → v ≡ ask_circuit n size c
+  survey_said said = said ∙ ap (λ (q : ℕ). ask_circuit n q c) is
 
--- what 3 to 7 answered with what is counted, r
-module _ (n m : ℕ) (c : List ℕ) {r : D.Survey} (said : survey_of r ≡ ask_circuit n m c) (is : m ≡ size) where
-  pub survey_refused : {number index : ℕ} → r ≡ D.Survey.Refused number index → Refused number index ≡ ask_circuit n size c
-  unfolding survey_of
-  survey_refused e = sym (ap survey_of e) ∙ said ∙ ap (λ (q : ℕ). ask_circuit n q c) is
-
-  pub survey_passed : {here all : Tally} → r ≡ D.Survey.Accepted here all → Accepted ≡ ask_circuit n size c
-  unfolding survey_of
-  survey_passed e = sym (ap survey_of e) ∙ said ∙ ap (λ (q : ℕ). ask_circuit n q c) is
-
-  pub survey_valid : {here all : Tally} → r ≡ D.Survey.Accepted here all → Valid n size c
-  survey_valid e = valid n size c (sym (survey_passed e))
-
-pub survey_counted : {c : List ℕ} {i at : ℕ} {r : D.Survey} → SurveyOk c i at r → {here all : Tally} → r ≡ D.Survey.Accepted here all → Counted c i at here all
-survey_counted {c} {i} {at} ok e = subst (λ (r : D.Survey). SurveyOk c i at r) e ok
-
--- for a `return` after questions that came to a: they refused, or accepted, and v is the answer so far
-module _ {a : Verdict} (rest : Verdict) where
-  pub refused_first : {number index : ℕ} → Refused number index ≡ a → Refused number index ≡ (a then rest)
-  refused_first e = sym (then_refused rest (sym e))
-
-  pub passed_first : {v : Verdict} → Accepted ≡ a → v ≡ rest → v ≡ (a then rest)
-  passed_first e g = g ∙ sym (then_passed rest (sym e))
+  pub survey_valid : {A : Type 0} {r : Result A Refusal} {a : A} → verdict_of r ≡ ask_circuit n m c → r ≡ Ok a → Valid n size c
+  survey_valid said e = valid n size c (sym (survey_said said) ∙ ap verdict_of e)
 
 -- the lengths as the code counts them
 pub lists_are : (prep inputs : List ℕ) (room : ℕ) {a a' b b' s s' : ℕ} → a ≡ a' → b ≡ b' → s ≡ s'
@@ -120,7 +94,13 @@ module _ (c : List ℕ) (i : ℕ) (t : Tally) (h : Tallied c i (gates c) t) wher
   lists_counted prep inputs room n y e f =
       lists_are prep inputs room prep_size_is input_count_is (f ∙ ap (λ (x : S.Layout). S.marks_at x + n * commit_words) e)
 
--- where 1 and 2 are answered by yes there are few parties
-pub parties_low : (n i : ℕ) {r : Told.Verdict} → verdict_was r ≡ (ask_parties n then ask 2 0 (ltb i n)) → r ≡ Told.Verdict.Accepted → n ≤ 8
-unfolding verdict_was ask_parties
-parties_low n i e a = leb-true n 8 (both_right (leb 2 n) (leb n 8) (ask_true 1 0 _ (then_left _ _ (sym e ∙ ap verdict_was a))))
+-- where 1 is answered by yes there are few parties
+pub parties_low : (n : ℕ) {A : Type 0} {r : Result A Refusal} {a : A} → verdict_of r ≡ ask_parties n → r ≡ Ok a → n ≤ 8
+unfolding ask_parties
+parties_low n e a = leb-true n 8 (both_right (leb 2 n) (leb n 8) (ask_true 1 0 _ (sym e ∙ ap verdict_of a)))
+
+-- what a call has once 1 to 12 accept
+pub lent_to : (P : Party) (l : List ℕ) (y : Layout) (at : Site) (j : ℕ) → Accepted ≡ ask_lent size P l → layout_of y ≡ S.layout P.circuit → at.gate ≡ j
+    → (j < gates P.circuit → Sited P.circuit P.me at)
+    → (Accepted ≡ ask_lent size P l) × LentTo P l y at j
+lent_to P l y at j e f g h = (e, record { accepted = sym e; lay = f; here = g; sited = h })

@@ -4,3 +4,5 @@ pub mod Accepted
 pub mod Halves
 pub mod Answers
 pub mod Slots
+pub mod Loops
+pub mod Elements

@@ -1,6 +1,7 @@
 -- What the code's types stand for, and what its questions ask.
 -- Assumes nothing.
-use Rattle.std.specs.Prelude.{ℕ, ◌*◌, ◌<◌, ◌≤◌, ◌≡◌, Bool, true, cond, List, length}
+use Rattle.std.specs.Prelude.{ℕ, ◌*◌, ◌<◌, ◌≤◌, ◌≡◌, Bool, true, List, length, Option, Result, Ok, Err}
+use Rattle.std.specs.Option.{option_map_or}
 use Rattle.field.specs.Words.{size}
 use Rattle.circuit.specs.Verdict as Q
 use Rattle.circuit.specs.Verdict.{◌then◌}
@@ -9,7 +10,8 @@ use Rattle.circuit.specs.Kind.{has_value}
 use Rattle.circuit.specs.Count.{capacity, unchecked}
 use Rattle.circuit.specs.Round.{Round, opened_in}
 use Rattle.circuit.specs.Accept.{most_gates}
-use Rattle.circuit.specs.Code.{round_of}
+use Rattle.circuit.specs.Question.{number_of}
+use Rattle.circuit.specs.declared.questions.Refusal.{Refusal}
 use Rattle.protocol.specs.Scratch as S
 use Rattle.protocol.specs.Position as At
 use Rattle.protocol.specs.Party.{Party}
@@ -23,12 +25,8 @@ use Rattle.protocol.specs.Entry as E
 use Rattle.party.specs.declared.Sort.{Sort}
 use Rattle.party.specs.declared.Sort.TheVariants.{Shares, Macs, Values, ValueMacs}
 use Rattle.party.specs.declared.Position.{Position}
-use Rattle.party.specs.declared.Answer.{Answer}
-use Rattle.party.specs.declared.Answer.TheVariants.{Refusal, Next, Output, Abort}
-use Rattle.party.specs.declared.Asked.{Asked}
-use Rattle.party.specs.declared.Asked.TheVariants.{Refused as AskedRefused, Accepted as AskedAccepted}
-use Rattle.party.specs.declared.Lent.{Lent}
-use Rattle.party.specs.declared.Lent.TheVariants.{Refused as LentRefused, Accepted as LentAccepted}
+use Rattle.party.specs.declared.Outcome.{Outcome}
+use Rattle.party.specs.declared.Outcome.TheVariants.{Next, Output, Abort}
 
 -- the slots of a sort, by number, and which of them question 15 wants
 unfoldable pub sort_of : Sort → ℕ → S.Slot
@@ -46,17 +44,21 @@ wanted_of c ValueMacs t = true
 unfoldable pub position_of : Position → At.Position
 position_of x = record { gate = x.gate; stage = stage_of x.stage; held = x.held }
 
--- a refusal's number and index, the next position, an output with it, an abort with it
-unfoldable pub answer_of : Answer → E.Answer
-answer_of (Refusal number index) = E.Refusal number index
-answer_of (Next at) = E.Next (position_of at)
-answer_of (Output v at) = E.Output v (position_of at)
-answer_of (Abort b at) = E.Abort (blame_of b) (position_of at)
+-- the next position, an output with it, an abort with it
+unfoldable pub outcome_is : Outcome → E.Answer
+outcome_is (Next at) = E.Next (position_of at)
+outcome_is (Output v at) = E.Output v (position_of at)
+outcome_is (Abort b at) = E.Abort (blame_of b) (position_of at)
+
+-- that, or a refusal's number and index
+unfoldable pub answer_of : Result Outcome Refusal → E.Answer
+answer_of (Ok x) = outcome_is x
+answer_of (Err r) = E.Refusal (number_of r.question) r.index
 
 -- the answer by how round r ended and the point that follows: an abort, or else that point, with the output where one is told
-unfoldable pub leads_to : Round → ℕ → Bool → ℕ → R.Ruling → At.Point → E.Answer
-leads_to r held told output R.Passed x = cond told (E.Output output (At.holding x (At.keep r held))) (E.Next (At.holding x (At.keep r held)))
-leads_to r held told output (R.Stopped b) x = E.Abort b (At.holding x (At.keep r held))
+unfoldable pub leads_to : Round → ℕ → Option ℕ → R.Ruling → At.Point → E.Answer
+leads_to r held output R.Passed x = option_map_or (λ v. E.Output v (At.holding x (At.keep r held))) output (E.Next (At.holding x (At.keep r held)))
+leads_to r held output (R.Stopped b) x = E.Abort b (At.holding x (At.keep r held))
 
 -- what a question about the scratch asks: the layout is the circuit's, and the scratch holds it
 pub record Laid (c l : List ℕ) (y : Layout) : Type 0 where
@@ -71,16 +73,6 @@ pub record Posed (c l : List ℕ) (y : Layout) (at : Site) (r : Round) : Type 0 
   pub within : at.gate < gates c
   pub waiting : at.unchecked ≡ unchecked c at.gate
   pub fits : opened_in (unchecked c at.gate) r ≤ capacity c
-
--- what questions 1 to 12 come to
-unfoldable pub lent_of : Lent → Q.Verdict
-lent_of (LentRefused number index) = Q.Refused number index
-lent_of (LentAccepted y at) = Q.Accepted
-
--- where they accept: the layout of the scratch, and the site of the gate if there is such a gate
-abbrev pub LentOk : List ℕ → ℕ → ℕ → Lent → Type 0
-LentOk c i j (LentRefused number index) = Unit {0}
-LentOk c i j (LentAccepted y at) = (layout_of y ≡ S.layout c) × (at.gate ≡ j) × (j < gates c → Sited c i at)
 
 -- questions 1 to 13
 unfoldable pub place_of : Party → List ℕ → At.Position → Q.Verdict
@@ -98,30 +90,13 @@ pub record RoundAt (P : Party) (l : List ℕ) (y : Layout) (site : Site) (at : P
   pub lent : LentTo P l y site at.gate
   pub can : At.occurs size P.circuit (position_of at) ≡ true
 
-abbrev pub PlaceOk : Party → List ℕ → Position → Lent → Type 0
-PlaceOk P l at (LentRefused number index) = Unit {0}
-PlaceOk P l at (LentAccepted y site) = RoundAt P l y site at
-
--- what all questions of a sending or a receiving come to
-unfoldable pub asked_of : Asked → Q.Verdict
-asked_of (AskedRefused number index) = Q.Refused number index
-asked_of (AskedAccepted y at r) = Q.Accepted
-
--- where they accept: the round of the position, and what its step asks
+-- where all questions of a sending or a receiving accept: the round of the position, and what its step asks
 pub record Sendable (P : Party) (l : List ℕ) (at : Position) (coefficients nonce : List ℕ) (room : ℕ) (y : Layout) (site : Site) (r : Round) : Type 0 where
   pub here : site.gate ≡ at.gate
   pub half : stage_of at.stage ≡ At.Send r
   pub sends : Sends size P l y site r at.held coefficients nonce room
 
-abbrev pub SendOk : Party → List ℕ → Position → List ℕ → List ℕ → ℕ → Asked → Type 0
-SendOk P l at coefficients nonce room (AskedRefused number index) = Unit {0}
-SendOk P l at coefficients nonce room (AskedAccepted y site r) = Sendable P l at coefficients nonce room y site (round_of r)
-
 pub record Receivable (P : Party) (l : List ℕ) (at : Position) (heard : List ℕ) (y : Layout) (site : Site) (r : Round) : Type 0 where
   pub here : site.gate ≡ at.gate
   pub half : stage_of at.stage ≡ At.Receive r
   pub receives : Receives size P l y site r heard
-
-abbrev pub ReceiveOk : Party → List ℕ → Position → List ℕ → Asked → Type 0
-ReceiveOk P l at heard (AskedRefused number index) = Unit {0}
-ReceiveOk P l at heard (AskedAccepted y site r) = Receivable P l at heard y site (round_of r)

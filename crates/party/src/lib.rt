@@ -3,7 +3,7 @@
 
 pub mod asking;
 
-ghost use Rattle.std.specs.Prelude.{◌≡◌, true, cond, ◌&&◌, ◌+◌, ◌*◌, ◌<◌, ◌≤◌, length, drop};
+ghost use Rattle.std.specs.Prelude.{◌≡◌, true, cond, Some, None, ◌&&◌, ◌+◌, ◌*◌, ◌<◌, ◌≤◌, length, drop};
 ghost use Rattle.field.specs.Words.{size, ops};
 ghost use Rattle.circuit.specs.Gate.{gate_size, gate};
 ghost use Rattle.circuit.specs.Kind.{is_give, seen_by, alone};
@@ -14,12 +14,13 @@ ghost use Rattle.protocol.specs.Scratch.{slots_size};
 ghost use Rattle.protocol.specs.Receive.{score};
 ghost use Rattle.protocol.specs.Holding.{Below, Opened};
 ghost use Rattle.protocol.specs.Code.{layout_of, point_of, ruling_of};
-ghost use Rattle.protocol.specs.Entry.{Next, Output, releases, open_answer, send_answer, send_out, send_scratch, receive_answer, receive_scratch};
-ghost use Rattle.party.specs.Code.{position_of, answer_of, leads_to};
+ghost use Rattle.protocol.specs.Entry.{releases, open_answer, send_answer, send_out, send_scratch, receive_answer, receive_scratch};
+ghost use Rattle.party.specs.Code.{position_of, answer_of, outcome_is, leads_to};
 
 use circuit::Round;
+use circuit::questions::Refusal;
 use field::Word;
-use protocol::{Blame, Layout, Ruling, Site, Stage};
+use protocol::{Blame, Layout, Site, Stage};
 use steps::{Conclusion, receiving, sending};
 
 // The slots of one sort.
@@ -39,27 +40,27 @@ pub struct Position {
     pub held: Word,
 }
 
-// What an entry answers. An abort names a party, or nobody.
+// What an entry that is not refused answers. An abort names a party, or nobody.
 #[derive(Clone, Copy)]
-pub enum Answer {
-    Refusal { number: u32, index: usize },
+pub enum Outcome {
     Next(Position),
     Output(Word, Position),
     Abort(Blame, Position),
 }
 
-// What questions 1 to 12, or 1 to 13, come to: where they accept, the layout of the scratch and the site of a gate.
+// What questions 1 to 12, or 1 to 13, give where they accept: the layout of the scratch and the site of a gate.
 #[derive(Clone, Copy)]
-pub enum Lent {
-    Refused { number: u32, index: usize },
-    Accepted(Layout, Site),
+pub struct Lent {
+    pub layout: Layout,
+    pub site: Site,
 }
 
-// What all questions of a sending or a receiving come to: where they accept, what the step needs.
+// What all questions of a sending or a receiving give where they accept: what the step needs.
 #[derive(Clone, Copy)]
-pub enum Asked {
-    Refused { number: u32, index: usize },
-    Accepted(Layout, Site, Round),
+pub struct Asked {
+    pub layout: Layout,
+    pub site: Site,
+    pub round: Round,
 }
 
 // Opening a run: the position at which it starts.
@@ -70,18 +71,17 @@ pub fn open_run(
     prep: &[Word],
     inputs: &[Word],
     l: &[Word],
-) -> Answer
+) -> Result<Outcome, Refusal>
     ensures { answer_of result
         ≡ open_answer ops (party_of parties me c.now prep.now inputs.now) l.now }
 {
-    match asking::ask_lent(parties, me, c, prep, inputs, l, 0) {
-        Lent::Refused { number, index } => Answer::Refusal { number, index },
-        Lent::Accepted(_, _) => Answer::Next(Position {
-            gate: 0,
-            stage: Stage::Send(Round::Own),
-            held: 0,
-        }),
-    }
+    asking::ask_lent(parties, me, c, prep, inputs, l, 0)?;
+    let start = Position {
+        gate: 0,
+        stage: Stage::Send(Round::Own),
+        held: 0,
+    };
+    Ok(Outcome::Next(start))
 }
 
 // Sending: the words of the position's round, and the position to receive at. A commitment notes its nonce in the scratch.
@@ -96,7 +96,7 @@ pub fn send(
     coefficients: &[Word],
     nonce: &[u8],
     out: &mut [Word],
-) -> Answer
+) -> Result<Outcome, Refusal>
     ensures answer { answer_of result
         ≡ send_answer ops (party_of parties me c.now prep.now inputs.now)
         l.old (position_of at) coefficients.now nonce.now (length out.old) }
@@ -107,7 +107,11 @@ pub fn send(
         ≡ send_scratch ops (party_of parties me c.now prep.now inputs.now)
         l.old (position_of at) coefficients.now nonce.now (length out.old) }
 {
-    match asking::ask_send(
+    let Asked {
+        layout,
+        site,
+        round,
+    } = asking::ask_send(
         parties,
         me,
         c,
@@ -118,31 +122,27 @@ pub fn send(
         coefficients,
         nonce,
         out.len(),
-    ) {
-        Asked::Refused { number, index } => Answer::Refusal { number, index },
-        Asked::Accepted(y, site, r) => {
-            let held = sending::send_step(
-                parties,
-                me,
-                c,
-                prep,
-                inputs,
-                l,
-                y,
-                site,
-                r,
-                at.held,
-                coefficients,
-                nonce,
-                out,
-            );
-            Answer::Next(Position {
-                gate: at.gate,
-                stage: Stage::Receive(r),
-                held,
-            })
-        }
-    }
+    )?;
+    let held = sending::send_step(
+        parties,
+        me,
+        c,
+        prep,
+        inputs,
+        l,
+        layout,
+        site,
+        round,
+        at.held,
+        coefficients,
+        nonce,
+        out,
+    );
+    Ok(Outcome::Next(Position {
+        gate: at.gate,
+        stage: Stage::Receive(round),
+        held,
+    }))
 }
 
 // Receiving: what the words of all lead to.
@@ -155,7 +155,7 @@ pub fn receive(
     l: &mut [Word],
     at: Position,
     heard: &[Word],
-) -> Answer
+) -> Result<Outcome, Refusal>
     ensures answer { answer_of result
         ≡ receive_answer ops (party_of parties me c.now prep.now inputs.now)
         l.old (position_of at) heard.now }
@@ -163,15 +163,15 @@ pub fn receive(
         ≡ receive_scratch ops (party_of parties me c.now prep.now inputs.now)
         l.old (position_of at) heard.now }
 {
-    match asking::ask_receive(parties, me, c, prep, inputs, l, at, heard) {
-        Asked::Refused { number, index } => Answer::Refusal { number, index },
-        Asked::Accepted(y, site, r) => {
-            let told = is_told(me, c, site.gate, r);
-            let output = output_at(told, c, prep, l, y, site.gate, site.prep);
-            let x = receiving::receive_step(parties, me, c, prep, inputs, l, y, site, r, heard);
-            outcome_of(r, at.held, told, output, x)
-        }
-    }
+    let Asked {
+        layout,
+        site,
+        round,
+    } = asking::ask_receive(parties, me, c, prep, inputs, l, at, heard)?;
+    let told = is_told(me, c, site.gate, round);
+    let output = output_at(told, c, prep, l, layout, site.gate, site.prep);
+    let x = receiving::receive_step(parties, me, c, prep, inputs, l, layout, site, round, heard);
+    Ok(outcome_of(round, at.held, output, x))
 }
 
 // Does round r of gate j release a score to this party, once it passes?
@@ -179,10 +179,7 @@ fn is_told(me: usize, c: &[Word], j: usize, r: Round) -> bool
     requires { gate_size * j + gate_size ≤ length c.now }
     ensures { result ≡ (releases (round_of r) && seen_by (alone me) (gate c.now j)) }
 {
-    if protocol::releases(r) {
-        return gates::reading::is_seen_by(c, j, me);
-    }
-    false
+    protocol::releases(r) && gates::reading::is_seen_by(c, j, me)
 }
 
 // The score of gate j where it is told, which then is an output whose record stands at number start of the preprocessing.
@@ -194,40 +191,43 @@ fn output_at(
     y: Layout,
     j: usize,
     start: usize,
-) -> Word
+) -> Option<Word>
     requires { told ≡ true → (gate_size * j + gate_size ≤ length c.now)
         × (start ≤ length prep.now)
         × (is_give (gate c.now j) ≡ true → start + 2 < length prep.now)
         × Below size prep.now
         × (slots_size (layout_of y) ≤ length l.now)
         × Opened size (layout_of y) l.now 0 }
-    ensures { told ≡ true → result ≡ score ops (layout_of y) l.now (is_give (gate c.now j)) (drop start prep.now) }
+    ensures { result ≡ cond told (Some (score ops (layout_of y) l.now (is_give (gate c.now j)) (drop start prep.now))) None }
 {
     if told {
-        return receiving::score_at(c, prep, l, y, j, start);
+        Some(receiving::score_at(c, prep, l, y, j, start))
+    } else {
+        None
     }
-    0
 }
 
-// What a round that is received leads to.
-fn outcome_of(r: Round, held: Word, told: bool, output: Word, x: Conclusion) -> Answer
-    ensures { answer_of result ≡ leads_to (round_of r) held told output (ruling_of x.ruling) (point_of x.point) }
+// What a round that is received leads to, where it releases that output if it passes.
+#[tactic(auto, unfolding(crate::specs::Code::outcome_is, crate::specs::Code::leads_to, crate::specs::Code::position_of, protocol::specs::Code::point_of, protocol::specs::Code::ruling_of, protocol::specs::Position::holding))]
+fn outcome_of(r: Round, held: Word, output: Option<Word>, x: Conclusion) -> Outcome
+    ensures { outcome_is result ≡ leads_to (round_of r) held output (ruling_of x.ruling) (point_of x.point) }
 {
-    let next = x.point;
-    let stage = next.stage;
     let at = Position {
-        gate: next.gate,
-        stage,
+        gate: x.point.gate,
+        stage: x.point.stage,
         held: keep_held(r, held),
     };
-    let ruling = x.ruling;
-    match ruling {
-        Ruling::Stopped(blame) => Answer::Abort(blame, at),
-        Ruling::Passed => released(told, output, at),
+    match x.ruling {
+        Err(blame) => Outcome::Abort(blame, at),
+        Ok(()) => match output {
+            Some(word) => Outcome::Output(word, at),
+            None => Outcome::Next(at),
+        },
     }
 }
 
 // The check share that stays held.
+#[tactic(auto, unfolding(protocol::specs::Position::keep))]
 fn keep_held(r: Round, held: Word) -> Word
     ensures { result ≡ keep (round_of r) held }
 {
@@ -236,14 +236,4 @@ fn keep_held(r: Round, held: Word) -> Word
     } else {
         0
     }
-}
-
-// The position that follows, with the output where one is told.
-fn released(told: bool, output: Word, at: Position) -> Answer
-    ensures { answer_of result ≡ cond told (Output output (position_of at)) (Next (position_of at)) }
-{
-    if told {
-        return Answer::Output(output, at);
-    }
-    Answer::Next(at)
 }

@@ -5,6 +5,7 @@ use mathlib.Core.Path.{◌≡◌, sym, ap, ◌∙◌}
 use mathlib.Core.Bool.{Bool, true, false}
 use mathlib.Core.List.{List}
 use native.Mathlib.Omega.{arith}
+use Rattle.std.specs.Prelude.{Option, Ok, Err}
 use lib.ListN.{length, get_or, take, drop}
 use lib.Dec.{eqb}
 use borrow.Rule.Slice.PartMut.{mid_len}
@@ -23,8 +24,6 @@ use Rattle.protocol.specs.Code.{layout_of, point_of, ruling_of}
 use Rattle.protocol.specs.Ready.{Receives}
 use Rattle.protocol.specs.declared.Layout.{Layout}
 use Rattle.protocol.specs.declared.Site.{Site}
-use Rattle.protocol.specs.declared.Blame.{Blame}
-use Rattle.protocol.specs.declared.Ruling.TheVariants.{Passed, Stopped}
 use Rattle.protocol.proofs.Following.{followed, ruling_other, next_follows, next_stops}
 use Rattle.protocol.proofs.Readiness.{class_of, output_words, tail_there}
 use Rattle.protocol.proofs.HeardWords.{output_heard}
@@ -78,20 +77,20 @@ module _ (P : Party) (l : List ℕ) (y : Layout) (at : Site) (t : Check) {heard 
         f ∙ rw (n, e, s.ready.lay)
 
 -- no other round stops a run
-pub found_other : (P : Party) (l : List ℕ) (r : Round) (heard : List ℕ) → is_reveal r ≡ false → ruling_of Passed ≡ finds ops P l r heard
+pub found_other : (P : Party) (l : List ℕ) (r : Round) (heard : List ℕ) → is_reveal r ≡ false → ruling_of (Ok tt) ≡ finds ops P l r heard
 unfolding finds ruling_of
 found_other P l r heard e = sym (ruling_other ops P.parties _ heard r e)
 
 -- what a round comes to, by how it ends
 module _ (P : Party) (l : List ℕ) (j : ℕ) (r : Round) (heard : List ℕ) {x : Conclusion} (e : ruling_of x.ruling ≡ finds ops P l r heard) where
-  pub concludes_passed : x.ruling ≡ Passed → among r (rounds P.circuit j) ≡ true → point_of x.point ≡ followed P.circuit j r
+  pub concludes_passed : x.ruling ≡ Ok tt → among r (rounds P.circuit j) ≡ true → point_of x.point ≡ followed P.circuit j r
       → {l' : List ℕ} → l' ≡ received ops P l j r heard → Concludes P l j r heard x l'
   unfolding ruling_of
   concludes_passed p has f g =
       let v : passed (finds ops P l r heard) ≡ true = sym (ap passed e) ∙ rw p in
       record { ruling = e; point = next_follows P.circuit j _ r has v f; scratch = left_passed ops P l j heard _ r v g }
 
-  pub concludes_stopped : {b : Blame} → x.ruling ≡ Stopped b → point_of x.point ≡ aborted j → Concludes P l j r heard x l
+  pub concludes_stopped : {b : Option ℕ} → x.ruling ≡ Err b → point_of x.point ≡ aborted j → Concludes P l j r heard x l
   unfolding ruling_of
   concludes_stopped p f =
       let v : passed (finds ops P l r heard) ≡ false = sym (ap passed e) ∙ rw p in

@@ -5,8 +5,9 @@ use mathlib.Core.Path.{◌≡◌, refl, sym, ap, ◌∙◌}
 use mathlib.Core.Bool.{Bool, true, false}
 use mathlib.Core.List.{List, [], ◌∷◌, ◌++◌, append-nil}
 use native.Mathlib.Omega.{arith}
-use native.Mathlib.Numerals.{add-one}
 use native.Mathlib.Nat.{zero-add, suc-add}
+use borrow.Author.Rules.{rules}
+use Rattle.std.specs.Prelude.{Option, None, Some, MatchOption, is_some}
 use lib.ListN.{length, get_or, take, drop, set, length-set, drop_of_length-le}
 use lib.Seq.{drop-drop}
 use lib.Dec.{eqb}
@@ -20,6 +21,7 @@ use Rattle.circuit.specs.Round.{commit_words, nonce_size, nonce_words, reveal_wo
 use Rattle.protocol.specs.Scratch.{Layout, band, written_at, nonce_at, marks_at, nonce_of, put_nonce, put_marks}
 use Rattle.protocol.specs.Send.{revealed, mark, overwrite}
 use Rattle.protocol.specs.Receive.{Blame, Nobody, Blames, Passed, Stopped, fits, misfit, weighs}
+use Rattle.protocol.specs.Code.{blame_of}
 use Rattle.protocol.proofs.Tails.{written_is, length_nonce}
 
 -- as many words as a list has are the list that they are written over
@@ -101,47 +103,45 @@ fits_parts marks heard i =
     let n : i * commit_words + commit_words - i * commit_words ≡ commit_words = omega arith in
     rw (m, n)
 
--- the first i parties of n fit their marks
-pub record Fitting (n : ℕ) (marks heard : List ℕ) (i : ℕ) : Type 0 where
-  pub upto : i ≤ n
-  pub none : misfit i marks heard ≡ Nobody
-
-module _ (n : ℕ) (marks heard : List ℕ) where
-  pub fitting_start : Fitting n marks heard 0
+-- nobody is named where all fit their marks, and else the first who does not; the parties after it do not matter
+module _ (marks heard : List ℕ) where
+  fitting : (n : ℕ) → ((k : ℕ) → 0 ≤ k → k < n → fits marks heard k ≡ true) → misfit n marks heard ≡ Nobody
   unfolding misfit
-  fitting_start = record { upto = omega arith; none = refl }
+  fitting zero h = refl
+  fitting (suc n) h = rw (fitting n (λ k z l. h k z (omega arith)), h n (omega arith) (omega arith))
 
-  -- once a party is named the others do not matter
   named : (i k m : ℕ) → misfit m marks heard ≡ Blames i → misfit (k + m) marks heard ≡ Blames i
   unfolding misfit
   named i zero m e = rw (zero-add m) e
   named i (suc k) m e = rw (suc-add k m, named i k m e)
 
-  module _ (i : ℕ) (f : Fitting n marks heard i) where
-    pub fitting_again : i < n → fits marks heard i ≡ true → Fitting n marks heard (i + 1)
-    unfolding misfit
-    fitting_again h e = rw (add-one i) (record { upto = h; none = rw (f.none, e) })
-
-    pub fitting_stops : i < n → fits marks heard i ≡ false → Blames i ≡ misfit n marks heard
-    unfolding misfit
-    fitting_stops h e =
-        let m : misfit (suc i) marks heard ≡ Blames i = rw (f.none, e) in
-        let k : n - suc i + suc i ≡ n = omega arith in
-        sym (ap (λ (j : ℕ). misfit j marks heard) (sym k) ∙ named i (n - suc i) (suc i) m)
-
-    pub fitting_done : n ≤ i → Nobody ≡ misfit n marks heard
-    fitting_done h = let e : i ≡ n = omega (arith, f.upto) in rw (← e) (sym f.none)
+  pub first_misfit : (n : ℕ) (r : Option ℕ)
+      → MatchOption r ((k : ℕ) → 0 ≤ k → k < n → fits marks heard k ≡ true)
+      (λ i. (0 ≤ i) × (i < n) × (fits marks heard i ≡ false) × ((k : ℕ) → 0 ≤ k → k < i → fits marks heard k ≡ true))
+      → blame_of r ≡ misfit n marks heard
+  unfolding misfit blame_of
+  first_misfit n None h = sym (fitting n h)
+  first_misfit n (Some i) h =
+      let m : misfit (suc i) marks heard ≡ Blames i = rw (fitting i h.3, h.2) in
+      let k : n - suc i + suc i ≡ n = omega (arith, h.1) in
+      sym (ap (λ (j : ℕ). misfit j marks heard) (sym k) ∙ named i (n - suc i) (suc i) m)
 
 -- the check shares are the first words
 pub shares_low : {q : ℕ} (n : ℕ) (heard : List ℕ) → ((i : ℕ) → i < n → get_or heard (i * reveal_words) 0 < q) → (i : ℕ) → i < n → get_or heard (i * reveal_words + 0) 0 < q
 shares_low n heard h i l = let e : i * reveal_words + 0 ≡ i * reveal_words = omega arith in rw e (h i l)
 
 -- a reveal ends by whom it names, and else by the sum
-pub weighs_named : {b : Blame} (z : Bool) (i : ℕ) → Blames i ≡ b → Stopped (Blames i) ≡ weighs b z
-weighs_named z i e = rw (← e)
+pub weighs_named : {b : Blame} (r : Option ℕ) (z : Bool) → blame_of r ≡ b → is_some r ≡ true → Stopped (blame_of r) ≡ weighs b z
+unfolding blame_of
+weighs_named None z e h = absurd (search rules)
+weighs_named (Some i) z e h = rw (← e)
 
-pub weighs_nonzero : {b : Blame} (v : ℕ) {e : ℕ} → Nobody ≡ b → e ≡ v → (e ≡ 0 → ⊥) → Stopped Nobody ≡ weighs b (eqb v 0)
-weighs_nonzero v n f h = rw (← n, ne_eqb v 0 (λ z. h (f ∙ z)))
+pub weighs_nonzero : {b : Blame} (r : Option ℕ) (v : ℕ) {e : ℕ} → blame_of r ≡ b → is_some r ≡ false → e ≡ v → (e ≡ 0 → ⊥) → Stopped (blame_of r) ≡ weighs b (eqb v 0)
+unfolding blame_of
+weighs_nonzero None v n s f h = rw (← n, ne_eqb v 0 (λ z. h (f ∙ z)))
+weighs_nonzero (Some i) v n s f h = absurd (search rules)
 
-pub weighs_zero : {b : Blame} (v : ℕ) {e : ℕ} → Nobody ≡ b → e ≡ v → e ≡ 0 → Passed ≡ weighs b (eqb v 0)
-weighs_zero v n f h = rw (← n, eq-eqb v 0 (sym f ∙ h))
+pub weighs_zero : {b : Blame} (r : Option ℕ) (v : ℕ) {e : ℕ} → blame_of r ≡ b → is_some r ≡ false → e ≡ v → e ≡ 0 → Passed ≡ weighs b (eqb v 0)
+unfolding blame_of
+weighs_zero None v n s f h = rw (← n, eq-eqb v 0 (sym f ∙ h))
+weighs_zero (Some i) v n s f h = absurd (search rules)

@@ -11,7 +11,7 @@ use Rattle.protocol.specs.Part as A
 use Rattle.protocol.specs.Scratch.{Layout}
 use Rattle.protocol.specs.Party.{a_at, b_at}
 use Rattle.protocol.specs.Send.{masked, words_of_opening}
-use Rattle.steps.specs.declared.Part.{Part}
+use Rattle.steps.specs.declared.parts.Part.{Part}
 use Rattle.steps.specs.Code.{part_of, IsPart, AreEnds}
 
 pub share_is : {v : A.Part} {x : Part} → IsPart v x → x.share ≡ v.share

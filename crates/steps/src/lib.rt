@@ -7,28 +7,14 @@ pub mod receiving;
 pub mod scratch;
 pub mod sending;
 
-use field::{Sum, Word};
+pub use parts::Part;
 use protocol::{Point, Ruling};
 
-// A party's share of a value, and its MAC share.
+// The first and the last word of a party in a round, or running sums of those of some parties.
 #[derive(Clone, Copy)]
-pub struct Part {
-    pub share: Word,
-    pub mac: Word,
-}
-
-// The first and the last word of a party in a round.
-#[derive(Clone, Copy)]
-pub struct Ends {
-    pub first: Word,
-    pub last: Word,
-}
-
-// Running sums of the first words and of the last words of some parties.
-#[derive(Clone, Copy)]
-pub struct Sums {
-    pub first: Sum,
-    pub last: Sum,
+pub struct Ends<T> {
+    pub first: T,
+    pub last: T,
 }
 
 // What the words of all come to: how the round ends, and the point that follows.

@@ -1,4 +1,4 @@
-// What is done to a share and its MAC share alike.
+// Shares with their MAC shares, and what is done to both alike.
 ghost use Rattle.std.specs.Prelude.{cond, ◌+◌, ◌<◌, length, eqb};
 ghost use Rattle.algebra.specs.Element.{Is};
 ghost use Rattle.field.specs.Words.{size, ops};
@@ -6,47 +6,81 @@ ghost use Rattle.protocol.specs.Part.{part_at, plus, minus, scale, known, shift,
 ghost use Rattle.protocol.specs.Holding.{Below};
 ghost use Rattle.steps.specs.Code.{part_of, Low, IsPart};
 
-use crate::Part;
 use field::Word;
+use std::ops::{Add, Sub};
 
-// The two numbers that stand at k in a record.
-pub fn part_at(m: &[Word], k: usize) -> Part
-    requires { (k + 1 < length m.now) × Below size m.now }
-    ensures { IsPart (part_at m.now k) result }
-{
-    Part {
-        share: m[k],
-        mac: m[k + 1],
+// A party's share of a value, and its MAC share.
+#[derive(Clone, Copy)]
+pub struct Part {
+    pub share: Word,
+    pub mac: Word,
+}
+
+// Shares and MAC shares are added alike.
+impl Add for Part {
+    type Output = Part;
+
+    ghost can_add = { λ x y. Low x × Low y };
+
+    ghost add_gives = { λ x y r. IsPart (plus ops (part_of x) (part_of y)) r };
+
+    #[tactic(auto, unfolding(crate::specs::Code::part_of, protocol::specs::Part::plus))]
+    fn add(self, y: Part) -> Part {
+        Part {
+            share: field::add(self.share, y.share),
+            mac: field::add(self.mac, y.mac),
+        }
     }
 }
 
-pub fn add(x: Part, y: Part) -> Part
-    requires { Low x × Low y }
-    ensures { IsPart (plus ops (part_of x) (part_of y)) result }
-{
-    Part {
-        share: field::add(x.share, y.share),
-        mac: field::add(x.mac, y.mac),
+// And subtracted alike.
+impl Sub for Part {
+    type Output = Part;
+
+    ghost can_sub = { λ x y. Low x × Low y };
+
+    ghost sub_gives = { λ x y r. IsPart (minus ops (part_of x) (part_of y)) r };
+
+    #[tactic(auto, unfolding(crate::specs::Code::part_of, protocol::specs::Part::minus))]
+    fn sub(self, y: Part) -> Part {
+        Part {
+            share: field::sub(self.share, y.share),
+            mac: field::sub(self.mac, y.mac),
+        }
     }
 }
 
-pub fn sub(x: Part, y: Part) -> Part
-    requires { Low x × Low y }
-    ensures { IsPart (minus ops (part_of x) (part_of y)) result }
-{
-    Part {
-        share: field::sub(x.share, y.share),
-        mac: field::sub(x.mac, y.mac),
+impl Part {
+    // The two numbers that stand at k in a record.
+    #[tactic(auto, unfolding(crate::specs::Code::part_of, protocol::specs::Part::part_at))]
+    pub fn at(m: &[Word], k: usize) -> Part
+        requires { (k + 1 < length m.now) × Below size m.now }
+        ensures { IsPart (part_at m.now k) result }
+    {
+        Part {
+            share: m[k],
+            mac: m[k + 1],
+        }
     }
-}
 
-pub fn times(k: Word, x: Part) -> Part
-    requires { (k < size) × Low x }
-    ensures { IsPart (scale ops k (part_of x)) result }
-{
-    Part {
-        share: field::mul(k, x.share),
-        mac: field::mul(k, x.mac),
+    #[tactic(auto, unfolding(crate::specs::Code::part_of, protocol::specs::Part::scale))]
+    pub fn times(self, k: Word) -> Part
+        requires { (k < size) × Low self }
+        ensures { IsPart (scale ops k (part_of self)) result }
+    {
+        Part {
+            share: field::mul(k, self.share),
+            mac: field::mul(k, self.mac),
+        }
+    }
+
+    // Plus a number that all know.
+    #[tactic(auto, unfolding(protocol::specs::Part::shift))]
+    pub fn shifted(self, me: usize, key: Word, k: Word) -> Part
+        requires { (key < size) × Low self × (k < size) }
+        ensures { IsPart (shift ops me key (part_of self) k) result }
+    {
+        self + of_known(me, key, k)
     }
 }
 
@@ -59,6 +93,7 @@ fn known_share(me: usize, k: Word) -> Word
 }
 
 // The party's part of a number that all know.
+#[tactic(auto, unfolding(crate::specs::Code::part_of, protocol::specs::Part::known))]
 fn of_known(me: usize, key: Word, k: Word) -> Part
     requires { (key < size) × (k < size) }
     ensures { IsPart (known ops me key k) result }
@@ -67,13 +102,6 @@ fn of_known(me: usize, key: Word, k: Word) -> Part
         share: known_share(me, k),
         mac: field::mul(key, k),
     }
-}
-
-pub fn shifted(me: usize, key: Word, x: Part, k: Word) -> Part
-    requires { (key < size) × Low x × (k < size) }
-    ensures { IsPart (shift ops me key (part_of x) k) result }
-{
-    add(x, of_known(me, key, k))
 }
 
 // The product from a triple and the two opened differences; of a square b is a, and both differences are one.

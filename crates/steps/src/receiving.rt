@@ -18,10 +18,10 @@ ghost use Rattle.protocol.specs.Code.{layout_of, point_of, blame_of, ruling_of};
 ghost use Rattle.protocol.specs.Ready.{Opening, Settles, Stands, Ready, Receives, Named, Summed};
 ghost use Rattle.steps.specs.Code.{IsPart, Concludes};
 
-use crate::{Conclusion, Ends, Part, Sums, parts, scratch, sending};
+use crate::{Conclusion, Ends, Part, parts, scratch, sending};
 use circuit::rounds::{COMMIT_WORDS, REVEAL_WORDS};
 use circuit::{Check, Class, Kind, Role, Round};
-use field::Word;
+use field::{Sum, Word};
 use protocol::{Blame, Layout, Point, Ruling, Site, Slot, Stage};
 
 // The sum over the parties of word t of each, where each sent k.
@@ -29,13 +29,9 @@ pub fn heard_sum(n: usize, k: usize, t: usize, heard: &[Word]) -> Word
     requires { (t < k) × (n * k ≤ length heard.now) × ((i : ℕ) → i < n → get_or heard.now (i * k + t) 0 < size) }
     ensures { Is size (heard_sum ops n k t heard.now) result }
 {
-    let mut acc: Word = 0;
-    let mut at = t;
-    let mut i = 0;
-    while i < n {
-        acc = field::add(acc, heard[at]);
-        at += k;
-        i += 1;
+    let mut acc = 0;
+    for i in 0..n {
+        acc = field::add(acc, heard[i * k + t]);
     }
     acc
 }
@@ -72,19 +68,19 @@ fn heard_second(n: usize, class: Class, openings: usize, k: usize, heard: &[Word
 }
 
 // The words of one more party are heard: its first and its last are added up.
-pub fn hear(sums: Sums, ends: Ends) -> Sums
+pub fn hear(sums: Ends<Sum>, ends: Ends<Word>) -> Ends<Sum>
     requires { (sums.first < sum_room) × (sums.last < sum_room) × (ends.first < size) × (ends.last < size) }
     ensures first { (result.first < sums.first + term_size) × (ops.norm result.first ≡ ops.add (ops.norm sums.first) ends.first) }
     ensures last { (result.last < sums.last + term_size) × (ops.norm result.last ≡ ops.add (ops.norm sums.last) ends.last) }
 {
-    Sums {
+    Ends {
         first: field::add_element(sums.first, ends.first),
         last: field::add_element(sums.last, ends.last),
     }
 }
 
 // What the sums come to, once all are heard.
-pub fn heard_ends(sums: Sums) -> Ends
+pub fn heard_ends(sums: Ends<Sum>) -> Ends<Word>
     requires { (sums.first < sum_size) × (sums.last < sum_size) }
     ensures { Is size (ops.norm sums.first) result.first × Is size (ops.norm sums.last) result.last }
 {
@@ -99,7 +95,7 @@ pub fn after_input(me: usize, key: Word, y: Layout, l: &mut [Word], j: usize, m:
     requires { (key < size) × (e < size) × (1 < length m.now) × Below size m.now × (slots_size (layout_of y) ≤ length l.old) × (j < y.gates) }
     ensures { l.new ≡ after_input ops me key (layout_of y) l.old j m.now e }
 {
-    let x = parts::shifted(me, key, parts::part_at(m, sending::MASK_AT), e);
+    let x = Part::at(m, sending::MASK_AT).shifted(me, key, e);
     scratch::put_wire(l, y, j, x);
 }
 
@@ -138,9 +134,9 @@ fn record_product(me: usize, key: Word, m: &[Word], k: usize, e: Word, d: Word) 
     ensures { IsPart (product ops me key (part_at m.now a_at) (part_at m.now (b_at k)) (part_at m.now (c_at k)) e d) result }
 {
     let at = 2 * k;
-    let a = parts::part_at(m, sending::A_AT);
-    let b = parts::part_at(m, at - 2);
-    let c = parts::part_at(m, at);
+    let a = Part::at(m, sending::A_AT);
+    let b = Part::at(m, at - 2);
+    let c = Part::at(m, at);
     parts::multiplied(me, key, a, b, c, e, d)
 }
 
@@ -245,19 +241,19 @@ pub fn after_linear(
     match kind {
         Kind::In => {}
         Kind::Add => {
-            let w = parts::add(scratch::wire_at(l, y, x), scratch::wire_at(l, y, z));
+            let w = scratch::wire_at(l, y, x) + scratch::wire_at(l, y, z);
             scratch::put_wire(l, y, j, w);
         }
         Kind::Sub => {
-            let w = parts::sub(scratch::wire_at(l, y, x), scratch::wire_at(l, y, z));
+            let w = scratch::wire_at(l, y, x) - scratch::wire_at(l, y, z);
             scratch::put_wire(l, y, j, w);
         }
         Kind::Plus => {
-            let w = parts::shifted(me, key, scratch::wire_at(l, y, x), k);
+            let w = scratch::wire_at(l, y, x).shifted(me, key, k);
             scratch::put_wire(l, y, j, w);
         }
         Kind::Times => {
-            let w = parts::times(k, scratch::wire_at(l, y, x));
+            let w = scratch::wire_at(l, y, x).times(k);
             scratch::put_wire(l, y, j, w);
         }
         Kind::Mul => {}
@@ -265,7 +261,7 @@ pub fn after_linear(
         Kind::Sq => {}
         Kind::Give => {}
         Kind::Over => {
-            let quotient = parts::times(k, scratch::wire_at(l, y, x));
+            let quotient = scratch::wire_at(l, y, x).times(k);
             scratch::put_wire(l, y, j, quotient);
         }
     }
@@ -276,14 +272,9 @@ pub fn reach(c: &[Word], count: usize, from: usize) -> usize
     requires { (gate_size * count ≤ length c.now) × (from ≤ count) }
     ensures { result ≡ reach c.now (count - from) from }
 {
-    let mut j = from;
-    while j < count {
-        if !circuit::shapes::is_linear(gates::reading::class_at(c, j)) {
-            return j;
-        }
-        j += 1;
-    }
-    j
+    (from..count)
+        .find(|j| !circuit::shapes::is_linear(gates::reading::class_at(c, *j)))
+        .unwrap_or(count)
 }
 
 // The linear gates from gate from on, up to the stop that they reach.
@@ -291,16 +282,12 @@ pub fn settle(me: usize, key: Word, c: &[Word], y: Layout, l: &mut [Word], from:
     requires { Settles size c.now (layout_of y) key l.old from × (stop ≡ reach c.now (y.gates - from) from) }
     ensures { l.new ≡ settle ops me key c.now (layout_of y) (y.gates - from) from l.old }
 {
-    let mut j = from;
-    while j < stop {
+    for j in from..stop {
         let kind = gates::reading::kind_at(c, j);
         let x = gates::reading::first_at(c, j);
         let z = gates::reading::second_at(c, j);
-        let s = circuit::shapes::shape_of(kind);
-        let role = s.constant;
-        let k = operand_at(c, j, role);
+        let k = operand_at(c, j, circuit::shapes::shape_of(kind).constant);
         after_linear(me, key, y, l, j, kind, x, z, k);
-        j += 1;
     }
 }
 
@@ -470,14 +457,7 @@ pub fn misfit(parties: usize, marks: &[Word], heard: &[Word]) -> Blame
     requires { (parties * commit_words ≤ length marks.now) × (parties * reveal_words ≤ length heard.now) }
     ensures { blame_of result ≡ misfit parties marks.now heard.now }
 {
-    let mut party = 0;
-    while party < parties {
-        if !fits(marks, heard, party) {
-            return Blame::Blames(party);
-        }
-        party += 1;
-    }
-    Blame::Nobody
+    (0..parties).find(|party| !fits(marks, heard, *party))
 }
 
 // How a reveal ends: where all fit their marks, the sum of the check shares decides.
@@ -488,15 +468,11 @@ pub fn judge(parties: usize, marks: &[Word], heard: &[Word]) -> Ruling
     ensures { ruling_of result
         ≡ weighs (misfit parties marks.now heard.now) (eqb (heard_sum ops parties reveal_words 0 heard.now) 0) }
 {
-    match misfit(parties, marks, heard) {
-        Blame::Blames(i) => Ruling::Stopped(Blame::Blames(i)),
-        Blame::Nobody => {
-            if heard_sum(parties, REVEAL_WORDS, 0, heard) != 0 {
-                return Ruling::Stopped(Blame::Nobody);
-            }
-            Ruling::Passed
-        }
+    let blame = misfit(parties, marks, heard);
+    if blame.is_some() || heard_sum(parties, REVEAL_WORDS, 0, heard) != 0 {
+        return Err(blame);
     }
+    Ok(())
 }
 
 // The second check has passed: the linear gates after the output are done, and the next stop is found.
@@ -542,11 +518,11 @@ fn receive_reveal(
     let end = start + parties * COMMIT_WORDS;
     let ruling = judge(parties, &l[start..end], heard);
     match ruling {
-        Ruling::Stopped(_) => Conclusion {
+        Err(_) => Conclusion {
             ruling,
             point: protocol::aborted_at(at.gate),
         },
-        Ruling::Passed => match check {
+        Ok(()) => match check {
             Check::First => Conclusion {
                 ruling,
                 point: protocol::sending_at(at.gate, Round::Open),
@@ -578,20 +554,20 @@ pub fn receive_step(
 {
     match r {
         Round::Own => Conclusion {
-            ruling: Ruling::Passed,
+            ruling: Ok(()),
             point: receive_gate(parties, me, c, prep, inputs, l, y, at, heard),
         },
         Round::Open => {
             receive_output(parties, me, c, prep, inputs, l, y, at, heard);
             Conclusion {
-                ruling: Ruling::Passed,
+                ruling: Ok(()),
                 point: protocol::sending_at(at.gate, Round::Commit(Check::Second)),
             }
         }
         Round::Commit(check) => {
             scratch::put_marks(l, y, heard);
             Conclusion {
-                ruling: Ruling::Passed,
+                ruling: Ok(()),
                 point: protocol::sending_at(at.gate, Round::Reveal(check)),
             }
         }

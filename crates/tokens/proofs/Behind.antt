@@ -1,7 +1,7 @@
--- Digits behind bytes that stand at a place of a text: what the code's readers of a name and of an input promise, and what it tells.
+-- Bytes that stand at a place of a text: what that tells of the first, and of those behind it.
 -- Assumes nothing.
 use Prim.Native.Nat.{ℕ, ◌+◌, ◌≤◌, ◌<◌}
-use mathlib.Core.Path.{◌≡◌, refl, sym, subst, ◌∙◌}
+use mathlib.Core.Path.{◌≡◌, refl, sym, ◌∙◌}
 use mathlib.Core.Bool.{Bool, true, false, false≢true, ◌&&◌}
 use mathlib.Core.List.{List, ◌∷◌}
 use native.Mathlib.Numerals.{add-one}
@@ -11,25 +11,7 @@ use lib.Dec.{eqb, ltb}
 use borrow.Author.Tests.{lt-ltb, ltb-true, ltb-false, eq-eqb, eqb-true}
 use Rattle.circuit.proofs.Tests.{both_left, both_right}
 use Rattle.forms.specs.Machine.{starts}
-use Rattle.tokens.specs.Code.{is_at, DigitsRead, Behind, BehindRead, NameIs, NameRead}
-use Rattle.tokens.specs.declared.Digits.{Digits}
-use Rattle.tokens.specs.declared.Digits.TheVariants as D
-use Rattle.tokens.specs.declared.Name.{Name}
-use Rattle.tokens.specs.declared.Name.TheVariants as M
-
-module _ (text w : List ℕ) (from : ℕ) where
-  pub behind_read : (r : Digits) → starts w (drop from text) ≡ true → DigitsRead text (from + length w) r → BehindRead text w from r
-  unfolding BehindRead DigitsRead
-  behind_read (D.Are value to) s d = record { standing = s; digits = d }
-  behind_read D.Unsure s d = d
-
-  pub behind_told : {r : Digits} (value to : ℕ) → BehindRead text w from r → r ≡ D.Are value to → Behind text w from value to
-  unfolding BehindRead
-  behind_told value to d e = subst (BehindRead text w from) e d
-
-pub name_told : {r : Name} (text table : List ℕ) (from wire to : ℕ) → NameRead text table from r → r ≡ M.Is wire to → NameIs text table from wire to
-unfolding NameRead
-name_told text table from wire to d e = subst (NameRead text table from) e d
+use Rattle.tokens.specs.Code.{is_at}
 
 -- the first of bytes that stand here, and those behind it
 module _ (text : List ℕ) (b : ℕ) (w : List ℕ) (from : ℕ) (e : starts (b ∷ w) (drop from text) ≡ true) where

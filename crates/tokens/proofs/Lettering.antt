@@ -49,7 +49,6 @@ use Rattle.tokens.specs.Code.{Calm, part, WordWanted, WordIs, WordDies}
 use Rattle.tokens.proofs.Onward.{on, dies, ends, calm, calm_open, calm_closed}
 use Rattle.tokens.proofs.Wording.{stand_rest}
 use Rattle.tokens.proofs.Parts.{part_cons, part_none, part_more, part_join}
-use Rattle.tokens.proofs.Numerals.{granted, denied}
 
 still : (rows : List Form) (stack : List Frame) (w : List ℕ) → Calm (at rows stack (spelling [])) → Calm (at rows stack (spelling w))
 unfolding too_deep too_many open_in closed_in open_here closed_here
@@ -132,17 +131,16 @@ module _ (text : List ℕ) (any o : Bool) (from : ℕ) where
     pub no_word : i < length text → get_or text i 0 ≡ space → none ≡ word_is heads any o (part text from i) → WordDies text any o from i
     no_word l e f = stops l (λ rows stack w. unfold step begun_as in rw (e, w.any_is, w.place, sym f))
 
-    pub no_letter : {r : Bool} → i < length text → (get_or text i 0 ≡ space → ⊥) → r ≡ word_lives heads any o (part text from (i + 1)) → not r ≡ true →
-        WordDies text any o from i
-    no_letter l n e t =
+    pub no_letter : i < length text → (get_or text i 0 ≡ space → ⊥) → word_lives heads any o (part text from (i + 1)) ≡ false → WordDies text any o from i
+    no_letter l n e =
         let d : word_lives heads any o (part text from i ++ (get_or text i 0 ∷ [])) ≡ false =
-        ap (word_lives heads any o) (sym (part_more text from i so_far.forth l)) ∙ denied e t in
+        ap (word_lives heads any o) (sym (part_more text from i so_far.forth l)) ∙ e in
         stops l (λ rows stack w. letter_step any o rows stack w (part text from i) (get_or text i 0) false n d
         ∙ when_false (at rows stack (spelling (part text from i ++ (get_or text i 0 ∷ [])))))
 
-    letter_lives : i < length text → (get_or text i 0 ≡ space → ⊥) → word_lives heads any o (part text from (i + 1)) ≡ true →
+    pub letter : i < length text → (get_or text i 0 ≡ space → ⊥) → word_lives heads any o (part text from (i + 1)) ≡ true →
         Spelled text any o from (i + 1)
-    letter_lives l n e =
+    letter l n e =
         let p = part_more text from i so_far.forth l in
         let d : word_lives heads any o (part text from i ++ (get_or text i 0 ∷ [])) ≡ true = ap (word_lives heads any o) (sym p) ∙ e in
         record {
@@ -156,16 +154,13 @@ module _ (text : List ℕ) (any o : Bool) (from : ℕ) where
           inside = omega arith;
         }
 
-    pub letter : {r : Bool} → i < length text → (get_or text i 0 ≡ space → ⊥) → r ≡ word_lives heads any o (part text from (i + 1)) → not r ≡ false →
-        Spelled text any o from (i + 1)
-    letter l n e t = letter_lives l n (granted e t)
-
-    pub ended_here : length text ≤ i → WordDies text any o from i
+    pub ended_here : length text ≤ i → WordDies text any o from (length text)
     ended_here h =
-        record {
+        let e : length text ≡ i = omega (arith, so_far.inside) in
+        rw e (record {
           dies = λ rows stack w. so_far.reads rows stack w
               ∙ ends largest text i (at rows stack (spelling (part text from i))) h (unfold ended in refl);
-        }
+        })
 
   -- a whole word that may stand, all at once
   module _ (to : ℕ) (h : Head) (m : may any o h ≡ true) (forth : from ≤ to) (l : to ≤ length text) (e : part text from to ≡ letters h) where
@@ -185,7 +180,7 @@ module _ (text : List ℕ) (any o : Bool) (from : ℕ) where
         (part_join text from (i + 1) to (omega arith) (omega arith) l ∙ e) in
         let spaces = ap spaceless cut ∙ letters_spaceless h in
         rw next
-        (letter_lives i (spelled_so_far k (omega arith)) (omega arith)
+        (letter i (spelled_so_far k (omega arith)) (omega arith)
         (no_space (part text from i) (get_or text i 0) (part text (i + 1) to) spaces) lives)
 
     pub whole_word : to < length text → get_or text to 0 ≡ space → WordIs text any o from h (to + 1)
@@ -195,10 +190,10 @@ module _ (text : List ℕ) (any o : Bool) (from : ℕ) where
         (sym (ap (word_is heads any o) e ∙ word_is_lem any o h m))
 
 -- what the code's test of a word with its space tells
-pub standing_word : {r : Bool} (text : List ℕ) (any o : Bool) (from : ℕ) (h : Head) (to : ℕ) → from ≤ length text → may any o h ≡ true →
-    to ≡ from + length (letters h) + 1 → r ≡ starts (letters h ++ (space ∷ [])) (drop from text) → r ≡ true → WordIs text any o from h to
-standing_word text any o from h to l m e p t =
-    let s = stand_rest (letters h ++ (space ∷ [])) (drop from text) (sym p ∙ t) in
+pub standing_word : (text : List ℕ) (any o : Bool) (from : ℕ) (h : Head) → from ≤ length text → may any o h ≡ true →
+    starts (letters h ++ (space ∷ [])) (drop from text) ≡ true → WordIs text any o from h (from + length (letters h) + 1)
+standing_word text any o from h l m p =
+    let s = stand_rest (letters h ++ (space ∷ [])) (drop from text) p in
     let n = length (letters h) in
     let all : drop from text ≡ letters h ++ (space ∷ s.0) = s.1 ∙ append_assoc (letters h) (space ∷ []) s.0 in
     let long : length text - from ≡ n + suc (length s.0) = sym (length-drop from text) ∙ ap length all ∙ length-append (letters h)
@@ -208,16 +203,16 @@ standing_word text any o from h to l m e p t =
     ap (λ (k : ℕ). take k (drop from text)) cut ∙ ap (take n) all ∙ take-append_seam (letters h) (space ∷ s.0) in
     let next : get_or text (from + n) 0 ≡ space =
     sym (get_or-drop from text n 0) ∙ ap (λ (xs : List ℕ). get_or xs n 0) all ∙ get_or-append_seam (letters h) space s.0 0 in
-    rw e (whole_word text any o from (from + n) h m (omega arith) (omega arith) word (omega arith) next)
+    whole_word text any o from (from + n) h m (omega arith) (omega arith) word (omega arith) next
 
 -- and it ends within the text
-pub word_inside : (text : List ℕ) (from : ℕ) (h : Head) {l : ℕ} → from ≤ length text → l ≡ length (letters h)
-    → starts (letters h ++ (space ∷ [])) (drop from text) ≡ true → from + l + 1 ≤ length text
-word_inside text from h i e p =
+pub word_inside : (text : List ℕ) (from : ℕ) (h : Head) → from ≤ length text
+    → starts (letters h ++ (space ∷ [])) (drop from text) ≡ true → from + length (letters h) + 1 ≤ length text
+word_inside text from h i p =
     let s = stand_rest (letters h ++ (space ∷ [])) (drop from text) p in
     let long : length text - from ≡ length (letters h ++ (space ∷ [])) + length s.0 =
     sym (length-drop from text) ∙ (ap length s.1 ∙ length-append (letters h ++ (space ∷ [])) s.0) in
-    omega (arith, long, e, length-append (letters h) (space ∷ []))
+    omega (arith, long, length-append (letters h) (space ∷ []))
 
 -- a word that is found may stand
 pub found_stands : (any o : Bool) (w : List ℕ) (h : Head) → some h ≡ word_is heads any o w → may any o h ≡ true

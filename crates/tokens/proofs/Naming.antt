@@ -1,7 +1,7 @@
 -- The code's tests of digits: whether they begin a name goes row by row, and digits that live are no larger than a word.
 -- Assumes nothing.
 use Prim.Native.Nat.{ℕ, zero, suc, ◌+◌, ◌/◌, ◌%◌, ◌≤◌, ◌<◌}
-use mathlib.Core.Path.{◌≡◌, refl, sym, ◌∙◌}
+use mathlib.Core.Path.{◌≡◌, refl, sym, ap, ◌∙◌}
 use mathlib.Core.Bool.{Bool, true, false, not, ◌&&◌, ◌||◌, false≢true}
 use mathlib.Core.List.{List, [], ◌∷◌}
 use native.Mathlib.Omega.{arith}
@@ -9,7 +9,8 @@ use native.Mathlib.Numerals.{add-one}
 use lib.ListN.{length, get_or, drop, drop_of_length-le}
 use lib.Seq.{drop-cons}
 use lib.Dec.{eqb, ltb}
-use borrow.Author.Tests.{lt-ltb, le-ltb, eq-eqb, ne_eqb, eqb-true, leb-true, ltb-false}
+use borrow.Author.Tests.{lt-ltb, le-ltb, ne_eqb, eqb-true, leb-true, ltb-false}
+use Rattle.std.specs.List.{list_any}
 use Rattle.circuit.specs.Accept.{most_gates}
 use Rattle.circuit.proofs.Tests.{both_right}
 use Rattle.field.specs.Words.{largest}
@@ -91,15 +92,8 @@ unfolding lives_as
 lives_small table true v h e = omega (arith, name_low (known table) 0 v e, length_known table)
 lives_small table false v h e = leb-true v largest e
 
-module _ (table : List ℕ) (j : ℕ) where
-  pub any_next : j < length table → (get_or table j 0 % 2 ≡ 1 → ⊥) → any_named (known (drop j table)) ≡ any_named (known (drop (j + 1) table))
-  unfolding any_named known
-  any_next h n = rw (add-one j, drop-cons table j 0 h, ne_eqb (get_or table j 0 % 2) 1 n)
-
-  pub any_here : j < length table → get_or table j 0 % 2 ≡ 1 → any_named (known (drop j table)) ≡ true
-  unfolding any_named known
-  any_here h e = rw (drop-cons table j 0 h, eq-eqb (get_or table j 0 % 2) 1 e)
-
-  pub any_nowhere : length table ≤ j → any_named (known (drop j table)) ≡ false
-  unfolding any_named known
-  any_nowhere h = rw (drop_of_length-le table h)
+-- the code's test of all rows
+pub any_lem : (table : List ℕ) → list_any (λ entry. eqb (entry % 2) 1) table ≡ any_named (known table)
+unfolding any_named known
+any_lem [] = refl
+any_lem (entry ∷ table) = ap (λ (b : Bool). eqb (entry % 2) 1 || b) (any_lem table)

@@ -2,14 +2,15 @@
 -- digits of a number that fits are read to it.
 -- Assumes nothing.
 use Prim.Native.Nat.{ℕ, ◌+◌, ◌*◌, ◌-◌, ◌≤◌, ◌<◌}
-use mathlib.Core.Path.{◌≡◌, refl, sym, ◌∙◌}
-use mathlib.Core.Bool.{Bool, true, false, not, cond}
+use mathlib.Core.Path.{◌≡◌, refl, ◌∙◌}
+use mathlib.Core.Bool.{Bool, true, false, cond}
 use mathlib.Core.List.{List}
 use mathlib.Core.Option.{none}
 use native.Mathlib.Omega.{arith}
 use lib.ListN.{length, get_or, drop}
 use lib.Dec.{leb}
-use borrow.Author.Tests.{eq-eqb, ne_eqb, not-true, not-false}
+use borrow.Author.Tests.{eq-eqb, ne_eqb}
+use Rattle.std.proofs.lemmas.Bool.{false_from_ne_true}
 use Rattle.circuit.specs.Accept.{most_gates}
 use Rattle.field.specs.Words.{largest}
 use Rattle.forms.specs.Form.{Form, named, number_fits, closing, naught, ten}
@@ -46,18 +47,12 @@ pub record Reached (text table : List ℕ) (naming : Bool) (from value i : ℕ) 
   pub small : value ≤ largest
   pub inside : i ≤ length text
 
--- a test of the code that was passed or not
-pub granted : {r x : Bool} → r ≡ x → not r ≡ false → x ≡ true
-granted {r} {x} e f = sym e ∙ not-false r f
+-- a byte is a digit of this value
+abbrev pub Digit : ℕ → ℕ → Type 0
+Digit b d = (is_digit b ≡ true) × (d ≡ b - naught)
 
-pub denied : {r x : Bool} → r ≡ x → not r ≡ true → x ≡ false
-denied {r} {x} e f = sym e ∙ not-true r f
-
-pub digit_from : {r : Bool} (b : ℕ) → r ≡ is_digit b → not r ≡ false → naught ≤ b
-digit_from b e t = digit_least b (granted e t)
-
-pub digit_below : {r : Bool} (b : ℕ) → r ≡ is_digit b → not r ≡ false → b < naught + ten
-digit_below b e t = digit_most b (granted e t)
+pub digit_small : {d : ℕ} (b : ℕ) → Digit b d → d < ten
+digit_small {d} b g = omega (arith, digit_least b g.0, digit_most b g.0)
 
 -- a state that holds digits has as many forms open, and as many gates closed, as before them
 pub still : (rows : List Form) (stack : List Frame) (p : Numbered) (v : ℕ) → Calm (at rows stack (number p)) → Calm (at rows stack (digit p v))
@@ -84,37 +79,38 @@ module _ (text table : List ℕ) (naming : Bool) where
     pub empty : length text ≤ from → NumberDies text table naming from from
     empty h = record { dies = λ rows stack p w. ends largest text from (at rows stack (number p)) h (unfold ended in refl) }
 
-    pub no_digit : {r : Bool} → from < length text → r ≡ is_digit (get_or text from 0) → not r ≡ true → NumberDies text table naming from from
-    no_digit h e t =
-        record { dies = λ rows stack p w. dies largest text from (at rows stack (number p)) h (unfold step when in rw (denied e t)) }
+    pub no_digit : from < length text → (is_digit (get_or text from 0) ≡ true → ⊥) → NumberDies text table naming from from
+    no_digit h e = record {
+      dies = λ rows stack p w. dies largest text from (at rows stack (number p)) h (unfold step when in rw (false_from_ne_true (is_digit (get_or text from 0)) e));
+    }
 
     -- the first digit
-    module _ {r l : Bool} (h : from < length text) (e : r ≡ is_digit (get_or text from 0)) (t : not r ≡ false) where
-      pub no_number : l ≡ lives_as table naming (get_or text from 0 - naught) → not l ≡ true → NumberDies text table naming from from
-      no_number m u = record {
+    module _ {d : ℕ} (h : from < length text) (g : Digit (get_or text from 0) d) where
+      pub no_number : lives_as table naming d ≡ false → NumberDies text table naming from from
+      no_number m = record {
         dies = λ rows stack p w. dies largest text from (at rows stack (number p)) h
-            (unfold step when in rw (granted e t, lives_at rows stack p w (get_or text from 0 - naught), denied m u));
+            (unfold step when in rw (g.0, ← g.1, lives_at rows stack p w d, m));
       }
 
-      pub first_digit : length table ≤ most_gates → l ≡ lives_as table naming (get_or text from 0 - naught) → not l ≡ false →
-          Reached text table naming from (get_or text from 0 - naught) (from + 1)
-      first_digit k m u = record {
-        reads = λ rows stack p w. on largest text from (at rows stack (number p)) (at rows stack (digit p (get_or text from 0 - naught))) h
-            (unfold step when in rw (granted e t, lives_at rows stack p w (get_or text from 0 - naught), granted m u))
-            (still rows stack p (get_or text from 0 - naught) w.calm);
-        small = lives_small table naming (get_or text from 0 - naught) k (granted m u);
+      pub first_digit : length table ≤ most_gates → lives_as table naming d ≡ true → Reached text table naming from d (from + 1)
+      first_digit k m = record {
+        reads = λ rows stack p w. on largest text from (at rows stack (number p)) (at rows stack (digit p d)) h
+            (unfold step when in rw (g.0, ← g.1, lives_at rows stack p w d, m)) (still rows stack p d w.calm);
+        small = lives_small table naming d k m;
         inside = omega arith;
       }
 
     module _ (value i : ℕ) (so_far : Reached text table naming from value i) where
-      pub ended_here : length text ≤ i → NumberDies text table naming from i
-      ended_here h = record {
-        dies = λ rows stack p w. so_far.reads rows stack p w ∙ ends largest text i (at rows stack (digit p value)) h (unfold ended in refl);
-      }
+      pub ended_here : length text ≤ i → NumberDies text table naming from (length text)
+      ended_here h =
+          let e : length text ≡ i = omega (arith, so_far.inside) in
+          rw e (record {
+            dies = λ rows stack p w. so_far.reads rows stack p w ∙ ends largest text i (at rows stack (digit p value)) h (unfold ended in refl);
+          })
 
       module _ (h : i < length text) where
-        pub closes_here : {r : Bool} → get_or text i 0 ≡ closing → r ≡ fits_as table naming value → r ≡ true → NumberIs text table naming from value i
-        closes_here e f t = record { reads = so_far.reads; fitting = sym f ∙ t; closes = is_at_lem text i closing h e }
+        pub closes_here : get_or text i 0 ≡ closing → fits_as table naming value ≡ true → NumberIs text table naming from value i
+        closes_here e f = record { reads = so_far.reads; fitting = f; closes = is_at_lem text i closing h e }
 
         -- wherever the machine stops at this byte, so does the code
         stops : ((rows : List Form) (stack : List Frame) (p : Numbered) → Wanted table naming rows stack p →
@@ -123,44 +119,35 @@ module _ (text table : List ℕ) (naming : Bool) where
           dies = λ rows stack p w. so_far.reads rows stack p w ∙ dies largest text i (at rows stack (digit p value)) h (f rows stack p w);
         }
 
-        pub unfit : {r : Bool} → get_or text i 0 ≡ closing → r ≡ fits_as table naming value → r ≡ false → NumberDies text table naming from i
-        unfit e f t = stops (λ rows stack p w. unfold step when in rw (e, fits_at rows stack p w value, sym f ∙ t))
+        pub unfit : get_or text i 0 ≡ closing → fits_as table naming value ≡ false → NumberDies text table naming from i
+        unfit e f = stops (λ rows stack p w. unfold step when in rw (e, fits_at rows stack p w value, f))
 
-        module _ {r : Bool} (b : get_or text i 0 ≡ closing → ⊥) (e : r ≡ is_digit (get_or text i 0)) where
-          pub other : not r ≡ true → NumberDies text table naming from i
-          other t = stops (λ rows stack p w. unfold step when in rw (ne_eqb (get_or text i 0) closing b, denied e t))
+        module _ (b : get_or text i 0 ≡ closing → ⊥) where
+          pub other : (is_digit (get_or text i 0) ≡ true → ⊥) → NumberDies text table naming from i
+          other e =
+              stops (λ rows stack p w. unfold step when in
+              rw (ne_eqb (get_or text i 0) closing b, false_from_ne_true (is_digit (get_or text i 0)) e))
 
-          module _ (t : not r ≡ false) where
+          module _ {d : ℕ} (g : Digit (get_or text i 0) d) where
             pub leading : value ≡ 0 → NumberDies text table naming from i
             leading z =
-                stops (λ rows stack p w. unfold step when in rw (ne_eqb (get_or text i 0) closing b, granted e t, eq-eqb value 0 z))
+                stops (λ rows stack p w. unfold step when in rw (ne_eqb (get_or text i 0) closing b, g.0, eq-eqb value 0 z))
 
             -- one digit more
-            module _ {l : Bool} (z : value ≡ 0 → ⊥) (m : l ≡ lives_as table naming (value * ten + (get_or text i 0 - naught))) where
-              pub large : not l ≡ true → NumberDies text table naming from i
-              large u =
+            module _ (z : value ≡ 0 → ⊥) where
+              pub large : lives_as table naming (value * ten + d) ≡ false → NumberDies text table naming from i
+              large m =
                   stops (λ rows stack p w. unfold step when in
-                  rw (
-                    ne_eqb (get_or text i 0) closing b,
-                    granted e t,
-                    ne_eqb value 0 z,
-                    lives_at rows stack p w (value * ten + (get_or text i 0 - naught)),
-                    denied m u,
-                  ))
+                  rw (ne_eqb (get_or text i 0) closing b, g.0, ne_eqb value 0 z, ← g.1, lives_at rows stack p w (value * ten + d), m))
 
-              pub more : length table ≤ most_gates → not l ≡ false →
-                  Reached text table naming from (value * ten + (get_or text i 0 - naught)) (i + 1)
-              more k u = record {
+              pub more : length table ≤ most_gates → lives_as table naming (value * ten + d) ≡ true →
+                  Reached text table naming from (value * ten + d) (i + 1)
+              more k m = record {
                 reads = λ rows stack p w. so_far.reads rows stack p w
-                    ∙ on largest text i (at rows stack (digit p value)) (at rows stack (digit p (value * ten + (get_or text i 0 - naught)))) h
-                    (unfold step when in rw (
-                      ne_eqb (get_or text i 0) closing b,
-                      granted e t,
-                      ne_eqb value 0 z,
-                      lives_at rows stack p w (value * ten + (get_or text i 0 - naught)),
-                      granted m u,
-                    ))
-                    (still rows stack p (value * ten + (get_or text i 0 - naught)) w.calm);
-                small = lives_small table naming (value * ten + (get_or text i 0 - naught)) k (granted m u);
+                    ∙ on largest text i (at rows stack (digit p value)) (at rows stack (digit p (value * ten + d))) h
+                    (unfold step when in
+                    rw (ne_eqb (get_or text i 0) closing b, g.0, ne_eqb value 0 z, ← g.1, lives_at rows stack p w (value * ten + d), m))
+                    (still rows stack p (value * ten + d) w.calm);
+                small = lives_small table naming (value * ten + d) k m;
                 inside = omega arith;
               }

@@ -2,14 +2,16 @@
 -- Assumes nothing.
 use Prim.Native.Nat.{ℕ, zero, suc, ◌/◌, ◌%◌, ◌≤◌, ◌<◌}
 use mathlib.Core.Path.{◌≡◌, refl, ap}
-use mathlib.Core.Bool.{Bool, true, false, ◌||◌, false≢true}
+use mathlib.Core.Bool.{Bool, true, false, ◌&&◌, ◌||◌, false≢true}
 use mathlib.Core.List.{List, [], ◌∷◌, ◌++◌}
 use native.Mathlib.Omega.{arith}
 use lib.ListN.{length, get_or}
-use lib.Dec.{eqb}
+use lib.Dec.{eqb, ltb}
+use borrow.Author.Tests.{ltb-true, ltb-false}
+use Rattle.circuit.proofs.Tests.{by_cases}
 use Rattle.circuit.specs.Code.{role_of}
 use Rattle.forms.specs.declared.Head.{Head}
-use Rattle.forms.specs.Words.{sort, kind, letters, names, valued, shape_of}
+use Rattle.forms.specs.Words.{sort, kind, names, valued, shape_of}
 use Rattle.forms.specs.Form.{named}
 use Rattle.forms.specs.Machine.{any_named}
 use Rattle.tokens.specs.declared.Row.{Row}
@@ -17,12 +19,11 @@ use Rattle.tokens.specs.Code.{RowOf, known, gates_at}
 
 -- words -----------------------------------------------------------------------------------------------------------------
 
-pub row_as : {h k : Head} {r s : Row} → h ≡ k → r ≡ s → s.length ≡ length (letters k) → s.sort ≡ sort k → s.kind ≡ kind k →
+pub row_as : {h k : Head} {r s : Row} → h ≡ k → r ≡ s → s.sort ≡ sort k → s.kind ≡ kind k →
     s.naming ≡ names k → s.valued ≡ valued k → role_of s.first ≡ (shape_of k).first → role_of s.second ≡ (shape_of k).second →
     role_of s.constant ≡ (shape_of k).constant → RowOf h r
-row_as {h} {k} {r} {s} e d length sort kind naming valued first second constant =
+row_as {h} {k} {r} {s} e d sort kind naming valued first second constant =
     rw (e, d) (record {
-      length_is = length;
       sort_is = sort;
       kind_is = kind;
       naming_is = naming;
@@ -31,9 +32,6 @@ row_as {h} {k} {r} {s} e d length sort kind naming valued first second constant 
       second_is = second;
       constant_is = constant;
     })
-
-pub past : (n k : ℕ) → n ≤ k → (k ≡ n → ⊥) → suc n ≤ k
-past n k h d = omega arith
 
 -- rows ------------------------------------------------------------------------------------------------------------------
 
@@ -53,6 +51,11 @@ unfolding named known
 named_out [] v h = refl
 named_out (w ∷ ws) zero h = absurd (omega arith)
 named_out (w ∷ ws) (suc v) h = named_out ws v (omega arith)
+
+-- the code's test of a row
+pub named_at : (table : List ℕ) (v : ℕ) → named (known table) v ≡ (ltb v (length table) && eqb (get_or table v 0 % 2) 1)
+named_at table v = by_cases (ltb v (length table)) (λ t. rw t (named_in table v (ltb-true v (length table) t)))
+    (λ f. rw f (named_out table v (ltb-false v (length table) f)))
 
 pub gate_at : (table : List ℕ) (v : ℕ) → get_or (gates_at table) v 0 ≡ get_or table v 0 / 2
 unfolding gates_at

@@ -1,74 +1,92 @@
--- A part of a text against the table of words, as the code compares them: letter by letter with a word, word by word along the table.
+-- Letters against the table of words: the library's tests of slices are the machine's, and the words are asked along the table.
 -- Assumes nothing.
-use Prim.Native.Nat.{ℕ, suc, ◌+◌, ◌-◌, ◌≤◌, ◌<◌}
+use Prim.Native.Nat.{ℕ, suc, ◌+◌, ◌≤◌, ◌<◌}
 use mathlib.Core.Path.{◌≡◌, refl, sym, ap, ◌∙◌}
-use mathlib.Core.Bool.{Bool, true, false, ◌&&◌, true≢false}
+use mathlib.Core.Bool.{Bool, true, false, cond, not, ◌&&◌, ◌||◌, true≢false}
 use mathlib.Core.List.{List, [], ◌∷◌, ◌++◌}
-use mathlib.Core.Option.{Option, some, none}
+use mathlib.Core.Option.{some, none}
 use native.Mathlib.Omega.{arith}
 use native.Mathlib.Numerals.{add-one}
-use lib.ListN.{length, get_or, drop, drop_of_length-le}
-use lib.Seq.{drop-cons}
-use lib.Dec.{eqb}
-use borrow.Author.Tests.{eq-eqb, ne_eqb, eqb-true}
+use lib.ListN.{length, get_or, drop, drop_of_length-le, length-drop}
+use lib.Seq.{drop-cons, get_or-drop}
+use lib.Dec.{eqb, ltb, eqb-suc-suc, eqb-zero-suc}
+use lib.Pointwise.{pointwise}
+use borrow.Author.Tests.{eqb-true}
+use Rattle.std.specs.List.{between, starts_with}
+use Rattle.std.proofs.lemmas.Slice.{between_to_end}
+use Rattle.std.proofs.lemmas.Bool.Decides.{nat_tests}
 use Rattle.circuit.proofs.Tests.{both_left, both_right}
 use Rattle.forms.specs.declared.Head.{Head}
 use Rattle.forms.specs.Words.{heads, letters, names, valued, outer, inner, stands}
 use Rattle.forms.specs.Machine.{starts, same, may, word_lives, word_is}
-use Rattle.tokens.specs.declared.Found.{Found}
-use Rattle.tokens.specs.declared.Found.TheVariants as F
-use Rattle.tokens.specs.Code.{part, found_as}
-use Rattle.tokens.proofs.Parts.{part_cons, part_none, length_part}
+use Rattle.tokens.specs.Code.{is_at}
 
 -- a word ----------------------------------------------------------------------------------------------------------------
 
-module _ (text w : List ℕ) (i to k : ℕ) (h : i < to) (l : to ≤ length text) where
-  pub starts_long : length w ≤ k → starts (part text i to) (drop k w) ≡ false
-  unfolding starts
-  starts_long q = rw (part_cons text i to h l, drop_of_length-le w q)
-
-  pub starts_differs : k < length w → (get_or text i 0 ≡ get_or w k 0 → ⊥) → starts (part text i to) (drop k w) ≡ false
-  unfolding starts
-  starts_differs q d = rw (part_cons text i to h l, drop-cons w k 0 q, ne_eqb (get_or text i 0) (get_or w k 0) d)
-
-  pub starts_more : k < length w → get_or text i 0 ≡ get_or w k 0 → starts (part text i to) (drop k w) ≡ starts (part text (i + 1) to) (drop (k + 1) w)
-  unfolding starts
-  starts_more q d = rw (part_cons text i to h l, drop-cons w k 0 q, eq-eqb (get_or text i 0) (get_or w k 0) d, add-one k)
-
-pub starts_all : (text w : List ℕ) (i to k : ℕ) → to ≤ i → starts (part text i to) (drop k w) ≡ true
+-- the library's tests of two slices
+pub starts_lem : (xs ys : List ℕ) → starts_with eqb ys xs ≡ starts xs ys
 unfolding starts
-starts_all text w i to k h = rw (part_none text i to h)
+starts_lem [] ys = refl
+starts_lem (x ∷ xs) [] = refl
+starts_lem (x ∷ xs) (y ∷ ys) = ap (λ (b : Bool). eqb x y && b) (starts_lem xs ys)
 
--- bytes that stand in front of others, byte by byte
-pub stand_short : (w ys : List ℕ) → length ys < length w → starts w ys ≡ false
-unfolding starts
-stand_short [] ys h = absurd (omega arith)
-stand_short (x ∷ w) [] h = refl
-stand_short (x ∷ w) (y ∷ ys) h = rw (stand_short w ys (omega arith)) (go (eqb x y))
-  where
-    go : (b : Bool) → (b && false) ≡ false
-    go true = refl
-    go false = refl
+and_assoc : (a b c : Bool) → (a && (b && c)) ≡ ((a && b) && c)
+and_assoc true b c = refl
+and_assoc false b c = refl
 
-module _ (w text : List ℕ) (from : ℕ) where
-  pub stand_none : starts w (drop from text) ≡ starts (drop 0 w) (drop (from + 0) text)
-  stand_none = let e : from + 0 ≡ from = omega arith in rw e
+pub same_lem : (xs ys : List ℕ) → pointwise eqb xs ys ≡ same xs ys
+unfolding same starts
+same_lem [] [] = refl
+same_lem [] (y ∷ ys) = sym (eqb-zero-suc (length ys))
+same_lem (x ∷ xs) [] = refl
+same_lem (x ∷ xs) (y ∷ ys) =
+    ap (λ (b : Bool). eqb x y && b) (same_lem xs ys)
+    ∙ (and_assoc (eqb x y) (starts xs ys) (eqb (length xs) (length ys))
+    ∙ ap (λ (b : Bool). (eqb x y && starts xs ys) && b) (sym (eqb-suc-suc (length xs) (length ys))))
 
-  module _ (k : ℕ) (h : k < length w) (l : from + k < length text) where
-    pub stand_differs : (get_or w k 0 ≡ get_or text (from + k) 0 → ⊥) → starts (drop k w) (drop (from + k) text) ≡ false
-    unfolding starts
-    stand_differs d = rw (drop-cons w k 0 h, drop-cons text (from + k) 0 l, ne_eqb (get_or w k 0) (get_or text (from + k) 0) d)
+-- what such a test has told
+pub starts_told : {b : Bool} {ys zs : List ℕ} (xs : List ℕ) → ys ≡ zs → b ≡ starts_with eqb ys xs → starts xs zs ≡ b
+starts_told {b} {ys} {zs} xs e f = sym (starts_lem xs zs) ∙ rw (← e) (sym f)
 
-    pub stand_more : get_or w k 0 ≡ get_or text (from + k) 0 →
-        starts (drop k w) (drop (from + k) text) ≡ starts (drop (k + 1) w) (drop (from + (k + 1)) text)
-    unfolding starts
-    stand_more d =
-        let e : from + (k + 1) ≡ suc (from + k) = omega arith in
-        rw (drop-cons w k 0 h, drop-cons text (from + k) 0 l, eq-eqb (get_or w k 0) (get_or text (from + k) 0) d, e, add-one k)
+pub same_told : {b : Bool} {ys zs : List ℕ} (xs : List ℕ) → ys ≡ zs → b ≡ pointwise eqb xs ys → same xs zs ≡ b
+same_told {b} {ys} {zs} xs e f = sym (same_lem xs zs) ∙ rw (← e) (sym f)
 
-  pub stand_all : (k : ℕ) → length w ≤ k → starts (drop k w) (drop (from + k) text) ≡ true
-  unfolding starts
-  stand_all k h = rw (drop_of_length-le w h)
+pub left_no : {a : Bool} (b : Bool) → a ≡ false → (a && b) ≡ false
+left_no b e = rw e
+
+pub right_no : (a : Bool) {b : Bool} → b ≡ false → (a && b) ≡ false
+right_no true e = e
+right_no false e = refl
+
+-- bytes and one more
+last_in : (w ys : List ℕ) (b : ℕ) → starts (w ++ (b ∷ [])) ys ≡ (starts w ys && is_at ys (length w) b)
+unfolding starts is_at
+last_in [] [] b = refl
+last_in [] (y ∷ ys) b = grind (arith, nat_tests)
+last_in (x ∷ w) [] b = refl
+last_in (x ∷ w) (y ∷ ys) b =
+    let e : ltb (suc (length w)) (suc (length ys)) ≡ ltb (length w) (length ys) = grind (arith, nat_tests) in
+    rw (e, last_in w ys b) (and_assoc (eqb x y) (starts w ys) (is_at ys (length w) b))
+
+at_drop : (text : List ℕ) (from k b : ℕ) → is_at (drop from text) k b ≡ is_at text (from + k) b
+unfolding is_at
+at_drop text from k b = rw (get_or-drop from text k 0, length-drop from text) (grind (arith, nat_tests))
+
+pub last_stands : (w text : List ℕ) (from b : ℕ) → starts (w ++ (b ∷ [])) (drop from text) ≡ (starts w (drop from text) && is_at text (from + length w) b)
+last_stands w text from b = last_in w (drop from text) b ∙ ap (λ (c : Bool). starts w (drop from text) && c) (at_drop text from (length w) b)
+
+-- the code's tests of the bytes l, which are w, and of one more
+module _ {r : Bool} {l : List ℕ} (w text : List ℕ) (from : ℕ) (e : l ≡ w) where
+  pub stands_here : r ≡ starts_with eqb (between from (length text) text) l → starts w (drop from text) ≡ r
+  stands_here f =
+      ap (starts w) (sym (between_to_end text from (length text) (omega arith))) ∙ rw e at (sym (starts_lem l (between from (length text) text)) ∙ sym f)
+
+  module _ (b : ℕ) where
+    pub stands_told : starts w (drop from text) ≡ true → r ≡ is_at text (from + length l) b → r ≡ starts (w ++ (b ∷ [])) (drop from text)
+    stands_told s t = t ∙ rw e (sym (last_stands w text from b ∙ rw s))
+
+    pub stands_not : starts w (drop from text) ≡ r → r ≡ false → r ≡ starts (w ++ (b ∷ [])) (drop from text)
+    stands_not s t = t ∙ sym (last_stands w text from b ∙ rw (s ∙ t))
 
 -- what stands in front of a list begins it
 pub stand_rest : (w ys : List ℕ) → starts w ys ≡ true → (r : List ℕ) × (ys ≡ w ++ r)
@@ -82,71 +100,42 @@ stand_rest (x ∷ w) (y ∷ ys) e =
           ∙ ap (λ (zs : List ℕ). y ∷ zs) (sym r.1)),
     )
 
--- a part of the text is a word where it starts it and is as long
-module _ (text : List ℕ) (from to : ℕ) (h : Head) where
-  pub is_as_long : {r m x : Bool} {n : ℕ} → from ≤ to → to ≤ length text → r ≡ starts (part text from to) (letters h) → r ≡ true →
-      n ≡ length (letters h) → to - from ≡ n → x ≡ m → x ≡ (same (part text from to) (letters h) && m)
-  unfolding same
-  is_as_long p q e t l k f = rw (sym e ∙ t, length_part text from to p q, k ∙ l, eq-eqb (length (letters h)) (length (letters h)) refl) f
-
-  pub is_not_long : {n : ℕ} (m : Bool) → from ≤ to → to ≤ length text → n ≡ length (letters h) → (to - from ≡ n → ⊥) →
-      false ≡ (same (part text from to) (letters h) && m)
-  unfolding same
-  is_not_long m p q l k =
-      rw (length_part text from to p q, ne_eqb (to - from) (length (letters h)) (λ z. k (z ∙ sym l))) (go (starts (part text from to) (letters h)))
-    where
-      go : (b : Bool) → false ≡ (b && false && m)
-      go true = refl
-      go false = refl
-
-  pub is_no_start : {r : Bool} (m : Bool) → r ≡ starts (part text from to) (letters h) → r ≡ false →
-      false ≡ (same (part text from to) (letters h) && m)
-  unfolding same
-  is_no_start m e t = rw (sym e ∙ t)
-
 -- where it may stand ----------------------------------------------------------------------------------------------------
 
-module _ (any : Bool) (h : Head) where
-  pub may_name_outermost : (o : Bool) → o ≡ true → names h ≡ true → false ≡ may any o h
-  unfolding may stands outer
-  may_name_outermost o e n = rw (e, n)
-
-  pub may_name_inside : (o : Bool) → o ≡ false → names h ≡ true → any ≡ may any o h
-  unfolding may stands inner
-  may_name_inside o e n = rw (e, n)
-
-  pub may_outermost : (o : Bool) → o ≡ true → names h ≡ false → true ≡ may any o h
-  unfolding may stands outer
-  may_outermost o e n = rw (e, n)
-
-  pub may_inside : (o : Bool) → o ≡ false → names h ≡ false → valued h ≡ may any o h
-  unfolding may stands inner
-  may_inside o e n = rw (e, n) (go (valued h))
-    where
-      go : (b : Bool) → b ≡ (b && true)
-      go true = refl
-      go false = refl
+pub may_lem : (any o : Bool) (h : Head) → may any o h ≡ cond (names h) (any && not o) (o || valued h)
+unfolding may stands outer inner
+may_lem any o h = go o (names h) any (valued h)
+  where
+    go : (o n any v : Bool) → (cond o (not n) (n || v) && (not n || any)) ≡ cond n (any && not o) (o || v)
+    go true true true v = refl
+    go true true false v = refl
+    go true false any v = refl
+    go false true true v = refl
+    go false true false v = refl
+    go false false any true = refl
+    go false false any false = refl
 
 -- the table -------------------------------------------------------------------------------------------------------------
 
-module _ (any o : Bool) (w : List ℕ) (k : ℕ) (h : Head) (e : drop k heads ≡ h ∷ drop (k + 1) heads) where
-  pub lives_next : {r : Bool} → r ≡ (starts w (letters h) && may any o h) → r ≡ false →
+module _ (any o : Bool) (w : List ℕ) (k : ℕ) (d : Head) (l : k < length heads) where
+  pub lives_here : starts w (letters (get_or heads k d)) ≡ true → may any o (get_or heads k d) ≡ true → word_lives (drop k heads) any o w ≡ true
+  unfolding word_lives
+  lives_here e f = rw (drop-cons heads k d l, e, f)
+
+  pub lives_next : (starts w (letters (get_or heads k d)) && may any o (get_or heads k d)) ≡ false →
       word_lives (drop k heads) any o w ≡ word_lives (drop (k + 1) heads) any o w
   unfolding word_lives
-  lives_next p q = rw (e, sym p ∙ q)
+  lives_next e = rw (add-one k, drop-cons heads k d l, e)
 
-  pub lives_here : {r : Bool} → r ≡ (starts w (letters h) && may any o h) → r ≡ true → word_lives (drop k heads) any o w ≡ true
-  unfolding word_lives
-  lives_here p q = rw (e, sym p ∙ q)
+  pub is_here : same w (letters (get_or heads k d)) ≡ true → may any o (get_or heads k d) ≡ true →
+      word_is (drop k heads) any o w ≡ some (get_or heads k d)
+  unfolding word_is
+  is_here e f = rw (drop-cons heads k d l, e, f)
 
-  pub is_next : {r : Bool} → r ≡ (same w (letters h) && may any o h) → r ≡ false →
+  pub is_next : (same w (letters (get_or heads k d)) && may any o (get_or heads k d)) ≡ false →
       word_is (drop k heads) any o w ≡ word_is (drop (k + 1) heads) any o w
   unfolding word_is
-  is_next p q = rw (e, sym p ∙ q)
-
-  pub is_here : {r : Bool} → r ≡ (same w (letters h) && may any o h) → r ≡ true → word_is (drop k heads) any o w ≡ some h
-  unfolding word_is
-  is_here p q = rw (e, sym p ∙ q)
+  is_next e = rw (add-one k, drop-cons heads k d l, e)
 
 pub lives_nowhere : (any o : Bool) (w : List ℕ) (k : ℕ) → length heads ≤ k → word_lives (drop k heads) any o w ≡ false
 unfolding word_lives
@@ -155,11 +144,3 @@ lives_nowhere any o w k h = rw (drop_of_length-le heads h)
 pub is_nowhere : (any o : Bool) (w : List ℕ) (k : ℕ) → length heads ≤ k → word_is (drop k heads) any o w ≡ none
 unfolding word_is
 is_nowhere any o w k h = rw (drop_of_length-le heads h)
-
-pub found_word : {r : Found} {h : Head} {x : Option Head} → found_as r ≡ x → r ≡ F.Word h → some h ≡ x
-unfolding found_as
-found_word {r} {h} {x} e q = sym (ap found_as q) ∙ e
-
-pub found_none : {r : Found} {x : Option Head} → found_as r ≡ x → r ≡ F.Nothing → none ≡ x
-unfolding found_as
-found_none {r} {x} e q = sym (ap found_as q) ∙ e

@@ -1,8 +1,8 @@
 -- Digits that are found in one pass are the decimal of a number, and the machine reads the decimal of a number that fits to that number.
 -- Assumes nothing.
 use Prim.Native.Nat.{ℕ, zero, suc, ◌+◌, ◌*◌, ◌-◌, ◌/◌, ◌%◌, ◌≤◌, ◌<◌}
-use mathlib.Core.Path.{◌≡◌, refl, sym, ap, subst, ◌∙◌}
-use mathlib.Core.Bool.{Bool, true, false, not}
+use mathlib.Core.Path.{◌≡◌, refl, sym, ap, ◌∙◌}
+use mathlib.Core.Bool.{Bool, true, false}
 use mathlib.Core.List.{List, [], ◌∷◌, ◌++◌, append_assoc}
 use mathlib.Core.Option.{some}
 use native.Mathlib.Omega.{arith}
@@ -12,15 +12,13 @@ use lib.Dec.{ltb}
 use borrow.Author.Tests.{ltb-true, ltb-false}
 use Rattle.field.specs.Words.{largest}
 use Rattle.forms.specs.Form.{Form, decimal, closing, naught, ten}
-use Rattle.forms.specs.Machine.{Frame, Numbered, whose, at, number, digit, is_digit, number_lives, step, when, read}
-use Rattle.forms.proofs.Decimal.{is_digit_lem, digit_most, decimal_last, decimal_tens, decimal_digit, decimal_more}
+use Rattle.forms.specs.Machine.{Frame, Numbered, whose, at, number, digit, number_lives, step, when, read}
+use Rattle.forms.proofs.Decimal.{is_digit_lem, decimal_last, decimal_tens, decimal_digit, decimal_more}
 use Rattle.forms.proofs.Numerals.{fits_lives, lives_tens, digit_next}
-use Rattle.tokens.specs.Code.{part, Calm, fits_as, NumberIs, DigitsAre, DigitsRead}
-use Rattle.tokens.specs.declared.Digits.{Digits}
-use Rattle.tokens.specs.declared.Digits.TheVariants as D
+use Rattle.tokens.specs.Code.{part, Calm, fits_as, NumberIs, DigitsAre}
 use Rattle.tokens.proofs.Onward.{read_on, at_inside, is_at_lem}
 use Rattle.tokens.proofs.Parts.{part_none, part_more, part_rest, length_part}
-use Rattle.tokens.proofs.Numerals.{granted, still, fits_at}
+use Rattle.tokens.proofs.Numerals.{Digit, digit_small, still, fits_at}
 
 -- one pass ----------------------------------------------------------------------------------------------------------------
 
@@ -32,30 +30,26 @@ pub record Written (text : List ℕ) (from value i : ℕ) : Type 0 where
   pub inside : i ≤ length text
 
 module _ (text : List ℕ) (from : ℕ) where
-  pub first_written : {r : Bool} → from < length text → r ≡ is_digit (get_or text from 0) → not r ≡ false →
-      Written text from (get_or text from 0 - naught) (from + 1)
-  first_written h e t =
-      let b = digit_most (get_or text from 0) (granted e t) in
-      record {
-        written = part_more text from from (omega arith) h
-            ∙ (ap (λ (l : List ℕ). l ++ (get_or text from 0 ∷ [])) (part_none text from from (omega arith))
-            ∙ sym (decimal_digit (get_or text from 0) (granted e t)));
-        forward = omega arith;
-        small = omega (arith, b);
-        inside = omega arith;
-      }
+  pub first_written : {d : ℕ} → from < length text → Digit (get_or text from 0) d → Written text from d (from + 1)
+  first_written h g = record {
+    written = part_more text from from (omega arith) h
+        ∙ (ap (λ (l : List ℕ). l ++ (get_or text from 0 ∷ [])) (part_none text from from (omega arith))
+        ∙ rw g.1 (sym (decimal_digit (get_or text from 0) g.0)));
+    forward = omega arith;
+    small = omega (arith, digit_small _ g);
+    inside = omega arith;
+  }
 
   module _ (value i : ℕ) (so_far : Written text from value i) (h : i < length text) where
     pub written_closes : get_or text i 0 ≡ closing → DigitsAre text from value i
     written_closes e =
         record { written = so_far.written; forward = so_far.forward; small = so_far.small; closes = is_at_lem text i closing h e }
 
-    pub written_more : {r : Bool} → r ≡ is_digit (get_or text i 0) → not r ≡ false → (value ≡ 0 → ⊥) →
-        value * ten + (get_or text i 0 - naught) ≤ largest → Written text from (value * ten + (get_or text i 0 - naught)) (i + 1)
-    written_more e t z l = record {
+    pub written_more : {d : ℕ} → Digit (get_or text i 0) d → (value ≡ 0 → ⊥) → value * ten + d ≤ largest → Written text from (value * ten + d) (i + 1)
+    written_more g z l = record {
       written = part_more text from i so_far.forward h
           ∙ (ap (λ (l : List ℕ). l ++ (get_or text i 0 ∷ [])) so_far.written
-          ∙ sym (decimal_more value (get_or text i 0) (omega arith) (granted e t)));
+          ∙ rw g.1 (sym (decimal_more value (get_or text i 0) (omega arith) g.0)));
       forward = omega (arith, so_far.forward);
       small = l;
       inside = omega arith;
@@ -105,23 +99,19 @@ module _ (top : ℕ) (rows : List Form) (stack : List Frame) (p : Numbered) (qui
   reads_decimal n e rest i = through_within n n (omega arith) e rest i
 
 -- digits that are written as a number that fits are that number
-pub written_fits : {r : Bool} (text table : List ℕ) (naming : Bool) (from value to : ℕ) → DigitsAre text from value to →
-    r ≡ fits_as table naming value → r ≡ true → NumberIs text table naming from value to
-written_fits text table naming from value to d e t =
+pub written_fits : (text table : List ℕ) (naming : Bool) (from value to : ℕ) → DigitsAre text from value to →
+    fits_as table naming value ≡ true → NumberIs text table naming from value to
+written_fits text table naming from value to d e =
     let l = at_inside text to closing d.closes in
     let q : from + length (decimal value) ≡ to =
     ap (λ (x : List ℕ). from + length x) (sym d.written) ∙ omega (arith, length_part text from to d.forward (omega arith), d.forward) in
     record {
       reads = λ rows stack p w.
-          let f = fits_at text table naming rows stack p w value ∙ (sym e ∙ t) in
+          let f = fits_at text table naming rows stack p w value ∙ e in
           ap (λ (x : List ℕ). read largest (at rows stack (number p)) x from)
           (part_rest text from to d.forward ∙ ap (λ (x : List ℕ). x ++ drop to text) d.written)
           ∙ (reads_decimal largest rows stack p w.calm value (fits_lives largest rows stack p value f) (drop to text) from
           ∙ ap (λ (i : ℕ). read largest (at rows stack (digit p value)) (drop to text) i) q);
-      fitting = sym e ∙ t;
+      fitting = e;
       closes = d.closes;
     }
-
-pub written_told : {d : Digits} (text : List ℕ) (from value to : ℕ) → DigitsRead text from d → d ≡ D.Are value to → DigitsAre text from value to
-unfolding DigitsRead
-written_told text from value to r e = subst (DigitsRead text from) e r

@@ -1,8 +1,8 @@
 -- What the code's table of words and its readers of words and numbers promise. A reader's promise is reading on: from here, at any stack of
 -- open forms, reading comes to what reading from there does, or to a refusal. So no promise takes the caller's state apart.
 -- Assumes nothing.
-use Rattle.std.specs.Prelude.{ℕ, ◌+◌, ◌-◌, ◌/◌, ◌%◌, ◌≤◌, ◌≡◌, Bool, true, false, cond, ◌&&◌, List, [], ◌∷◌, ◌++◌, length, get_or, take, drop, eqb, ltb, leb}
-use Rattle.std.proofs.Math.Option.{Option, some, none}
+use Rattle.std.specs.Prelude.{ℕ, ◌+◌, ◌-◌, ◌/◌, ◌%◌, ◌≤◌, ◌≡◌, Bool, true, false, cond, ◌&&◌, List, [], ◌∷◌, ◌++◌, length, get_or, take, drop, eqb, ltb, leb, Option, Some, None, Result, MatchResult}
+use Rattle.std.proofs.Math.Option as maybe
 use Rattle.circuit.specs.declared.Role.{Role}
 use Rattle.circuit.specs.Code.{role_of}
 use Rattle.field.specs.Words.{largest}
@@ -31,20 +31,11 @@ use Rattle.forms.specs.Machine.{
   No,
 }
 use Rattle.tokens.specs.declared.Row.{Row}
-use Rattle.tokens.specs.declared.Found.{Found}
-use Rattle.tokens.specs.declared.Found.TheVariants as F
 use Rattle.tokens.specs.declared.Spelt.{Spelt}
-use Rattle.tokens.specs.declared.Spelt.TheVariants as S
 use Rattle.tokens.specs.declared.Number.{Number}
-use Rattle.tokens.specs.declared.Number.TheVariants as N
-use Rattle.tokens.specs.declared.Digits.{Digits}
-use Rattle.tokens.specs.declared.Digits.TheVariants as D
-use Rattle.tokens.specs.declared.Name.{Name}
-use Rattle.tokens.specs.declared.Name.TheVariants as M
 
 -- the row of the table for a word
 pub record RowOf (h : Head) (r : Row) : Type 0 where
-  pub length_is : r.length ≡ length (letters h)
   pub sort_is : r.sort ≡ sort h
   pub kind_is : r.kind ≡ kind h
   pub naming_is : r.naming ≡ names h
@@ -54,9 +45,8 @@ pub record RowOf (h : Head) (r : Row) : Type 0 where
   pub constant_is : role_of r.constant ≡ (shape_of h).constant
 
 -- the row of a word with a gate that has a value
-abbrev pub valued_row : ℕ → Sort → ℕ → Role → Role → Role → Row
-valued_row length sort kind first second constant = record {
-  length = length;
+abbrev pub valued_row : Sort → ℕ → Role → Role → Role → Row
+valued_row sort kind first second constant = record {
   sort = sort;
   kind = kind;
   naming = false;
@@ -114,35 +104,27 @@ pub record NumberDies (text table : List ℕ) (naming : Bool) (from index : ℕ)
   pub dies : (rows : List Form) (stack : List Frame) (p : Numbered) → Wanted table naming rows stack p →
       read largest (at rows stack (number p)) (drop from text) from ≡ No 22 index
 
-unfoldable pub NumberRead : List ℕ → List ℕ → Bool → ℕ → Number → Type 0
-NumberRead text table naming from (N.Is value to) = NumberIs text table naming from value to
-NumberRead text table naming from (N.Dies index) = NumberDies text table naming from index
+abbrev pub NumberRead : List ℕ → List ℕ → Bool → ℕ → Result Number ℕ → Type 0
+NumberRead text table naming from r =
+    MatchResult r (λ n. NumberIs text table naming from n.value n.to) (λ index. NumberDies text table naming from index)
 
--- the digits of a number stand from here, and a bracket follows; else nothing is said
+-- the digits of a number stand from here, and a bracket follows
 pub record DigitsAre (text : List ℕ) (from value to : ℕ) : Type 0 where
   pub written : part text from to ≡ decimal value
   pub forward : from ≤ to
   pub small : value ≤ largest
   pub closes : is_at text to closing ≡ true
 
-unfoldable pub DigitsRead : List ℕ → ℕ → Digits → Type 0
-DigitsRead text from (D.Are value to) = DigitsAre text from value to
-DigitsRead text from D.Unsure = Unit {0}
-
 -- the bytes that lead to the number of a leaf
 abbrev pub leading : Head → List ℕ
 leading h = opening ∷ (letters h ++ (space ∷ []))
 
--- these bytes stand here, and digits as far as a bracket behind them; else nothing is said
+-- these bytes stand here, and digits as far as a bracket behind them
 pub record Behind (text w : List ℕ) (from value to : ℕ) : Type 0 where
   pub standing : starts w (drop from text) ≡ true
   pub digits : DigitsAre text (from + length w) value to
 
-unfoldable pub BehindRead : List ℕ → List ℕ → ℕ → Digits → Type 0
-BehindRead text w from (D.Are value to) = Behind text w from value to
-BehindRead text w from D.Unsure = Unit {0}
-
--- the name of a row that has a value stands here; else nothing is said
+-- the name of a row that has a value stands here
 pub record NameIs (text table : List ℕ) (from wire to : ℕ) : Type 0 where
   pub value : ℕ
   pub end : ℕ
@@ -151,15 +133,12 @@ pub record NameIs (text table : List ℕ) (from wire to : ℕ) : Type 0 where
   pub wire_is : wire ≡ get_or table value 0 / 2
   pub to_is : to ≡ end + 1
 
-unfoldable pub NameRead : List ℕ → List ℕ → ℕ → Name → Type 0
-NameRead text table from (M.Is wire to) = NameIs text table from wire to
-NameRead text table from M.Other = Unit {0}
-
 -- words -----------------------------------------------------------------------------------------------------------------
 
-unfoldable pub found_as : Found → Option Head
-found_as (F.Word h) = some h
-found_as F.Nothing = none
+-- the word that was found, if one was
+abbrev pub found_as : Option Head → maybe.Option Head
+found_as (Some h) = maybe.some h
+found_as None = maybe.none
 
 -- a state that wants a word, as the code knows it
 pub record WordWanted (any outermost : Bool) (rows : List Form) (stack : List Frame) : Type 0 where
@@ -178,6 +157,6 @@ pub record WordDies (text : List ℕ) (any outermost : Bool) (from index : ℕ) 
   pub dies : (rows : List Form) (stack : List Frame) → WordWanted any outermost rows stack →
       read largest (at rows stack (spelling [])) (drop from text) from ≡ No 22 index
 
-unfoldable pub WordRead : List ℕ → Bool → Bool → ℕ → Spelt → Type 0
-WordRead text any outermost from (S.Is h to) = WordIs text any outermost from h to
-WordRead text any outermost from (S.Dies index) = WordDies text any outermost from index
+abbrev pub WordRead : List ℕ → Bool → Bool → ℕ → Result Spelt ℕ → Type 0
+WordRead text any outermost from r =
+    MatchResult r (λ w. WordIs text any outermost from w.head w.to) (λ index. WordDies text any outermost from index)

@@ -20,11 +20,10 @@ pub const SPACE: u8 = b' ';
 
 pub const FEED: u8 = b'\n';
 
-// What the table says of a word: how long it is, what follows it, the kind of its gate, whether it names a row, whether its gate has a value,
-// and what the gate's numbers are for.
+// What the table says of a word: what follows it, the kind of its gate, whether it names a row, whether its gate has a value, and what the
+// gate's numbers are for.
 #[derive(Clone, Copy)]
 pub struct Row {
-    pub length: usize,
     pub sort: Sort,
     pub kind: Word,
     pub naming: bool,
@@ -34,46 +33,31 @@ pub struct Row {
     pub constant: Role,
 }
 
-// A word of the table, or none.
-#[derive(Clone, Copy)]
-pub enum Found {
-    Word { head: Head },
-    Nothing,
+// A word, and where the text goes on behind its space.
+#[derive(Clone, Copy, PartialEq, Eq)]
+pub struct Spelt {
+    pub head: Head,
+    pub to: usize,
 }
 
-// What stands where a word is wanted: a word and its space, or the byte at which it dies.
-#[derive(Clone, Copy)]
-pub enum Spelt {
-    Is { head: Head, to: usize },
-    Dies { index: usize },
+// A number, and where its bracket is.
+#[derive(Clone, Copy, PartialEq, Eq)]
+pub struct Number {
+    pub value: Word,
+    pub to: usize,
 }
 
-// Digits as far as their bracket, or something else.
-#[derive(Clone, Copy)]
-pub enum Digits {
-    Are { value: Word, to: usize },
-    Unsure,
+// The gate of a row that is named, and where the text goes on behind the name.
+#[derive(Clone, Copy, PartialEq, Eq)]
+pub struct Name {
+    pub wire: Word,
+    pub to: usize,
 }
 
-// What stands where a number is wanted: a number as far as its bracket, or the byte at which it dies.
-#[derive(Clone, Copy)]
-pub enum Number {
-    Is { value: Word, to: usize },
-    Dies { index: usize },
-}
-
-// The name of a row, its gate and where the text goes on, or something else.
-#[derive(Clone, Copy)]
-pub enum Name {
-    Is { wire: Word, to: usize },
-    Other,
-}
-
+// Does a byte stand at a place of a text?
+#[tactic(auto, using(std::proofs::lemmas::Bool::Decides::nat_tests), unfolding(crate::specs::Code::is_at))]
 pub fn expect(text: &[u8], at: usize, b: u8) -> bool
     ensures { result ≡ is_at text.now at b }
 {
-    if at < text.len() {
-        return text[at] == b;
-    }
-    false
+    at < text.len() && text[at] == b
 }

@@ -3,59 +3,43 @@
 use lib.ListN.{length}
 use mathlib.Core.Path.{refl, sym, ap, ◌∙◌}
 use native.Mathlib.Omega.{arith}
-use Rattle.circuit.specs.Code.{verdict_was}
-use Rattle.circuit.proofs.Loops.{call_then, refused_then}
-use Rattle.party.specs.Code.{lent_of}
-use Rattle.party.proofs.Lending.{lists_counted, lent_split, survey_refused, survey_passed, survey_valid, survey_counted, refused_first, passed_first, gates_are, layout_is, capacity_low, site_is, parties_low}
+use borrow.Author.Rules.{rules}
+use Rattle.circuit.specs.Question.{verdict_of}
+use Rattle.circuit.proofs.Verdicts.{asked_on, asked_no, asked_last}
+use Rattle.protocol.specs.Ask.{ask_lent}
+use Rattle.party.proofs.Lending.{lists_counted, survey_said, survey_valid, gates_are, layout_is, capacity_low, site_is, parties_low, lent_to}
 use Rattle.party.proofs.asking.ask_lent.Goals as goal
 
-pub returns-in-Refused : goal.returns-in-Refused
-unfolding lent_of verdict_was
-returns-in-Refused c =
-    record { asked = refused_then _ _ c.ask_party.ensures c.in-Refused.is ∙ sym (lent_split _ _); accepted = tt }
+pub returns-in_err-survey-clause-asked : goal.returns-in_err-survey-clause-asked
+unfolding ask_lent
+returns-in_err-survey-clause-asked c =
+    let said = survey_said c.args.parties c.index.result c.args.c.now c.index.ensures c.survey.ensures.asked in
+    asked_on _ c.ask_parties.ensures c.in_ok-ask_parties.was (asked_on _ c.ask.ensures c.in_ok-ask.was (asked_no _ said c.in_err-survey.was (search rules)))
 
-pub overflow_add-y : goal.overflow_add-y
-overflow_add-y c =
-    let counted = survey_counted c.survey.ensures.accepted c.in-Accepted-survey.is in
-    omega (arith, capacity_low _ _ counted.all (survey_valid c.args.parties c.index.result c.args.c.now c.survey.ensures.asked c.index.ensures c.in-Accepted-survey.is))
+pub overflow_add-layout : goal.overflow_add-layout
+overflow_add-layout c =
+    omega (arith, capacity_low _ _ c.in_ok-survey.ensures.accepted.all (survey_valid c.args.parties c.index.result c.args.c.now c.index.ensures c.survey.ensures.asked c.in_ok-survey.was))
 
 pub size_of-size-requires : goal.size_of-size-requires
 size_of-size-requires c =
-    let counted = survey_counted c.survey.ensures.accepted c.in-Accepted-survey.is in
-    let valid = survey_valid c.args.parties c.index.result c.args.c.now c.survey.ensures.asked c.index.ensures c.in-Accepted-survey.is in
-    (parties_low _ _ c.ask_party.ensures c.in-Accepted.is, omega (arith, valid.few, gates_are c.args.c.now), omega (arith, capacity_low _ _ counted.all valid))
+    let valid = survey_valid c.args.parties c.index.result c.args.c.now c.index.ensures c.survey.ensures.asked c.in_ok-survey.was in
+    (parties_low _ c.ask_parties.ensures c.in_ok-ask_parties.was, omega (arith, valid.few, gates_are c.args.c.now), omega (arith, capacity_low _ _ c.in_ok-survey.ensures.accepted.all valid))
 
-pub returns-in-Refused-ask_lists : goal.returns-in-Refused-ask_lists
-unfolding lent_of verdict_was
-returns-in-Refused-ask_lists c =
-    let counted = survey_counted c.survey.ensures.accepted c.in-Accepted-survey.is in
-    let passed = survey_passed c.args.parties c.index.result c.args.c.now c.survey.ensures.asked c.index.ensures c.in-Accepted-survey.is in
+pub returns-in_err-ask_lists-clause-asked : goal.returns-in_err-ask_lists-clause-asked
+unfolding ask_lent
+returns-in_err-ask_lists-clause-asked c =
+    let counted = c.in_ok-survey.ensures.accepted in
+    let said = survey_said c.args.parties c.index.result c.args.c.now c.index.ensures c.survey.ensures.asked in
     let layout = layout_is _ _ _ counted.all (gates_are c.args.c.now) refl in
-    record {
-      asked = call_then _ _ c.ask_party.ensures c.in-Accepted.is
-          (passed_first _ passed
-          (sym (ap verdict_was c.in-Refused-ask_lists.is) ∙ c.ask_lists.ensures
-          ∙ lists_counted _ _ _ counted.all c.args.prep.now c.args.inputs.now (length c.args.l.now) c.args.parties _ layout c.size_of-size.ensures))
-          ∙ sym (lent_split _ _);
-      accepted = tt;
-    }
+    let lists = c.ask_lists.ensures ∙ lists_counted _ _ _ counted.all c.args.prep.now c.args.inputs.now (length c.args.l.now) c.args.parties _ layout c.size_of-size.ensures in
+    asked_on _ c.ask_parties.ensures c.in_ok-ask_parties.was (asked_on _ c.ask.ensures c.in_ok-ask.was (asked_on _ said c.in_ok-survey.was (search rules ∙ sym (ap verdict_of c.in_err-ask_lists.was) ∙ lists)))
 
-pub returns-in-Refused-survey : goal.returns-in-Refused-survey
-unfolding lent_of verdict_was
-returns-in-Refused-survey c =
-    record { asked = call_then _ _ c.ask_party.ensures c.in-Accepted.is (refused_first _ (survey_refused c.args.parties c.index.result c.args.c.now c.survey.ensures.asked c.index.ensures c.in-Refused-survey.is)) ∙ sym (lent_split _ _); accepted = tt }
-
-pub returns-in-Accepted-ask_lists : goal.returns-in-Accepted-ask_lists
-unfolding lent_of verdict_was
-returns-in-Accepted-ask_lists c =
-    let counted = survey_counted c.survey.ensures.accepted c.in-Accepted-survey.is in
-    let passed = survey_passed c.args.parties c.index.result c.args.c.now c.survey.ensures.asked c.index.ensures c.in-Accepted-survey.is in
+pub returns : goal.returns
+unfolding ask_lent
+returns c =
+    let counted = c.in_ok-survey.ensures.accepted in
+    let said = survey_said c.args.parties c.index.result c.args.c.now c.index.ensures c.survey.ensures.asked in
     let layout = layout_is _ _ _ counted.all (gates_are c.args.c.now) refl in
-    record {
-      asked = call_then _ _ c.ask_party.ensures c.in-Accepted.is
-          (passed_first _ passed
-          (sym (ap verdict_was c.in-Accepted-ask_lists.is) ∙ c.ask_lists.ensures
-          ∙ lists_counted _ _ _ counted.all c.args.prep.now c.args.inputs.now (length c.args.l.now) c.args.parties _ layout c.size_of-size.ensures))
-          ∙ sym (lent_split _ _);
-      accepted = (layout, refl, λ h. site_is _ _ _ (counted.here (omega (arith, h))) h refl refl refl refl);
-    }
+    let lists = c.ask_lists.ensures ∙ lists_counted _ _ _ counted.all c.args.prep.now c.args.inputs.now (length c.args.l.now) c.args.parties _ layout c.size_of-size.ensures in
+    let told = lent_to _ _ _ _ _ (asked_on _ c.ask_parties.ensures c.in_ok-ask_parties.was (asked_on _ c.ask.ensures c.in_ok-ask.was (asked_on _ said c.in_ok-survey.was (asked_last lists c.in_ok-ask_lists.was)))) layout refl (λ h. site_is _ _ _ (counted.here (omega (arith, h))) h refl refl refl refl) in
+    record { asked = told.0; accepted = told.1 }

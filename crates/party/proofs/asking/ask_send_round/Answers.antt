@@ -1,25 +1,26 @@
--- `party::asking::ask_send_round` meets its contract: it asks 15, then 16 and 17, then 25 and 18.
+-- `party::asking::ask_send_round` meets its contract: as many coefficients are asked for as the entries that were unchecked when the gate was reached.
 -- Assumes nothing.
-use mathlib.Core.Path.{◌∙◌}
-use Rattle.circuit.specs.Code.{verdict_was}
-use Rattle.circuit.proofs.Loops.{then_assoc, call_then, refused_then}
+use borrow.Author.Rules.{rules}
+use Rattle.circuit.proofs.Verdicts.{asked}
 use Rattle.protocol.specs.Ask.{ask_send_round}
 use Rattle.party.proofs.asking.ask_send_round.Goals as goal
 
-pub returns-in-Refused : goal.returns-in-Refused
-unfolding verdict_was ask_send_round
-returns-in-Refused c =
-    refused_then _ _ c.ask_worked.ensures c.in-Refused.is
+pub returns-in_err-ask : goal.returns-in_err-ask
+unfolding ask_send_round
+returns-in_err-ask c =
+    rw (← c.requires.waiting) (search (rules, asked))
 
-pub returns-in-Refused-ask_coefficients : goal.returns-in-Refused-ask_coefficients
-unfolding verdict_was ask_send_round
-returns-in-Refused-ask_coefficients c =
-    call_then _ _ c.ask_worked.ensures c.in-Accepted.is
-    (refused_then _ _ (c.ask_coefficients.ensures ∙ rw c.requires.waiting) c.in-Refused-ask_coefficients.is ∙ then_assoc _ _ _)
+pub returns-in_err-ask_elements : goal.returns-in_err-ask_elements
+unfolding ask_send_round
+returns-in_err-ask_elements c =
+    rw (← c.requires.waiting) (search (rules, asked))
+
+pub returns-in_err-ask-2 : goal.returns-in_err-ask-2
+unfolding ask_send_round
+returns-in_err-ask-2 c =
+    rw (← c.requires.waiting) (search (rules, asked))
 
 pub returns : goal.returns
-unfolding verdict_was ask_send_round
+unfolding ask_send_round
 returns c =
-    call_then _ _ c.ask_worked.ensures c.in-Accepted.is
-    (call_then _ _ (c.ask_coefficients.ensures ∙ rw c.requires.waiting) c.in-Accepted-ask_coefficients.is
-    (c.ask_lengths.ensures ∙ rw c.shape_at.ensures) ∙ then_assoc _ _ _)
+    rw (← c.requires.waiting, ← c.shape_at.ensures) (search (rules, asked))

@@ -1,4 +1,4 @@
-use Prim.Native.Nat.{◌*◌, ◌-◌}
+use Prim.Native.Nat.{◌*◌}
 use lib.ListN.{get_or}
 use lib.Dec.{ltb}
 use Rattle.field.specs.Words.{size}
@@ -9,6 +9,3 @@ use Rattle.party.proofs.asking.ask_shares.Given as goal
 
 abbrev pub invariant-loop-i : goal.invariant-loop-i
 invariant-loop-i l = Asking (λ i. ask 20 (i * reveal_words) (ltb (get_or l.heard (i * reveal_words) 0) size)) l.parties l.i
-
-abbrev pub decreases-loop-i : goal.decreases-loop-i
-decreases-loop-i l = l.parties - l.i

@@ -38,17 +38,17 @@ pub release-requires : goal.release-requires
 release-requires c =
     (rw c.in-Second.is at c.requires.ready)
 
-pub returns-in-Stopped : goal.returns-in-Stopped
-returns-in-Stopped c =
-    concludes_stopped _ _ _ _ _ (judged _ _ _ _ _ c.requires c.marks_at-start.ensures c.judge-ruling.ensures) c.in-Stopped.is c.aborted_at.ensures
+pub returns-in-Err : goal.returns-in-Err
+returns-in-Err c =
+    concludes_stopped _ _ _ _ _ (judged _ _ _ _ _ c.requires c.marks_at-start.ensures c.judge-ruling.ensures) c.in-Err.is c.aborted_at.ensures
 
 pub returns-in-First : goal.returns-in-First
 returns-in-First c =
     let found = judged _ _ _ _ _ c.requires c.marks_at-start.ensures c.judge-ruling.ensures in
-    rw c.in-First.is (concludes_passed _ _ _ _ _ (rw c.in-First.is at found) c.in-Passed.is (rw c.in-First.is at c.requires.ready.occurs) c.sending_at.ensures (first_received ops _ _ _ _))
+    rw c.in-First.is (concludes_passed _ _ _ _ _ (rw c.in-First.is at found) c.in-Ok.is (rw c.in-First.is at c.requires.ready.occurs) c.sending_at.ensures (first_received ops _ _ _ _))
 
 pub returns-in-Second : goal.returns-in-Second
 unfolding received check_passed
 returns-in-Second c =
     let found = judged _ _ _ _ _ c.requires c.marks_at-start.ensures c.judge-ruling.ensures in
-    rw c.in-Second.is (concludes_passed _ _ _ _ _ (rw c.in-Second.is at found) c.in-Passed.is (rw c.in-Second.is at c.requires.ready.occurs) c.release.ensures.point c.release.ensures.scratch)
+    rw c.in-Second.is (concludes_passed _ _ _ _ _ (rw c.in-Second.is at found) c.in-Ok.is (rw c.in-Second.is at c.requires.ready.occurs) c.release.ensures.point c.release.ensures.scratch)

@@ -1,21 +1,15 @@
--- `tokens::numbers::any_named` meets its contract: the rows before j have no value, so the rows from j on decide.
+-- `tokens::numbers::any_named` meets its contract: the library's `any` of the table is the machine's test.
 -- Assumes nothing.
-use mathlib.Core.Path.{refl, sym, ◌∙◌}
-use Rattle.tokens.proofs.Naming.{any_next, any_here, any_nowhere}
+use Prim.Native.Nat.{◌%◌}
+use mathlib.Core.Path.{◌∙◌}
+use lib.Dec.{eqb}
+use Rattle.std.proofs.Common.{rules, tests}
+use Rattle.std.proofs.lemmas.Iterator.{YieldsList-from_slice}
+use Rattle.std.proofs.lemmas.Iterator.Search.{any_from_yields_List}
+use Rattle.tokens.proofs.Naming.{any_lem}
 use Rattle.tokens.proofs.numbers.any_named.Goals as goal
-
-pub loop-j-init : goal.loop-j-init
-loop-j-init c =
-    refl
-
-pub returns-then-table-j-eq1 : goal.returns-then-table-j-eq1
-returns-then-table-j-eq1 c =
-    sym (c.loop-j.invariant ∙ any_here _ _ c.loop-j-test.true c.if-table-j-eq1.true)
-
-pub loop-j-preserved : goal.loop-j-preserved
-loop-j-preserved c =
-    c.loop-j.invariant ∙ any_next _ _ c.loop-j-test.true c.if-table-j-eq1.false
 
 pub returns : goal.returns
 returns c =
-    sym (c.loop-j.invariant ∙ any_nowhere _ _ c.loop-j-test.false)
+    any_from_yields_List (λ entry. eqb (entry % 2) 1) _ _ _ c.any.ensures.ran (YieldsList-from_slice c.args.table.now cc) (λ x b q k. search (rules, tests))
+    ∙ any_lem c.args.table.now

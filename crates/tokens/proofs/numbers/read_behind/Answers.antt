@@ -1,16 +1,11 @@
 -- `tokens::numbers::read_behind` meets its contract: the bytes stand, and what is behind them is what the reader of digits tells.
 -- Assumes nothing.
-use borrow.Author.Rules.{rules}
-use Rattle.tokens.specs.Code.{BehindRead}
-use Rattle.tokens.proofs.Numerals.{granted}
-use Rattle.tokens.proofs.Behind.{behind_read}
+use mathlib.Core.Path.{refl}
+use Rattle.std.proofs.lemmas.Option.{IfSome_then}
+use Rattle.tokens.proofs.Wording.{stands_here}
 use Rattle.tokens.proofs.numbers.read_behind.Goals as goal
-
-pub returns-then-not-bytes_stand : goal.returns-then-not-bytes_stand
-unfolding BehindRead
-returns-then-not-bytes_stand c =
-    search rules
 
 pub returns : goal.returns
 returns c =
-    behind_read _ _ _ _ (granted c.bytes_stand.ensures c.if-not-bytes_stand.false-raw) c.read_digits.ensures
+    IfSome_then c.read_digits.result c.read_digits.ensures
+    (λ n d. record { standing = stands_here _ c.args.text.now c.args.from refl c.if-not-starts_with.ensures.value; digits = d })

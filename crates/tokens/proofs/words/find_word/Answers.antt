@@ -1,28 +1,23 @@
--- `tokens::words::find_word` meets its contract: the words before k do not serve, so the words from k on decide.
+-- `tokens::words::find_word` meets its contract: the words before this one do not serve, so this and those behind it decide.
 -- Assumes nothing.
-use mathlib.Core.Path.{refl, sym, ◌∙◌}
-use Rattle.tokens.specs.Code.{found_as}
-use Rattle.tokens.proofs.Wording.{is_next, is_here, is_nowhere}
+use mathlib.Core.Path.{sym, ◌∙◌}
+use Rattle.tokens.proofs.Wording.{same_told, left_no, right_no, is_next, is_here, is_nowhere}
+use Rattle.tokens.proofs.words.find_word.Goals.{else-eq-via-then-eq+else-may_stand, else-eq-via-else-eq}
 use Rattle.tokens.proofs.words.find_word.Goals as goal
 
-pub returns-then-head_is : goal.returns-then-head_is
-unfolding found_as
-returns-then-head_is c =
-    sym (c.loop-k.invariant
-    ∙ is_here _ _ _ c.loop-k.k c.head_at-h.result c.head_at-h.ensures
-    c.head_is.ensures c.if-head_is.true)
+pub returns-then-may_stand : goal.returns-then-may_stand
+returns-then-may_stand c =
+    sym (c.loop-h.invariant
+    ∙ is_here _ _ _ _ _ c.loop-h-test.true (same_told _ c.letters.ensures c.if-eq.ensures) (sym c.if-may_stand.ensures))
 
-pub loop-k-preserved : goal.loop-k-preserved
-loop-k-preserved c =
-    c.loop-k.invariant
-    ∙ is_next _ _ _ c.loop-k.k c.head_at-h.result c.head_at-h.ensures
-    c.head_is.ensures c.if-head_is.false
+pub loop-h-preserved : goal.loop-h-preserved
+loop-h-preserved c =
+    c.loop-h.invariant
+    ∙ is_next _ _ _ _ _ c.loop-h-test.true (elim c.else-eq.branch [
+      | else-eq-via-then-eq+else-may_stand w ↦ right_no _ (sym w.if-may_stand.ensures)
+      | else-eq-via-else-eq w ↦ left_no _ (same_told _ c.letters.ensures w.if-eq.ensures)
+    ])
 
 pub returns : goal.returns
-unfolding found_as
 returns c =
-    sym (c.loop-k.invariant ∙ is_nowhere _ _ _ c.loop-k.k c.loop-k-test.false)
-
-pub loop-k-init : goal.loop-k-init
-loop-k-init c =
-    refl
+    sym (c.loop-h.invariant ∙ is_nowhere _ _ _ _ c.loop-h-test.false)

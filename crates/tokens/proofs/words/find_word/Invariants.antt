@@ -1,13 +1,8 @@
-use Prim.Native.Nat.{◌-◌}
 use mathlib.Core.Path.{◌≡◌}
-use lib.ListN.{length, drop}
+use lib.ListN.{drop}
 use Rattle.forms.specs.Words.{heads}
 use Rattle.forms.specs.Machine.{word_is}
-use Rattle.tokens.specs.Code.{part}
 use Rattle.tokens.proofs.words.find_word.Given as goal
 
-abbrev pub invariant-loop-k : goal.invariant-loop-k
-invariant-loop-k l = word_is heads l.any l.outermost (part l.text l.from l.to) ≡ word_is (drop l.k heads) l.any l.outermost (part l.text l.from l.to)
-
-abbrev pub decreases-loop-k : goal.decreases-loop-k
-decreases-loop-k l = length heads - l.k
+abbrev pub invariant-loop-h : goal.invariant-loop-h
+invariant-loop-h l = word_is heads l.any l.outermost l.spelt ≡ word_is (drop l.h-index heads) l.any l.outermost l.spelt

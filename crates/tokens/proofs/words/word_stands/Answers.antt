@@ -1,47 +1,14 @@
--- `tokens::words::word_stands` meets its contract: each word with its space is its bytes.
+-- `tokens::words::word_stands` meets its contract: the letters stand there, and the space behind them.
 -- Assumes nothing.
+use Rattle.tokens.proofs.Wording.{stands_here, stands_told, stands_not}
 use Rattle.tokens.proofs.words.word_stands.Goals as goal
 
-pub returns-in-In : goal.returns-in-In
-returns-in-In c =
-    rw c.in-In.is c.bytes_stand.ensures
+pub returns-then-starts_with : goal.returns-then-starts_with
+returns-then-starts_with c =
+    let e = c.letters-w.ensures in
+    stands_told _ c.args.text.now c.args.from e _ (stands_here _ c.args.text.now c.args.from e c.if-starts_with.ensures.value) c.expect.ensures
 
-pub returns-in-Add : goal.returns-in-Add
-returns-in-Add c =
-    rw c.in-Add.is c.bytes_stand-in-Add.ensures
-
-pub returns-in-Sub : goal.returns-in-Sub
-returns-in-Sub c =
-    rw c.in-Sub.is c.bytes_stand-in-Sub.ensures
-
-pub returns-in-Plus : goal.returns-in-Plus
-returns-in-Plus c =
-    rw c.in-Plus.is c.bytes_stand-in-Plus.ensures
-
-pub returns-in-Times : goal.returns-in-Times
-returns-in-Times c =
-    rw c.in-Times.is c.bytes_stand-in-Times.ensures
-
-pub returns-in-Mul : goal.returns-in-Mul
-returns-in-Mul c =
-    rw c.in-Mul.is c.bytes_stand-in-Mul.ensures
-
-pub returns-in-Out : goal.returns-in-Out
-returns-in-Out c =
-    rw c.in-Out.is c.bytes_stand-in-Out.ensures
-
-pub returns-in-Line : goal.returns-in-Line
-returns-in-Line c =
-    rw c.in-Line.is c.bytes_stand-in-Line.ensures
-
-pub returns-in-Sq : goal.returns-in-Sq
-returns-in-Sq c =
-    rw c.in-Sq.is c.bytes_stand-in-Sq.ensures
-
-pub returns-in-Give : goal.returns-in-Give
-returns-in-Give c =
-    rw c.in-Give.is c.bytes_stand-in-Give.ensures
-
-pub returns-in-Over : goal.returns-in-Over
-returns-in-Over c =
-    rw c.in-Over.is c.bytes_stand-in-Over.ensures
+pub returns-else-starts_with : goal.returns-else-starts_with
+returns-else-starts_with c =
+    let e = c.letters-w.ensures in
+    stands_not _ c.args.text.now c.args.from e _ (stands_here _ c.args.text.now c.args.from e c.starts_with.ensures.value) c.if-starts_with.false
