@@ -2,5 +2,4 @@
 pub mod Names
 pub mod Order
 pub mod Lines
-pub mod Taking
 pub mod Passing

@@ -1,27 +1,25 @@
 // Reading a line of a request, and storing its list. An error is the writer's, where a complaint is printed; the lists then have what was stored before it.
-ghost use Rattle.std.specs.Prelude.{◌≤◌, length};
+ghost use Rattle.std.specs.Prelude.{◌+◌, ◌≤◌, length};
 
 use crate::bytes::all_bytes;
-use crate::naming::{CIRCUIT, INPUTS, NONCES, OUT, OUTPUTS, PREP, SCRATCH, WORDS, is_field};
+use crate::naming::{Field, field_name};
 use crate::reading::{complain, complain_numbers, shorter, take_line};
 use crate::request::{
-    CIRCUIT_ROOM, INPUTS_ROOM, NONCES_ROOM, PREP_ROOM, ROOM, Request, WORDS_ROOM, dropped,
+    CIRCUIT_ROOM, INPUTS_ROOM, NONCES_ROOM, PREP_ROOM, ROOM, Request, WORDS_ROOM, Wanted, dropped,
     moved_on, part, with_number, within,
 };
 use field::Word;
 use std::io;
 use std::io::Write;
-use text::Numbers;
 
-// May these numbers be what is wanted? A text has only bytes, and so have nonces.
-fn fitting(request: Request, list: &[Word]) -> bool {
-    if is_field(request.entry, request.wanted, b"text") {
-        return all_bytes(list);
+// Is what is wanted bytes? A text is, and so are nonces.
+fn wants_bytes(wanted: Wanted) -> bool {
+    match wanted {
+        Wanted::Field(entry, field) => {
+            field == Field::Nonces || field_name(entry, field) == b"text".as_slice()
+        }
+        _ => false,
     }
-    if request.wanted == NONCES {
-        return all_bytes(list);
-    }
-    true
 }
 
 // Reads the list that is wanted, which begins at a place of the line, into its room.
@@ -34,35 +32,23 @@ fn take_list<W: Write>(
     list: &mut [Word],
 ) -> io::Result<Request> {
     let start = shorter(from, line.len());
-    let read = text::read_numbers(&line[start..], list);
-    complain_numbers(to, number, read)?;
-    match read {
-        Numbers::Count(n) => {
+    match text::read_numbers(&line[start..], list) {
+        Ok(n) => {
             let count = part(n, list);
-            if !fitting(request, &list[..count]) {
+            if wants_bytes(request.wanted) && !all_bytes(&list[..count]) {
                 complain(to, number, b"a byte above 255")?;
                 return Ok(dropped(request));
             }
             Ok(moved_on(with_number(request, within(n) as u32)))
         }
-        _ => Ok(dropped(request)),
+        Err(fault) => {
+            complain_numbers(to, number, fault)?;
+            Ok(dropped(request))
+        }
     }
 }
 
-// Where the room of a list that is only read begins.
-fn place_of(wanted: usize) -> usize
-    ensures { result ≤ 262144 }
-{
-    match wanted {
-        CIRCUIT => CIRCUIT_ROOM,
-        PREP => PREP_ROOM,
-        INPUTS => INPUTS_ROOM,
-        NONCES => NONCES_ROOM,
-        _ => WORDS_ROOM,
-    }
-}
-
-// Reads a list that an entry only reads.
+// Reads a list that an entry only reads into its room, which begins at a place.
 fn take_given<W: Write>(
     to: &mut W,
     number: u64,
@@ -70,11 +56,10 @@ fn take_given<W: Write>(
     from: usize,
     request: Request,
     given: &mut [Word],
+    place: usize,
 ) -> io::Result<Request>
-    requires { 327680 ≤ length given.old }
+    requires { place + 65536 ≤ length given.old }
 {
-    let wanted = request.wanted;
-    let place = place_of(wanted);
     let end = place + ROOM;
     take_list(to, number, line, from, request, &mut given[place..end])
 }
@@ -94,16 +79,18 @@ pub fn read_line<W: Write>(
 {
     let step = take_line(to, number, line, request)?;
     let next = step.request;
-    if !step.listed {
+    let (Some(from), Wanted::Field(_, field)) = (step.list, next.wanted) else {
         return Ok(next);
-    }
-    let from = step.from;
-    let wanted = next.wanted;
-    match wanted {
-        CIRCUIT | PREP | INPUTS | WORDS | NONCES => take_given(to, number, line, from, next, given),
-        SCRATCH => take_list(to, number, line, from, next, scratch),
-        OUT => take_list(to, number, line, from, next, out),
-        OUTPUTS => take_list(to, number, line, from, next, outputs),
+    };
+    match field {
+        Field::Circuit => take_given(to, number, line, from, next, given, CIRCUIT_ROOM),
+        Field::Prep => take_given(to, number, line, from, next, given, PREP_ROOM),
+        Field::Inputs => take_given(to, number, line, from, next, given, INPUTS_ROOM),
+        Field::Words => take_given(to, number, line, from, next, given, WORDS_ROOM),
+        Field::Nonces => take_given(to, number, line, from, next, given, NONCES_ROOM),
+        Field::Scratch => take_list(to, number, line, from, next, scratch),
+        Field::Out => take_list(to, number, line, from, next, out),
+        Field::Outputs => take_list(to, number, line, from, next, outputs),
         _ => Ok(next),
     }
 }
