@@ -15,5 +15,5 @@ pub digest : List ℕ → List ℕ
 digest words = sha256 (bytes words)
 
 -- whether two lists are the same
-abbrev pub same : List ℕ → List ℕ → Bool
-same = bytes_eq
+unfoldable pub same : List ℕ → List ℕ → Bool
+same x y = bytes_eq x y

@@ -58,6 +58,7 @@ pub fn hash_into(message: &[u32], out: &mut [u32])
 }
 
 // Whether a list is the hash of a message.
+#[tactic(auto, unfolding(crate::specs::Digest::same))]
 pub fn matches(message: &[u32], mark: &[u32]) -> bool
     requires { length message.now ≤ 13 }
     ensures { result ≡ same (digest message.now) mark.now }
