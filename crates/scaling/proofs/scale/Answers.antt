@@ -3,7 +3,6 @@
 use Prim.Native.Nat.{ℕ, ◌+◌, ◌/◌}
 use mathlib.Core.Path.{◌≡◌, ap, ◌∙◌}
 use native.Mathlib.Omega.{arith}
-use lib.ListN.{length-set}
 use Rattle.field.specs.Prime.{mul}
 use Rattle.scaling.proofs.Scaling.{scaling_starts, scaling_again, scaling_ends}
 use Rattle.scaling.proofs.scale.Goals as goal
