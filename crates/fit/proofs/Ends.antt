@@ -1,29 +1,19 @@
 -- What the code finds of one gate, as the definitions have it.
 -- Assumes nothing.
-use Prim.Native.Nat.{ℕ, ◌+◌, ◌*◌, ◌-◌, ◌<◌, ◌≤◌}
+use Prim.Native.Nat.{ℕ, ◌+◌, ◌*◌, ◌<◌, ◌≤◌}
 use mathlib.Core.Path.{◌≡◌, sym, ◌∙◌}
 use mathlib.Core.List.{List}
 use native.Mathlib.Nat.{mul-le-mul}
 use native.Mathlib.Omega.{arith}
 use lib.ListN.{length, get_or, get_or-eq_default}
-use borrow.Author.Tests.{lt-ltb, le-ltb}
 use Rattle.field.specs.Words.{size, largest}
 use Rattle.algebra.specs.Element.{Is}
 use Rattle.circuit.specs.Gate.{Kind, gate}
 use Rattle.circuit.specs.Kind.{is_in}
 use Rattle.circuit.specs.Count.{count}
-use Rattle.ranges.specs.Interval.{Interval, interval, interval_size, interval_at, Reach, Stays, Leaves, up_to, kind_reach, range_at, reach}
+use Rattle.ranges.specs.Interval.{Interval, interval, interval_size, interval_at, Reach, kind_reach, range_at, reach}
 use Rattle.ranges.specs.Move.{Of, change_at, capped, kind_move, gate_move}
 use Rattle.fit.specs.Code.{Fair, FairReach}
-
-module _ (lowest highest : ℕ) where
-  pub up_stays : lowest ≤ highest → highest < size → (Stays lowest highest ≡ up_to size lowest highest) × Fair (interval lowest highest)
-  unfolding up_to
-  up_stays o h = (rw (lt-ltb highest size h), record { ordered = o; low = h })
-
-  pub up_leaves : size ≤ highest → Leaves ≡ up_to size lowest highest
-  unfolding up_to
-  up_leaves h = rw (le-ltb highest size h)
 
 -- a product of words fits 64 bits
 pub product_low : {x y : ℕ} → x ≤ largest → y ≤ largest → x * y ≤ largest * largest
@@ -32,14 +22,6 @@ product_low h g = mul-le-mul h g
 -- a product of elements, of which two fit
 pub elements_low : {x y : ℕ} → x < size → y < size → x * y ≤ size * size
 elements_low h g = mul-le-mul {n₂ = size} {m₂ = size} (omega arith) (omega arith)
-
-pub capped_low : {m : ℕ} → m < size → m ≡ capped size m
-unfolding capped
-capped_low {m} h = rw (lt-ltb m size h)
-
-pub capped_high : {m : ℕ} → size ≤ m → size - 1 ≡ capped size m
-unfolding capped
-capped_high {m} h = rw (le-ltb m size h)
 
 -- past the end of the ranges stands nothing
 pub range_none : (ranges : List ℕ) (k : ℕ) → length ranges ≤ interval_size * k → interval 0 0 ≡ interval_at ranges k

@@ -1,11 +1,11 @@
 -- Lists that hold others, number by number: one number more, and what is held at the end.
 -- Assumes nothing.
-use Prim.Native.Nat.{ℕ, ◌+◌, ◌*◌, ◌-◌, ◌<◌, ◌≤◌}
+use Prim.Native.Nat.{ℕ, ◌+◌, ◌*◌, ◌<◌, ◌≤◌}
 use mathlib.Core.Path.{◌≡◌, sym, ap₂, ◌∙◌}
 use mathlib.Core.List.{List, [], ◌∷◌, ◌++◌, append_assoc}
 use native.Mathlib.Omega.{arith}
 use lib.Dec.{ltb, eqb}
-use lib.ListN.{length, get_or, set, take, drop, replicate, length-set, length-append, length-replicate, get_or-replicate, get_or-append, get_or-eq_default}
+use lib.ListN.{length, get_or, set, take, replicate, length-set, length-append, length-replicate, get_or-replicate, get_or-append, get_or-eq_default}
 use lib.Seq.{get_or_at, get_or-set_same, get_or-set_other, get_or-take, length-take-le, ext_get_or}
 use borrow.Author.Tests.{ltb-true, ltb-false, eqb-true, eqb-false}
 use Rattle.circuit.proofs.Tests.{by_cases}
@@ -45,12 +45,10 @@ module _ {room : ℕ} {list l : List ℕ} (t : Held room list l) where
   held_interval x = ap₂ interval (t.at (interval_size * x)) (t.at (interval_size * x + 1))
 
   -- the front of the list
-  pub held_front : (k : ℕ) → length l ≡ k → k ≤ room → take (k - 0) (drop 0 list) ≡ l
+  pub held_front : (k : ℕ) → length l ≡ k → k ≤ room → take k list ≡ l
   held_front k e h =
-      let same : k - 0 ≡ k = omega arith in
-      rw same
-      (ext_get_or 0 (take k list) l (length-take-le k list (rw t.long h) ∙ sym e)
-      (λ i g. get_or-take k list i 0 (omega (arith, length-take-le k list (rw t.long h))) ∙ t.at i))
+      ext_get_or 0 (take k list) l (length-take-le k list (rw t.long h) ∙ sym e)
+      (λ i g. get_or-take k list i 0 (omega (arith, length-take-le k list (rw t.long h))) ∙ t.at i)
 
 -- two numbers more
 pub held_pair : {room : ℕ} {list l : List ℕ} (a b n : ℕ) → Held room list l → length l ≡ n → n + 1 < room → Held room (set (set list n a) (n + 1) b) (l ++ (a ∷ b ∷ []))

@@ -1,131 +1,87 @@
 -- What the questions of the tool come to, as the code asks them.
 -- Assumes nothing.
-use Prim.Native.Nat.{ℕ, ◌+◌, ◌*◌, ◌/◌, ◌<◌, ◌≤◌}
-use mathlib.Core.Path.{◌≡◌, refl, sym, ap, ◌∙◌}
-use mathlib.Core.Bool.{Bool, true, false, cond, not, ◌&&◌}
+use Prim.Native.Nat.{ℕ, ◌+◌, ◌*◌, ◌<◌, ◌≤◌}
+use mathlib.Core.Path.{◌≡◌, refl, sym, ◌∙◌}
+use mathlib.Core.Bool.{Bool, true, cond, not}
 use mathlib.Core.List.{List}
-use native.Mathlib.Omega.{arith}
-use lib.Dec.{ltb, leb, eqb}
+use lib.Dec.{eqb}
 use lib.ListN.{length}
-use borrow.Author.Tests.{lt-ltb, le-ltb, le-leb, ltb-true}
+use Rattle.std.specs.Prelude.{Result, Ok, Err}
+use Rattle.std.proofs.lemmas.Bool.Decides.{nat_tests}
 use Rattle.field.specs.Words.{size}
 use Rattle.circuit.specs.Verdict.{Verdict, Accepted, Refused, ask, ◌then◌, each}
-use Rattle.circuit.specs.Gate.{gate_size, Gate, entry, gate, gates}
-use Rattle.circuit.specs.Kind.{Class, Owned, is_class, shape, is_in, is_out}
-use Rattle.circuit.specs.Count.{total, count, in_count, out_count}
+use Rattle.circuit.specs.Question.{number_of, verdict_of}
+use Rattle.circuit.specs.declared.questions.Refusal.{Refusal}
+use Rattle.circuit.specs.Gate.{Gate, entry, gate, gates}
+use Rattle.circuit.specs.Kind.{is_in, is_out, has_value}
+use Rattle.circuit.specs.Count.{total, count, in_count}
+use Rattle.circuit.proofs.Counts.{bit_le, count_more, count_le}
+use Rattle.circuit.proofs.Verdicts.{each_more, each_refused, asked_on, asked_no, asked_last, then_right}
+use Rattle.circuit.proofs.Loops.{then_assoc}
+use Rattle.circuit.proofs.Valid.{valid, is_kind_lem, gate_accepted}
 use Rattle.circuit.specs.Accept.{most_gates, is_kind, ask_circuit}
 use Rattle.circuit.specs.Valid.{Valid}
-use Rattle.circuit.specs.Code.{verdict_was}
-use Rattle.circuit.specs.declared.Verdict as D
-use Rattle.circuit.proofs.Tests.{by_cases}
-use Rattle.circuit.proofs.Counts.{bit_le, count_more, count_le}
-use Rattle.circuit.proofs.Valid.{valid, is_kind_lem, gate_accepted}
-use Rattle.circuit.proofs.Verdicts.{said_yes, said_no, ask_yes, ask_no, then_right}
-use Rattle.circuit.proofs.Loops.{then_assoc, call_then, refused_then}
 use Rattle.protocol.specs.Ask.{ask_parties}
-use Rattle.ranges.specs.Interval.{Interval, interval, interval_size, interval_at}
-use Rattle.ranges.specs.Move.{Change}
-use Rattle.ranges.specs.Entry.{query_of, range_ok, ask_ranges, is_in_line, ask_change, move_room_ok, ask_rooms, ask_fit}
+use Rattle.ranges.specs.Interval.{Interval, interval_size, interval_at}
+use Rattle.ranges.specs.Entry.{range_ok, ask_ranges}
+use Rattle.fit.proofs.Walks.{out_said, gates_there}
 
--- of a range in order the highest end tells whether both are elements
-pub range_said : {lowest highest : ℕ} → lowest ≤ highest → ltb highest size ≡ range_ok size (interval lowest highest)
-unfolding range_ok
-range_said {lowest} {highest} o =
-    by_cases (ltb highest size)
-    (λ e. rw (le-leb lowest highest o, e, lt-ltb lowest size (omega (arith, ltb-true highest size e))))
-    (λ e. rw (le-leb lowest highest o, e) (by_cases (ltb lowest size) (λ d. rw d) (λ d. rw d)))
+-- the in gates and the outputs before one are counted
+pub tally_none : (has : Gate → Bool) (c : List ℕ) → count has c 0 ≡ 0
+unfolding count total
+tally_none has c = refl
 
--- one range of a list is asked
-module _ (l : List ℕ) (k : ℕ) {i : Interval} {b : Bool} (said : b ≡ range_ok size i) (at : i ≡ interval_at l k) where
-  pub range_yes : not b ≡ false → ask 26 0 (range_ok size (interval_at l k)) ≡ Accepted
-  range_yes h = ask_yes 26 0 (rw (← at) (said_yes said h))
+pub out_counts : (c : List ℕ) (j : ℕ) {r : Bool} → r ≡ has_value (gate c j) → ◌≡◌ {A = ℕ} (cond (not r) 1 0) (cond (is_out (gate c j)) 1 0)
+out_counts c j e = rw (out_said c j e refl)
 
-  pub range_no : not b ≡ true → ask 26 0 (range_ok size (interval_at l k)) ≡ Refused 26 0
-  range_no h = ask_no 26 0 (rw (← at) (said_no said h))
+pub ins_few : (c : List ℕ) → in_count c ≤ gates c
+unfolding in_count
+ins_few c = count_le is_in c (gates c)
 
--- is there such an in gate?
-module _ (c : List ℕ) (line : ℕ) where
-  pub in_line : line < length c / gate_size → {b : Bool} {found : Class} → b ≡ is_class Owned found → found ≡ (shape (gate c line)).class → b ≡ is_in_line c line
-  unfolding is_in_line gates
-  in_line h e at = rw (lt-ltb line (length c / gate_size) h) (e ∙ ap (is_class Owned) at)
+pub ruleset tallies = (gates_there, tally_none, count_more, bit_le, count_le, out_counts)
 
-  pub no_line : length c / gate_size ≤ line → false ≡ is_in_line c line
-  unfolding is_in_line gates
-  no_line h = rw (le-ltb line (length c / gate_size) h)
+pub ruleset lines = (gates_there, nat_tests)
 
--- one gate more is counted of those that have a property
-module _ (has : Gate → Bool) (c : List ℕ) where
-  pub tally_none : 0 ≡ count has c 0
-  unfolding count total
-  tally_none = refl
+-- the ranges before k are asked and passed
+abbrev pub asks_range : List ℕ → ℕ → Verdict
+asks_range ranges k = ask 26 0 (range_ok size (interval_at ranges k))
 
-  pub tally_more : (j : ℕ) {k m : ℕ} → k ≡ count has c j → m ≡ cond (has (gate c j)) 1 0 → k + m ≡ count has c (j + 1)
-  tally_more j e f = omega (arith, count_more has c j)
+module _ {A : Type 0} (ranges : List ℕ) (k : ℕ) {i : Interval} {b : Bool} (said : b ≡ range_ok size i) (at : i ≡ interval_at ranges k) (r : Result A Refusal)
+    (e : verdict_of r ≡ ask 26 0 b) (before : each k (asks_range ranges) ≡ Accepted) where
+  here : verdict_of r ≡ asks_range ranges k
+  here = e ∙ rw (said, at)
 
-  pub tally_low : (j : ℕ) {k m : ℕ} (b : Bool) → k ≡ count has c j → m ≡ cond b 1 0 → j < most_gates → k + m ≤ most_gates
-  tally_low j b e f h = omega (arith, count_le has c j, bit_le b f)
+  pub range_passed : {a : A} → r ≡ Ok a → each (k + 1) (asks_range ranges) ≡ Accepted
+  range_passed h = each_more (asks_range ranges) k before (sym here ∙ rw h)
 
-  pub tally_all : (j to : ℕ) {k : ℕ} → k ≡ count has c j → j ≤ to → to ≤ j → k ≡ count has c to
-  tally_all j to e h g = let same : to ≡ j = omega arith in rw same e
+  pub range_refused : {x : Refusal} {u : Verdict} (n : ℕ) → k < n → r ≡ Err x → u ≡ Refused (number_of x.question) x.index → u ≡ each n (asks_range ranges)
+  range_refused n h q e = e ∙ sym (each_refused (asks_range ranges) k n h before (sym here ∙ rw q))
+
+module _ (c ranges : List ℕ) {ins : ℕ} (counted : ins ≡ in_count c) where
+  -- the ranges are counted, and then each is asked
+  pub ranges_on : {A : Type 0} {r : Result A Refusal} {a : A} {u : Verdict} → verdict_of r ≡ ask 26 0 (eqb (length ranges) (interval_size * ins)) → r ≡ Ok a
+      → u ≡ each ins (asks_range ranges) → u ≡ ask_ranges size c ranges
+  unfolding ask_ranges
+  ranges_on h q e = rw (← counted) (asked_on _ h q e)
+
+pub ruleset ranges_asked = (ins_few, asked_on, asked_no, asked_last)
 
 -- all questions in order
-module _ (n : ℕ) (c ranges : List ℕ) (change : Change) (room places : ℕ) where
-  abbrev setting : Verdict
-  setting = ask_parties n then ask_circuit n size c
+module _ (n : ℕ) (c : List ℕ) {A : Type 0} {r : Result A Refusal} where
+  setting_valid : {a : A} → verdict_of r ≡ (ask_parties n then ask_circuit n size c) → r ≡ Ok a → Valid n size c
+  setting_valid e t = valid n size c (then_right (ask_parties n) (ask_circuit n size c) (sym (asked_last e t)))
 
-  abbrev rooms : Verdict
-  rooms = ask_rooms c change room places
+  pub setting_few : {a : A} → verdict_of r ≡ (ask_parties n then ask_circuit n size c) → r ≡ Ok a → gates c ≤ most_gates
+  setting_few e t = (setting_valid e t).few
 
-  abbrev changes : Verdict
-  changes = ask_change c change then rooms
+  pub setting_kinds : {a : A} → verdict_of r ≡ (ask_parties n then ask_circuit n size c) → r ≡ Ok a → (j : ℕ) → j < gates c → is_kind (entry c j 0) ≡ true
+  setting_kinds e t j h = is_kind_lem n size c j (gate_accepted n size c j ((setting_valid e t).each j h))
 
-  asks : (setting then ask_ranges size c ranges then changes) ≡ ask_fit size (query_of n c ranges change) room places
-  unfolding ask_fit
-  asks = then_assoc (ask_parties n) (ask_circuit n size c) (ask_ranges size c ranges then changes)
+  module _ {u : Verdict} (rest : Verdict) (e : verdict_of r ≡ (ask_parties n then ask_circuit n size c)) where
+    pub setting_on : {a : A} → r ≡ Ok a → u ≡ rest → u ≡ (ask_parties n then ask_circuit n size c then rest)
+    setting_on t h = asked_on rest e t h ∙ then_assoc (ask_parties n) (ask_circuit n size c) rest
 
-  module _ {r : D.Verdict} (e : verdict_was r ≡ setting) where
-    pub refused_setting : {number index : ℕ} → r ≡ D.Verdict.Refused number index
-        → Refused number index ≡ ask_fit size (query_of n c ranges change) room places
-    refused_setting t = refused_then setting _ e t ∙ asks
+    pub setting_no : {x : Refusal} → r ≡ Err x → u ≡ Refused (number_of x.question) x.index → u ≡ (ask_parties n then ask_circuit n size c then rest)
+    setting_no t h = asked_no rest e t h ∙ then_assoc (ask_parties n) (ask_circuit n size c) rest
 
-    module _ (t : r ≡ D.Verdict.Accepted) where
-      accepted : Valid n size c
-      unfolding verdict_was
-      accepted = valid n size c (then_right (ask_parties n) (ask_circuit n size c) (sym e ∙ ap verdict_was t))
-
-      pub setting_fits : (gate_size * (length c / gate_size) ≤ length c) × (length c / gate_size ≤ most_gates)
-      unfolding gates
-      setting_fits = (omega arith, accepted.few)
-
-      pub setting_kinds : (j : ℕ) → j < length c / gate_size → is_kind (entry c j 0) ≡ true
-      unfolding gates
-      setting_kinds j h = is_kind_lem n size c j (gate_accepted n size c j (accepted.each j h))
-
-      module _ {ins : ℕ} (s : ins ≡ count is_in c (length c / gate_size)) where
-        pub setting_ins : ins ≤ most_gates
-        unfolding gates
-        setting_ins = omega (arith, s, count_le is_in c (length c / gate_size), accepted.few)
-
-        ranges_are : (ask 26 0 (eqb (length ranges) (interval_size * ins)) then each ins (λ k. ask 26 0 (range_ok size (interval_at ranges k)))) ≡ ask_ranges size c ranges
-        unfolding ask_ranges in_count gates
-        ranges_are = rw (s)
-
-        module _ {r₂ : D.Verdict}
-            (e₂ : verdict_was r₂ ≡ (ask 26 0 (eqb (length ranges) (interval_size * ins)) then each ins (λ k. ask 26 0 (range_ok size (interval_at ranges k))))) where
-          pub refused_ranges : {number index : ℕ} → r₂ ≡ D.Verdict.Refused number index
-              → Refused number index ≡ ask_fit size (query_of n c ranges change) room places
-          refused_ranges t₂ = call_then setting _ e t (refused_then (ask_ranges size c ranges) _ (e₂ ∙ ranges_are) t₂) ∙ asks
-
-          module _ (t₂ : r₂ ≡ D.Verdict.Accepted) {r₃ : D.Verdict} (e₃ : verdict_was r₃ ≡ ask_change c change) where
-            pub refused_change : {number index : ℕ} → r₃ ≡ D.Verdict.Refused number index
-                → Refused number index ≡ ask_fit size (query_of n c ranges change) room places
-            refused_change t₃ =
-                call_then setting _ e t (call_then (ask_ranges size c ranges) _ (e₂ ∙ ranges_are) t₂ (refused_then (ask_change c change) _ e₃ t₃)) ∙ asks
-
-            pub asked_rooms : r₃ ≡ D.Verdict.Accepted → {v : Verdict}
-                → v ≡ ask 18 0 (leb (interval_size * (length c / gate_size)) room && move_room_ok change (count is_out c (length c / gate_size)) places)
-                → v ≡ ask_fit size (query_of n c ranges change) room places
-            unfolding ask_rooms out_count gates
-            asked_rooms t₃ e₄ =
-                call_then setting _ e t (call_then (ask_ranges size c ranges) _ (e₂ ∙ ranges_are) t₂
-                (call_then (ask_change c change) _ e₃ t₃ e₄)) ∙ asks
+pub ruleset fit_asked = (setting_few, setting_kinds, setting_on, asked_on, asked_no)

@@ -1,6 +1,6 @@
 -- What the entry answers and writes: on a refusal, where a gate leaves, and where all fits.
 -- Assumes nothing.
-use Prim.Native.Nat.{ℕ, ◌*◌, ◌-◌, ◌<◌, ◌≤◌}
+use Prim.Native.Nat.{ℕ, ◌*◌, ◌<◌, ◌≤◌}
 use mathlib.Core.Path.{◌≡◌, sym, ◌∙◌}
 use mathlib.Core.Bool.{true, ◌&&◌}
 use mathlib.Core.List.{List, ◌++◌}
@@ -75,7 +75,7 @@ fair_range r e =
 
 -- the moves of the scores, as many as there are
 module _ (c ranges scores : List ℕ) (few : gates c ≤ most_gates) (long : length scores ≡ move_room) where
-  pub kept_few : (change : M.Change) (moves : List ℕ) (outs : ℕ) → Kept change c ranges moves scores (gates c) outs → outs ≤ length scores
+  kept_few : (change : M.Change) (moves : List ℕ) (outs : ℕ) → Kept change c ranges moves scores (gates c) outs → outs ≤ length scores
   kept_few M.Nothing moves outs e = omega arith
   kept_few (M.Of line amount) moves outs t =
       omega (arith, t.counted, listed_length (score_moves_listed size c ranges (M.Of line amount)) (gates c), count_le is_out c (gates c))
@@ -87,9 +87,9 @@ module _ (c ranges scores : List ℕ) (few : gates c ≤ most_gates) (long : len
   kept_room (M.Of line amount) moves outs places t h = rw t.counted (leb-true (count is_out c (gates c)) places h)
 
   kept_front : (change : M.Change) (moves : List ℕ) (outs : ℕ) → Kept change c ranges moves scores (gates c) outs
-      → take (outs - 0) (drop 0 scores) ≡ moves_told size c ranges change
+      → take outs scores ≡ moves_told size c ranges change
   unfolding moves_told
-  kept_front M.Nothing moves outs e = let none : outs - 0 ≡ 0 = omega arith in rw none
+  kept_front M.Nothing moves outs e = rw e
   kept_front (M.Of line amount) moves outs t =
       held_front t.listed outs (listed_length (score_moves_listed size c ranges (M.Of line amount)) (gates c) ∙ sym t.counted) (omega (arith, kept_few (M.Of line amount) moves outs t))
 
@@ -168,23 +168,25 @@ module _ (n : ℕ) (c ranges : List ℕ) (change : M.Change) (is ms : List ℕ) 
     leaves_told f = (rw (found_is, sym f), (rw (found_is, sym f), rw (found_is, sym f)))
 
     -- the fronts of the tool's own lists are written
-    module _ {ends : List ℕ} (scores moves : List ℕ) (outs : ℕ) (f : E.Fits ≡ finding size c ranges (gates c))
+    module _ {ends : List ℕ} (scores moves : List ℕ) (outs own : ℕ) (counted : own ≡ gates c) (f : E.Fits ≡ finding size c ranges (gates c))
         (w : Held interval_room ends (intervals size c ranges (gates c)) × Kept change c ranges moves scores (gates c) outs × (length scores ≡ move_room)) where
-      ends_front : take (interval_size * gates c - 0) (drop 0 ends) ≡ intervals size c ranges (gates c)
-      ends_front = held_front w.0 (interval_size * gates c) (intervals_length size c ranges (gates c)) (omega (arith, told_few))
+      ends_front : take (interval_size * own) ends ≡ intervals size c ranges (gates c)
+      ends_front = rw counted (held_front w.0 (interval_size * gates c) (intervals_length size c ranges (gates c)) (omega (arith, told_few)))
 
-      pub front_fits : length (take (interval_size * gates c - 0) (drop 0 ends)) ≤ length is
+      pub ends_long : interval_size * own ≤ length ends
+      ends_long = omega (arith, told_few, w.0.long)
+
+      pub front_fits : length (take (interval_size * own) ends) ≤ length is
       front_fits = rw ends_front (omega (arith, intervals_length size c ranges (gates c), told_room))
 
-      pub scores_fit : length (take (outs - 0) (drop 0 scores)) ≤ length ms
-      scores_fit =
-          let same : outs - 0 ≡ outs = omega arith in
-          rw (same, length-take-le outs scores (kept_few c ranges scores told_few w.2 change moves outs w.1))
-          (kept_room c ranges scores told_few w.2 change moves outs (length ms) w.1 told_places)
+      pub scores_long : outs ≤ length scores
+      scores_long = kept_few c ranges scores told_few w.2 change moves outs w.1
 
-      pub fits_told : {is' ms' : List ℕ}
-          → is' ≡ take (interval_size * gates c - 0) (drop 0 ends) ++ drop (length (take (interval_size * gates c - 0) (drop 0 ends))) is
-          → ms' ≡ take (outs - 0) (drop 0 scores) ++ drop (length (take (outs - 0) (drop 0 scores))) ms
+      pub scores_fit : length (take outs scores) ≤ length ms
+      scores_fit = rw (length-take-le outs scores scores_long) (kept_room c ranges scores told_few w.2 change moves outs (length ms) w.1 told_places)
+
+      pub fits_told : {is' ms' : List ℕ} → is' ≡ take (interval_size * own) ends ++ drop (length (take (interval_size * own) ends)) is
+          → ms' ≡ take outs scores ++ drop (length (take outs scores)) ms
           → Told n c ranges change is ms E.Fits is' ms'
       unfolding fit_intervals fit_moves overwrite
       fits_told ei em =

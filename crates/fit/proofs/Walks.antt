@@ -45,6 +45,10 @@ pub gates_within : (c : List ℕ) (j : ℕ) → gate_size * j + gate_size ≤ le
 unfolding gates
 gates_within c j h = omega arith
 
+pub gates_there : (c : List ℕ) → gates c * gate_size ≤ length c
+unfolding gates
+gates_there c = omega arith
+
 -- one gate --------------------------------------------------------------------------------------------------------------
 
 module _ (c : List ℕ) (line amount : ℕ) (ends : List ℕ) (j : ℕ) (some : j < gates c) (few : j < most_gates) (tame : Tame c j) {m : ℕ} (before : List ℕ)

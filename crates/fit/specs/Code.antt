@@ -1,39 +1,35 @@
 -- What the code's types stand for, and what its lists hold.
 -- Assumes nothing.
-use Rattle.std.specs.Prelude.{ℕ, ◌+◌, ◌*◌, ◌<◌, ◌≤◌, ◌≡◌, List, length, get_or, true}
+use Rattle.std.specs.Prelude.{ℕ, ◌+◌, ◌*◌, ◌<◌, ◌≤◌, ◌≡◌, List, length, get_or, true, Option, None, Some, Result, Ok, Err}
 use Rattle.field.specs.Words.{size}
 use Rattle.circuit.specs.Gate.{gate_size, entry, gate, gates}
 use Rattle.circuit.specs.Kind.{is_out}
 use Rattle.circuit.specs.Count.{count}
 use Rattle.circuit.specs.Accept.{most_gates, is_kind}
+use Rattle.circuit.specs.Question.{number_of}
+use Rattle.circuit.specs.declared.questions.Refusal.{Refusal}
 use Rattle.ranges.specs.Interval as I
 use Rattle.ranges.specs.Move as M
 use Rattle.ranges.specs.Entry as E
 use Rattle.fit.specs.declared.Interval.{Interval}
-use Rattle.fit.specs.declared.Reach.{Reach}
-use Rattle.fit.specs.declared.Reach.TheVariants.{Stays, Leaves}
 use Rattle.fit.specs.declared.Change.{Change}
-use Rattle.fit.specs.declared.Change.TheVariants.{Nothing, Of}
-use Rattle.fit.specs.declared.Answer.{Answer}
-use Rattle.fit.specs.declared.Answer.TheVariants as A
-use Rattle.fit.specs.declared.Found.{Found}
-use Rattle.fit.specs.declared.Found.TheVariants as F
 
-unfoldable pub answer_of : Answer → E.Answer
-answer_of (A.Refusal number index) = E.Refusal number index
-answer_of (A.Leaves gate) = E.Leaves gate
-answer_of A.Fits = E.Fits
+-- a refusal, the gate that leaves, or that every gate fits
+unfoldable pub answer_of : Result (Option ℕ) Refusal → E.Answer
+answer_of (Err r) = E.Refusal (number_of r.question) r.index
+answer_of (Ok (Some gate)) = E.Leaves gate
+answer_of (Ok None) = E.Fits
 
-abbrev pub change_of : Change → M.Change
-change_of Nothing = M.Nothing
-change_of (Of gate amount) = M.Of gate amount
+abbrev pub change_of : Option Change → M.Change
+change_of None = M.Nothing
+change_of (Some change) = M.Of change.gate change.amount
 
 abbrev pub interval_of : Interval → I.Interval
 interval_of i = I.interval i.lowest i.highest
 
-abbrev pub reach_of : Reach → I.Reach
-reach_of (Stays lowest highest) = I.Stays lowest highest
-reach_of Leaves = I.Leaves
+abbrev pub reach_of : Option Interval → I.Reach
+reach_of (Some i) = I.Stays i.lowest i.highest
+reach_of None = I.Leaves
 
 -- ends in order, and elements
 pub record Fair (i : I.Interval) : Type 0 where
@@ -103,12 +99,12 @@ pub record Stepped (c : List ℕ) (change : M.Change) (ends : List ℕ) (j : ℕ
       → Kept change c ranges moves' scores' (j + 1) outs'
 
 -- what the walk finds: the gate that leaves; or that none does, and how many scores have a move
-unfoldable pub found_of : Found → E.Answer
-found_of (F.Leaves gate) = E.Leaves gate
-found_of (F.Fits outs) = E.Fits
+unfoldable pub found_of : Result ℕ ℕ → E.Answer
+found_of (Err gate) = E.Leaves gate
+found_of (Ok outs) = E.Fits
 
 -- and the lists that it leaves, where none does
-abbrev pub Walked : M.Change → List ℕ → List ℕ → List ℕ → List ℕ → List ℕ → Found → Type 0
-Walked change c ranges ends moves scores (F.Leaves gate) = Unit {0}
-Walked change c ranges ends moves scores (F.Fits outs) =
+abbrev pub Walked : M.Change → List ℕ → List ℕ → List ℕ → List ℕ → List ℕ → Result ℕ ℕ → Type 0
+Walked change c ranges ends moves scores (Err gate) = Unit {0}
+Walked change c ranges ends moves scores (Ok outs) =
     Held interval_room ends (I.intervals size c ranges (gates c)) × Kept change c ranges moves scores (gates c) outs × (length scores ≡ move_room)

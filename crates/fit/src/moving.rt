@@ -8,7 +8,7 @@ ghost use Rattle.ranges.specs.Interval.{interval_at};
 ghost use Rattle.ranges.specs.Move.{Of, change_at, kind_move, capped, gate_move};
 ghost use Rattle.fit.specs.Code.{interval_of, Fair, Named};
 
-use crate::{Interval, reaching};
+use crate::{Change, Interval, reaching};
 use circuit::Kind;
 use field::{SIZE, Sum, Word};
 use gates::reading;
@@ -16,16 +16,15 @@ use gates::reading;
 const LIMIT: Sum = SIZE as u64;
 
 // A move is at most the largest element.
+#[tactic(auto, using(std::proofs::lemmas::Bool::Decides::nat_tests), unfolding(ranges::specs::Move::capped))]
 fn capped(m: Sum) -> Word
     ensures { Is size (capped size m) result }
 {
-    if m < LIMIT {
-        return m as u32;
-    }
-    SIZE - 1
+    m.min(LIMIT - 1) as u32
 }
 
 // How far a product moves: the highest first times the move of the second, and the highest second times the move of the first.
+#[tactic(auto, using(crate::proofs::Ends::elements_low))]
 fn product_move(x: Word, z: Word, mx: Word, mz: Word) -> Sum
     requires { (x < size) × (z < size) × (mx < size) × (mz < size) }
     ensures { result ≡ x * mz + z * mx }
@@ -34,6 +33,7 @@ fn product_move(x: Word, z: Word, mx: Word, mz: Word) -> Sum
 }
 
 // How far a gate of a kind moves, of what its input changes by, and of the intervals and the moves of the gates that it names.
+#[tactic(auto, using(crate::proofs::Ends::product_low), unfolding(ranges::specs::Move::kind_move))]
 fn kind_move(kind: Kind, change: Word, x: Interval, z: Interval, mx: Word, mz: Word, k: Word) -> Sum
     requires { Fair (interval_of x) × Fair (interval_of z) × (mx < size) × (mz < size) }
     ensures { result ≡ kind_move (kind_of kind) change (interval_of x) (interval_of z) mx mz k }
@@ -53,31 +53,25 @@ fn kind_move(kind: Kind, change: Word, x: Interval, z: Interval, mx: Word, mz: W
 }
 
 // What the input of gate j changes by, where that of another gate changes.
-fn change_at(j: usize, line: usize, amount: Word) -> Word
-    ensures { result ≡ change_at (Of line amount) j }
+#[tactic(auto, using(std::proofs::lemmas::Bool::Decides::nat_tests))]
+fn change_at(j: usize, change: Change) -> Word
+    ensures { result ≡ change_at (Of change.gate change.amount) j }
 {
-    if j == line {
-        return amount;
+    if j == change.gate {
+        return change.amount;
     }
     0
 }
 
 // The move of gate j, where the gates before it have the intervals and the moves that stand in two lists.
-pub fn move_at(
-    c: &[Word],
-    j: usize,
-    line: usize,
-    amount: Word,
-    ends: &[Word],
-    moves: &[Word],
-) -> Word
+pub fn move_at(c: &[Word], j: usize, change: Change, ends: &[Word], moves: &[Word]) -> Word
     requires { (gate_size * j + gate_size ≤ length c.now)
         × ((x : ℕ) → Fair (interval_at ends.now x))
         × ((x : ℕ) → get_or moves.now x 0 < size)
         × Named c.now j ends.now
         × ((gate c.now j).first < length moves.now)
         × ((gate c.now j).second < length moves.now) }
-    ensures { (ranges : List ℕ) → Is size (gate_move size c.now ranges (Of line amount) ends.now moves.now j) result }
+    ensures { (ranges : List ℕ) → Is size (gate_move size c.now ranges (Of change.gate change.amount) ends.now moves.now j) result }
 {
     let kind = reading::kind_at(c, j);
     let first = reading::first_at(c, j);
@@ -87,7 +81,7 @@ pub fn move_at(
     let k = reading::constant_at(c, j);
     capped(kind_move(
         kind,
-        change_at(j, line, amount),
+        change_at(j, change),
         x,
         z,
         moves[first],

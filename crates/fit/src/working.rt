@@ -9,36 +9,35 @@ ghost use Rattle.ranges.specs.Move.{Of};
 ghost use Rattle.ranges.specs.Entry.{finding};
 ghost use Rattle.fit.specs.Code.{change_of, Fair, interval_room, move_room, Held, Tame, Apt, Stepped, found_of, Walked};
 
-use crate::{Change, Found, INTERVAL_SIZE, Reach, moving, reaching};
+use crate::{Change, INTERVAL_SIZE, Interval, moving, reaching};
 use circuit::counting;
 use field::Word;
 use gates::reading;
 
 // The interval of gate j.
-fn put_interval(ends: &mut [Word], j: usize, lowest: Word, highest: Word)
+fn put_interval(ends: &mut [Word], j: usize, i: Interval)
     requires { interval_size * j + 1 < length ends.old }
-    ensures { ends.new ≡ set (set ends.old (interval_size * j) lowest) (interval_size * j + 1) highest }
+    ensures { ends.new ≡ set (set ends.old (interval_size * j) i.lowest) (interval_size * j + 1) i.highest }
 {
     let at = INTERVAL_SIZE * j;
-    ends[at] = lowest;
-    ends[at + 1] = highest;
+    ends[at] = i.lowest;
+    ends[at + 1] = i.highest;
 }
 
 // The move of gate j, and where it is an output its score's, which is that of the gate that it names. How many scores have one then.
 fn follow(
     c: &[Word],
     j: usize,
-    line: usize,
-    amount: Word,
+    change: Change,
     ends: &[Word],
     moves: &mut [Word],
     scores: &mut [Word],
     outs: usize,
 ) -> usize
     requires { Apt c.now j ends.now moves.old scores.old outs }
-    ensures { Stepped c.now (Of line amount) ends.now j moves.old scores.old outs moves.new scores.new result }
+    ensures { Stepped c.now (Of change.gate change.amount) ends.now j moves.old scores.old outs moves.new scores.new result }
 {
-    let m = moving::move_at(c, j, line, amount, ends, moves);
+    let m = moving::move_at(c, j, change, ends, moves);
     let first = reading::first_at(c, j);
     if !reading::has_value_at(c, j) {
         scores[outs] = moves[first];
@@ -50,10 +49,11 @@ fn follow(
 }
 
 // A step past gate j. Without a change there is no move.
+#[tactic(auto, using(crate::proofs::Walks::stepped_nothing))]
 fn step(
     c: &[Word],
     j: usize,
-    change: Change,
+    change: Option<Change>,
     ends: &[Word],
     moves: &mut [Word],
     scores: &mut [Word],
@@ -63,20 +63,21 @@ fn step(
     ensures { Stepped c.now (change_of change) ends.now j moves.old scores.old outs moves.new scores.new result }
 {
     match change {
-        Change::Nothing => outs,
-        Change::Of { gate, amount } => { follow(c, j, gate, amount, ends, moves, scores, outs) }
+        Some(change) => follow(c, j, change, ends, moves, scores, outs),
+        None => outs,
     }
 }
 
-// All gates in order, as far as the first that leaves. The lists are blank at first.
+// All gates in order, as far as the first that leaves, or how many scores have a move. The lists are blank at first.
+#[tactic(auto, unfolding(crate::specs::Code::found_of))]
 pub fn walk(
     c: &[Word],
     ranges: &[Word],
-    change: Change,
+    change: Option<Change>,
     ends: &mut [Word],
     moves: &mut [Word],
     scores: &mut [Word],
-) -> Found
+) -> Result<usize, usize>
     requires { (gates c.now ≤ most_gates)
         × ((j : ℕ) → j < gates c.now → Tame c.now j)
         × (length ranges.now ≡ interval_size * in_count c.now)
@@ -87,22 +88,15 @@ pub fn walk(
     ensures found { found_of result ≡ finding size c.now ranges.now (gates c.now) }
     ensures lists { Walked (change_of change) c.now ranges.now ends.new moves.new scores.new result }
 {
-    let count = c.len() / reading::GATE_SIZE;
     let mut ins = 0;
     let mut outs = 0;
-    let mut j = 0;
-    while j < count {
-        match reaching::reach_at(c, j, ranges, ins, ends) {
-            Reach::Leaves => {
-                return Found::Leaves { gate: j };
-            }
-            Reach::Stays { lowest, highest } => {
-                outs = step(c, j, change, ends, moves, scores, outs);
-                put_interval(ends, j, lowest, highest);
-            }
-        }
+    for j in 0..crate::gates_of(c) {
+        let Some(i) = reaching::reach_at(c, j, ranges, ins, ends) else {
+            return Err(j);
+        };
+        outs = step(c, j, change, ends, moves, scores, outs);
+        put_interval(ends, j, i);
         ins += counting::one_if(reading::is_input_at(c, j));
-        j += 1;
     }
-    Found::Fits { outs }
+    Ok(outs)
 }

@@ -17,6 +17,10 @@ use Rattle.circuit.specs.declared.Shape as code
 use Rattle.circuit.proofs.Tests.{false_no, by_cases, both_left, both_right, both_true}
 use Rattle.circuit.proofs.Gates.{decode_past}
 use Rattle.circuit.proofs.Asking.{kind_at}
+use Rattle.circuit.proofs.Valid.{ref}
+
+-- a gate that may be named
+pub ruleset named = (ref)
 
 -- a number that does not count as out is a kind
 kind_found : (x : ℕ) → is_class Output (kind_shape (decode x)).class ≡ false → is_kind x ≡ true

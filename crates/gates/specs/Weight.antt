@@ -20,7 +20,3 @@ weight i g = (shape g).prep + opening_unit * (shape g).openings + input_unit * c
 -- of all gates before j
 abbrev pub weight_before : List ℕ → ℕ → ℕ → ℕ
 weight_before c i j = total (weight i) c j
-
--- what is said in place of a weight where a gate is not known to be valid: no gates have it
-abbrev pub unsure : ℕ
-unsure = 18446744073709551615

@@ -1,5 +1,5 @@
 // Questions 3 to 7.
-ghost use Rattle.std.specs.Prelude.{◌≡◌, true, ℕ, ◌+◌, ◌*◌, ◌<◌, ◌≤◌, length, IfOk, IfSome};
+ghost use Rattle.std.specs.Prelude.{◌≡◌, true, ℕ, ◌+◌, ◌*◌, ◌<◌, ◌≤◌, length, IfOk, IfSome, OnSome};
 ghost use Rattle.circuit.specs.Verdict.{each};
 ghost use Rattle.circuit.specs.Gate.{gate_size, decode, entry, gate, gates};
 ghost use Rattle.circuit.specs.Kind.{kind_shape, is_divisor};
@@ -7,7 +7,7 @@ ghost use Rattle.circuit.specs.Accept.{most_gates, is_kind, may_name, name_ok, r
 ghost use Rattle.circuit.specs.Valid.{Fits, ValidGate};
 ghost use Rattle.circuit.specs.Code.{role_of, shape_of};
 ghost use Rattle.circuit.specs.Question.{verdict_of};
-ghost use Rattle.gates.specs.Weight.{weight, weight_before, unsure};
+ghost use Rattle.gates.specs.Weight.{weight, weight_before};
 ghost use Rattle.gates.specs.Code.{Counted};
 
 use crate::{Survey, counting, reading};
@@ -26,46 +26,37 @@ const FEWEST_GATES: usize = 2;
 pub const MOST_GATES: usize = 256;
 
 // May gate j name gate x? The gates before it have passed question 4.
+#[tactic(auto, unfolding(circuit::specs::Accept::may_name, circuit::specs::Gate::gate, circuit::specs::Gate::entry))]
 fn may_name(c: &[Word], j: usize, x: usize) -> bool
     requires { (gate_size * j ≤ length c.now) × ((i : ℕ) → i < j → is_kind (entry c.now i 0) ≡ true) }
     ensures { result ≡ may_name c.now j x }
 {
-    if x < j {
-        let at = reading::GATE_SIZE * x;
-        return shapes::has_value(field::index(c[at]));
-    }
-    false
+    x < j && shapes::has_value(field::index(c[reading::GATE_SIZE * x]))
 }
 
 // Question 5 of one number.
+#[tactic(auto, unfolding(circuit::specs::Accept::name_ok))]
 fn name_ok(parties: usize, c: &[Word], j: usize, x: usize, role: Role) -> bool
     requires { (gate_size * j ≤ length c.now) × ((i : ℕ) → i < j → is_kind (entry c.now i 0) ≡ true) }
     ensures { result ≡ name_ok parties c.now j x (role_of role) }
 {
     match role {
-        Role::Unused => true,
         Role::Party => x < parties,
         Role::Wire => may_name(c, j, x),
-        Role::Constant => true,
-        Role::Divisor => true,
+        Role::Unused | Role::Constant | Role::Divisor => true,
     }
 }
 
 // Question 6 of one number.
+#[tactic(auto, unfolding(circuit::specs::Accept::rest_ok))]
 fn rest_ok(size: usize, x: usize, role: Role) -> bool
     ensures { result ≡ rest_ok size x (role_of role) }
 {
     match role {
         Role::Unused => x == 0,
-        Role::Party => true,
-        Role::Wire => true,
+        Role::Party | Role::Wire => true,
         Role::Constant => x < size,
-        Role::Divisor => {
-            if x == 0 {
-                return false;
-            }
-            x < size
-        }
+        Role::Divisor => x != 0 && x < size,
     }
 }
 
@@ -94,18 +85,16 @@ fn scan(parties: usize, size: usize, c: &[Word], count: usize) -> Result<(), Ref
 }
 
 // Question 4 of a gate of that shape, whose kind is that number. A number that is no kind counts as out, so only an output is asked.
+#[tactic(auto, using(crate::proofs::Well::not_out))]
 fn kind_well(s: Shape, number: usize) -> bool
     requires { shape_of s ≡ kind_shape (decode number) }
     ensures { result ≡ is_kind number }
 {
-    let class = s.class;
-    if shapes::is_out(class) {
-        return reading::is_kind(number);
-    }
-    true
+    !shapes::is_out(s.class) || reading::is_kind(number)
 }
 
 // Is a number of gate j what it is for? Questions 5 and 6 of it in one. No kind divides by its first number, so a divisor is left to the scan.
+#[tactic(auto, using(crate::proofs::Well::named))]
 fn number_well(parties: usize, size: usize, c: &[Word], j: usize, x: usize, role: Role) -> bool
     requires { (gate_size * j ≤ length c.now) × ((i : ℕ) → i < j → is_kind (entry c.now i 0) ≡ true) }
     ensures { result ≡ true → Fits parties size c.now j (role_of role) x }
@@ -128,24 +117,10 @@ fn ends_well(parties: usize, size: usize, c: &[Word], j: usize, s: Shape) -> boo
 {
     let first = reading::first_at(c, j);
     let constant = field::index(reading::constant_at(c, j));
-    let first_role = s.first;
-    let constant_role = s.constant;
-    match constant_role {
-        Role::Unused => {
-            if constant != 0 {
-                return false;
-            }
-            number_well(parties, size, c, j, first, first_role)
-        }
-        Role::Party => false,
-        Role::Wire => false,
-        Role::Constant => {
-            if size <= constant {
-                return false;
-            }
-            number_well(parties, size, c, j, first, first_role)
-        }
-        Role::Divisor => false,
+    match s.constant {
+        Role::Unused => constant == 0 && number_well(parties, size, c, j, first, s.first),
+        Role::Constant => constant < size && number_well(parties, size, c, j, first, s.first),
+        Role::Party | Role::Wire | Role::Divisor => false,
     }
 }
 
@@ -158,72 +133,53 @@ fn divided_well(parties: usize, size: usize, c: &[Word], j: usize, s: Shape) -> 
     ensures fits_2 { result ≡ true → Fits parties size c.now j (role_of s.second) (gate c.now j).second }
     ensures fits_3 { result ≡ true → Fits parties size c.now j (role_of s.constant) (gate c.now j).constant }
 {
+    let first = reading::first_at(c, j);
+    let second = reading::second_at(c, j);
     let constant = field::index(reading::constant_at(c, j));
-    if constant == 0 {
-        return false;
-    }
-    if constant < size {
-        let second_role = s.second;
-        if number_well(parties, size, c, j, reading::second_at(c, j), second_role) {
-            let first_role = s.first;
-            return number_well(parties, size, c, j, reading::first_at(c, j), first_role);
-        }
-    }
-    false
+    constant != 0
+        && constant < size
+        && number_well(parties, size, c, j, second, s.second)
+        && number_well(parties, size, c, j, first, s.first)
 }
 
-// The weight of gate j for party me, if questions 4 to 6 of it are answered with yes. It parts the gates by the role of the second number and
-// then by that of the last, so that few tests remain for each, and the weight is known by then. A gate that divides is asked by itself, which
-// leaves the others as few tests as they had. A role that no kind gives its second number is left to the scan.
-fn gate_well(parties: usize, size: usize, me: usize, c: &[Word], j: usize) -> usize
+// Are the numbers of gate j, which does not divide, what a shape says that they are for? It parts the gates by the role of the second number
+// and then by that of the last, so that few tests remain for each. A role that no kind gives its second number is left to the scan.
+#[tactic(auto, using(crate::proofs::Well::named))]
+fn numbers_well(parties: usize, size: usize, c: &[Word], j: usize, s: Shape) -> bool
     requires { (gate_size * j + gate_size ≤ length c.now) × ((i : ℕ) → i < j → is_kind (entry c.now i 0) ≡ true) }
-    ensures valid { (result ≡ unsure → ⊥) → ValidGate parties size c.now j }
-    ensures weight { (result ≡ unsure → ⊥) → result ≡ weight me (gate c.now j) }
+    ensures fits { result ≡ true → Fits parties size c.now j (role_of s.first) (gate c.now j).first }
+    ensures fits_2 { result ≡ true → Fits parties size c.now j (role_of s.second) (gate c.now j).second }
+    ensures fits_3 { result ≡ true → Fits parties size c.now j (role_of s.constant) (gate c.now j).constant }
 {
-    let at = reading::GATE_SIZE * j;
-    let s = reading::shape_at(c, j);
-    if !kind_well(s, field::index(c[at])) {
-        return counting::UNSURE;
-    }
-    let last = s.constant;
-    if shapes::is_divisor(last) {
-        if !divided_well(parties, size, c, j, s) {
-            return counting::UNSURE;
-        }
-        return counting::weight_of(c, me, j, s);
-    }
     let second = reading::second_at(c, j);
-    let role = s.second;
-    match role {
-        Role::Unused => {
-            if second != 0 {
-                return counting::UNSURE;
-            }
-            if !ends_well(parties, size, c, j, s) {
-                return counting::UNSURE;
-            }
-            counting::weight_of(c, me, j, s)
-        }
-        Role::Party => {
-            if parties <= second {
-                return counting::UNSURE;
-            }
-            if !ends_well(parties, size, c, j, s) {
-                return counting::UNSURE;
-            }
-            counting::weight_of(c, me, j, s)
-        }
-        Role::Wire => {
-            if !may_name(c, j, second) {
-                return counting::UNSURE;
-            }
-            if !ends_well(parties, size, c, j, s) {
-                return counting::UNSURE;
-            }
-            counting::weight_of(c, me, j, s)
-        }
-        Role::Constant => counting::UNSURE,
-        Role::Divisor => counting::UNSURE,
+    match s.second {
+        Role::Unused => second == 0 && ends_well(parties, size, c, j, s),
+        Role::Party => second < parties && ends_well(parties, size, c, j, s),
+        Role::Wire => may_name(c, j, second) && ends_well(parties, size, c, j, s),
+        Role::Constant | Role::Divisor => false,
+    }
+}
+
+// The weight of gate j for party me, if questions 4 to 6 of it are answered with yes. A gate that divides is asked by itself, which leaves the
+// others as few tests as they had.
+fn gate_well(parties: usize, size: usize, me: usize, c: &[Word], j: usize) -> Option<usize>
+    requires { (gate_size * j + gate_size ≤ length c.now) × ((i : ℕ) → i < j → is_kind (entry c.now i 0) ≡ true) }
+    ensures valid { OnSome result (ValidGate parties size c.now j) }
+    ensures weight { IfSome result (λ w. w ≡ weight me (gate c.now j)) }
+{
+    let s = reading::shape_at(c, j);
+    if !kind_well(s, field::index(c[reading::GATE_SIZE * j])) {
+        return None;
+    }
+    let well = if shapes::is_divisor(s.constant) {
+        divided_well(parties, size, c, j, s)
+    } else {
+        numbers_well(parties, size, c, j, s)
+    };
+    if well {
+        Some(counting::weight_of(c, me, j, s))
+    } else {
+        None
     }
 }
 
@@ -236,26 +192,20 @@ fn well(
     from: usize,
     to: usize,
     start: usize,
-) -> usize
+) -> Option<usize>
     requires { (from ≤ to)
         × (gate_size * to ≤ length c.now)
         × (to ≤ most_gates)
         × ((i : ℕ) → i < from → ValidGate parties size c.now i)
         × (start ≡ weight_before c.now me from) }
-    ensures valid { (result ≡ unsure → ⊥) → (i : ℕ) → i < to → ValidGate parties size c.now i }
-    ensures weight { (result ≡ unsure → ⊥) → result ≡ weight_before c.now me to }
+    ensures valid { OnSome result ((i : ℕ) → i < to → ValidGate parties size c.now i) }
+    ensures weight { IfSome result (λ w. w ≡ weight_before c.now me to) }
 {
     let mut sum = start;
-    let mut j = from;
-    while j < to {
-        let w = gate_well(parties, size, me, c, j);
-        if w == counting::UNSURE {
-            return counting::UNSURE;
-        }
-        sum += w;
-        j += 1;
+    for j in from..to {
+        sum += gate_well(parties, size, me, c, j)?;
     }
-    sum
+    Some(sum)
 }
 
 // Questions 4 to 6 of the first count gates. Where the pass has said yes, no gate is looked at; the scan is for the first no.
@@ -298,15 +248,9 @@ fn one_pass(parties: usize, size: usize, me: usize, c: &[Word], gate: usize) -> 
     if MOST_GATES < count {
         return None;
     }
-    let stop = counting::least(gate, count);
-    let here = well(parties, size, me, c, 0, stop, 0);
-    if here == counting::UNSURE {
-        return None;
-    }
-    let all = well(parties, size, me, c, stop, count, here);
-    if all == counting::UNSURE {
-        return None;
-    }
+    let stop = gate.min(count);
+    let here = well(parties, size, me, c, 0, stop, 0)?;
+    let all = well(parties, size, me, c, stop, count, here)?;
     Some(Survey {
         here: counting::tally_of(here, counting::unchecked_before(c, stop)),
         all: counting::tally_of(all, counting::unchecked_before(c, count)),
@@ -314,15 +258,12 @@ fn one_pass(parties: usize, size: usize, me: usize, c: &[Word], gate: usize) -> 
 }
 
 // Are all gates known to be valid?
+#[tactic(auto, unfolding(circuit::specs::Gate::gates))]
 fn all_well(parties: usize, size: usize, c: &[Word]) -> bool
     ensures { result ≡ true → (j : ℕ) → j < gates c.now → ValidGate parties size c.now j }
 {
     let count = c.len() / reading::GATE_SIZE;
-    if MOST_GATES < count {
-        return false;
-    }
-    let weight = well(parties, size, 0, c, 0, count, 0);
-    weight != counting::UNSURE
+    count <= MOST_GATES && well(parties, size, 0, c, 0, count, 0).is_some()
 }
 
 // Questions 3 to 7, of a field of that size. It is no entry: it is for the crates above, which ask question 1 before it.
@@ -339,7 +280,7 @@ fn counted(c: &[Word], me: usize, gate: usize) -> Survey
     ensures { Counted c.now me gate result.here result.all }
 {
     let count = c.len() / reading::GATE_SIZE;
-    let stop = counting::least(gate, count);
+    let stop = gate.min(count);
     let here = counting::tally_between(c, me, 0, stop, circuit::counting::no_tally());
     let all = counting::tally_between(c, me, stop, count, here);
     Survey { here, all }

@@ -17,8 +17,7 @@ pub fn tally_gate(c: &[Word], i: usize, j: usize, t: Tally) -> Tally
     ensures { Tallied c.now i (j + 1) result }
 {
     let s = reading::shape_at(c, j);
-    let class = s.class;
-    match class {
+    match s.class {
         Class::Local => t,
         Class::Owned => Tally {
             prep: t.prep + s.prep,
@@ -47,10 +46,8 @@ pub fn tally_between(c: &[Word], i: usize, from: usize, to: usize, start: Tally)
     ensures { Tallied c.now i to result }
 {
     let mut t = start;
-    let mut j = from;
-    while j < to {
+    for j in from..to {
         t = tally_gate(c, i, j, t);
-        j += 1;
     }
     t
 }
@@ -60,15 +57,14 @@ fn total_gate(c: &[Word], j: usize, s: Shape, waiting: usize, t: Totals) -> Tota
     requires { (shape_of s ≡ shape (gate c.now j)) × (j < most_gates) × (waiting ≡ unchecked c.now j) × Totalled c.now j t }
     ensures { Totalled c.now (j + 1) result }
 {
-    let class = s.class;
-    if shapes::is_linear(class) {
+    if shapes::is_linear(s.class) {
         return t;
     }
     Totals {
         prep: t.prep + s.prep,
         openings: t.openings + s.openings,
-        ins: t.ins + counting::one_if(shapes::is_in(class)),
-        outs: t.outs + counting::one_if(shapes::is_out(class)),
+        ins: t.ins + counting::one_if(shapes::is_in(s.class)),
+        outs: t.outs + counting::one_if(shapes::is_out(s.class)),
         words: t.words + counting::words_of(s, waiting),
         coefficients: t.coefficients + counting::coefficients_of(s, waiting),
         checks: t.checks + counting::checks_of(s, waiting),
@@ -90,20 +86,12 @@ pub fn totals_before(c: &[Word], count: usize) -> Totals
         checks: 0,
     };
     let mut waiting = 0;
-    let mut j = 0;
-    while j < count {
+    for j in 0..count {
         let s = reading::shape_at(c, j);
         t = total_gate(c, j, s, waiting, t);
         waiting = counting::unchecked_after(s, waiting);
-        j += 1;
     }
     t
-}
-
-pub fn least(a: usize, b: usize) -> usize
-    ensures { (result ≤ a) × (result ≤ b) × (a ≤ b → result ≡ a) }
-{
-    if a <= b { a } else { b }
 }
 
 // What an opened value counts in a weight, where a number of the preprocessing counts 1.
@@ -112,22 +100,17 @@ const OPENING: usize = 65536;
 // And an input of the party.
 const INPUT: usize = 4294967296;
 
-// What is said where a gate is not known to be valid. No gates have that weight.
-pub const UNSURE: usize = 18446744073709551615;
-
 // The weight of gate j, which has that shape, for party i.
 pub fn weight_of(c: &[Word], i: usize, j: usize, s: Shape) -> usize
     requires { (gate_size * j + gate_size ≤ length c.now) × (shape_of s ≡ shape (gate c.now j)) }
     ensures { result ≡ weight i (gate c.now j) }
 {
     let parts = s.prep + OPENING * s.openings;
-    let class = s.class;
-    if shapes::is_in(class) {
-        if reading::first_at(c, j) == i {
-            return parts + INPUT;
-        }
+    if shapes::is_in(s.class) && reading::first_at(c, j) == i {
+        parts + INPUT
+    } else {
+        parts
     }
-    parts
 }
 
 // How many opened values wait for a check before gate j: the gates since the last output are gone through from behind.
@@ -139,8 +122,7 @@ pub fn unchecked_before(c: &[Word], j: usize) -> usize
     let mut i = j;
     while 0 < i {
         let s = reading::shape_at(c, i - 1);
-        let class = s.class;
-        if shapes::is_out(class) {
+        if shapes::is_out(s.class) {
             return waiting;
         }
         waiting += s.openings;

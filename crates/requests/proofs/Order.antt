@@ -1,25 +1,32 @@
--- The fields of a request come in the order of docs/REPLAY.md's table; and how the first number that passes a test is found.
+-- The fields of a request come in the order of docs/REPLAY.md's table.
 -- Assumes nothing.
-use Prim.Native.Nat.{ℕ, zero, suc, ◌+◌, ◌-◌, ◌<◌, ◌≤◌}
+use Rattle.std.specs.Prelude.{ℕ, zero, suc, List, [], ◌∷◌, ◌++◌, Option, Some, None}
 use Prim.Native.String as T
 use mathlib.Core.Path.{◌≡◌, refl}
-use mathlib.Core.Bool.{Bool, true, false, cond}
-use mathlib.Core.List.{List, [], ◌∷◌, ◌++◌}
-use native.Mathlib.Omega.{arith}
-use lib.Dec.{eqb}
-use Rattle.text.specs.Text.{is_space, belongs, run, alike}
-use Rattle.requests.specs.Words.{start_from, end_from, word_from, ends, nth, first_from}
-use Rattle.requests.specs.Names.{bytes, entry_name, entry_named, row, field_name}
-use Rattle.requests.specs.Order.{parties, complete, has, following}
+use Rattle.text.specs.Text.{is_space, belongs}
+use Rattle.requests.specs.declared.naming.Entry.{Entry}
+use Rattle.requests.specs.declared.naming.Field.TheVariants as F
+use Rattle.requests.specs.declared.request.Wanted.{Wanted}
+use Rattle.requests.specs.declared.request.Wanted.TheVariants as W
+use Rattle.requests.specs.Words.{start_from, end_from, word_from, ends, nth}
+use Rattle.requests.specs.Names.{bytes, entry_name, entries, entry_named, row, fields, field_name, has}
+use Rattle.requests.specs.Order.{following}
 
--- the names of an entry's fields from one on, at most so many, each before a space
-unfoldable pub course : ℕ → ℕ → ℕ → List ℕ
-course zero entry field = []
-course (suc n) entry field = cond (eqb field complete) [] (field_name entry field ++ (32 ∷ course n entry (following entry field)))
+-- the names of the fields from what is wanted on, at most so many, each before a space
+unfoldable pub course : ℕ → Wanted → List ℕ
+course zero wanted = []
+course (suc n) (W.Field entry field) = field_name entry field ++ (32 ∷ course n (following entry field))
+course (suc n) (W.Complete entry) = []
+course (suc n) W.Outside = []
+course (suc n) W.Lost = []
 
--- those of the entry of a name
+-- those of an entry, and of the entry of a name
+unfoldable pub lent_to : Option Entry → List ℕ
+lent_to None = []
+lent_to (Some entry) = course 11 (W.Field entry F.Parties)
+
 unfoldable pub lent : T.String → List ℕ
-lent name = course complete (entry_named (bytes name)) parties
+lent name = lent_to (entry_named (bytes name))
 
 pub record Table : Type 0 where
   pub opened : lent "open" ≡ bytes "parties party circuit prep inputs scratch "
@@ -32,23 +39,5 @@ pub record Table : Type 0 where
   pub scored : lent "score" ≡ bytes "parties text preps inputs scratch coefficients nonces transcript outputs "
 
 pub in_order : Table
-unfolding is_space belongs run alike start_from end_from word_from ends nth first_from bytes entry_name entry_named row field_name has following course lent
+unfolding is_space belongs start_from end_from word_from ends nth bytes entry_name entries entry_named row fields field_name has following course lent_to lent
 in_order = record { opened = refl; sent = refl; received = refl; joined = refl; shown = refl; read = refl; written = refl; scored = refl }
-
--- the first number that passes a test, by one step more
-module _ (test : ℕ → Bool) (other end k : ℕ) where
-  module _ (h : k < end) where
-    one_more : end - k ≡ suc (end - (k + 1))
-    one_more = omega arith
-
-    pub first_here : test k ≡ true → k ≡ first_from test other (end - k) k
-    unfolding first_from
-    first_here e = rw (one_more, e)
-
-    pub first_later : test k ≡ false → first_from test other (end - (k + 1)) (k + 1) ≡ first_from test other (end - k) k
-    unfolding first_from
-    first_later e = rw (one_more, e)
-
-  pub first_none : end ≤ k → other ≡ first_from test other (end - k) k
-  unfolding first_from
-  first_none h = let z : end - k ≡ 0 = omega arith in rw z

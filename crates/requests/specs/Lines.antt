@@ -1,90 +1,96 @@
 -- What a line of a request comes to, as docs/REPLAY.md has it. What is printed of a fault is not said here.
 -- Assumes nothing.
-use Rattle.std.specs.Prelude.{ℕ, Bool, true, false, cond, List, [], ◌∷◌, get_or, drop, eqb, ltb, leb}
+use Rattle.std.specs.Prelude.{ℕ, Bool, cond, ◌||◌, List, [], ◌∷◌, get_or, drop, eqb, ltb, Option, Some, None, Result, Ok, Err}
 use Rattle.text.specs.Text as X
 use Rattle.text.specs.Text.{alike, numbers_in}
-use Rattle.text.specs.declared.Numbers.TheVariants.{Unlike, TooLarge, TooMany}
-use Rattle.requests.specs.declared.reading.One.{One}
-use Rattle.requests.specs.declared.reading.One.TheVariants.{Number, Fault}
-use Rattle.requests.specs.declared.reading.Placed.{Placed}
-use Rattle.requests.specs.declared.reading.Placed.TheVariants as L
+use Rattle.text.specs.declared.Fault.{Fault}
+use Rattle.text.specs.declared.Fault.TheVariants.{Unlike, TooLarge, TooMany}
+use Rattle.party.specs.declared.Position as At
+use Rattle.requests.specs.declared.naming.Entry.{Entry}
+use Rattle.requests.specs.declared.naming.Field.{Field}
+use Rattle.requests.specs.declared.naming.Field.TheVariants as F
 use Rattle.requests.specs.declared.reading.Step.{Step}
 use Rattle.requests.specs.declared.request.Request.{Request}
+use Rattle.requests.specs.declared.request.Wanted.{Wanted}
+use Rattle.requests.specs.declared.request.Wanted.TheVariants as W
 use Rattle.requests.specs.Words.{start_from, end_from, word_from, ends, nth}
-use Rattle.requests.specs.Names.{no_entry, field_name, entry_named, stage_named}
-use Rattle.requests.specs.Order.{parties, party, position, lost, started, moved_on, dropped, with_number, standing, placed}
+use Rattle.requests.specs.Names.{field_name, entry_named, stage_named}
+use Rattle.requests.specs.Order.{started, moved_on, dropped, with_number, standing, placed}
 
 -- "`parties` and `party` are followed by one number."
-unfoldable pub one_of : X.Ending → List ℕ → One
-one_of X.Whole [] = Fault TooMany
-one_of X.Whole (n ∷ []) = Number n
-one_of X.Whole (n ∷ m ∷ ns) = Fault TooMany
-one_of X.Unlike ns = Fault Unlike
-one_of X.TooLarge ns = Fault TooLarge
-one_of X.TooMany ns = Fault TooMany
+unfoldable pub one_of : X.Ending → List ℕ → Result ℕ Fault
+one_of X.Whole [] = Err TooMany
+one_of X.Whole (n ∷ []) = Ok n
+one_of X.Whole (n ∷ m ∷ ns) = Err TooMany
+one_of X.Unlike ns = Err Unlike
+one_of X.TooLarge ns = Err TooLarge
+one_of X.TooMany ns = Err TooMany
 
 -- the number that is all of a text; TooMany where there is not just one
-unfoldable pub one_in : List ℕ → One
+unfoldable pub one_in : List ℕ → Result ℕ Fault
 one_in text = one_of (numbers_in 1 text).ending (numbers_in 1 text).numbers
 
 -- "`position` is followed by a gate's number, a stage and the check share held": three words, and no fourth
-unfoldable pub position_in : List ℕ → Placed
+unfoldable pub position_in : List ℕ → Option At.Position
 position_in text =
-    cond (ltb (start_from text (ends 3 text)) (end_from text (ends 3 text))) L.Fault
+    cond (ltb (start_from text (ends 3 text)) (end_from text (ends 3 text))) None
     (placed (one_in (nth 0 text)) (stage_named (nth 1 text)) (one_in (nth 2 text)))
 
 -- a request for which a number was wanted, and one for which a position was
-unfoldable pub with_one : One → Request → Request
-with_one (Number n) q = moved_on (with_number q n)
-with_one (Fault f) q = dropped q
+abbrev pub with_one : Result ℕ Fault → Request → Request
+with_one (Ok n) q = moved_on (with_number q n)
+with_one (Err f) q = dropped q
 
-unfoldable pub take_number : List ℕ → Request → Request
+abbrev pub take_number : List ℕ → Request → Request
 take_number rest q = with_one (one_in rest) q
 
-unfoldable pub with_place : Placed → Request → Request
-with_place (L.Position at) q = moved_on (standing q at)
-with_place L.Fault q = dropped q
+abbrev pub with_place : Option At.Position → Request → Request
+with_place (Some at) q = moved_on (standing q at)
+with_place None q = dropped q
 
-unfoldable pub take_position : List ℕ → Request → Request
+abbrev pub take_position : List ℕ → Request → Request
 take_position rest q = with_place (position_in rest) q
 
 -- what a line leads to: the request goes on; or the list that it wants is read later, from a place of the line on
 abbrev pub goes : Request → Step
-goes q = record { request = q; listed = false; from = 0 }
+goes q = record { request = q; list = None }
 
 abbrev pub lists : Request → ℕ → Step
-lists q place = record { request = q; listed = true; from = place }
+lists q place = record { request = q; list = Some place }
 
 -- what follows the name of what is wanted
-unfoldable pub take_wanted : List ℕ → ℕ → Request → Step
-take_wanted rest place q =
-    cond (leb q.wanted party) (goes (take_number rest q))
-    (cond (eqb q.wanted position) (goes (take_position rest q))
-    (lists q place))
+abbrev pub take_wanted : Field → List ℕ → ℕ → Request → Step
+take_wanted F.Parties rest place q = goes (take_number rest q)
+take_wanted F.Party rest place q = goes (take_number rest q)
+take_wanted F.Position rest place q = goes (take_position rest q)
+take_wanted field rest place q = lists q place
 
 -- "Reading goes on with the next line that begins with an entry's name": others are skipped in a dropped request, and "a line that begins with another word" drops it.
-unfoldable pub take_field : List ℕ → List ℕ → ℕ → Request → Step
-take_field name rest place q =
-    cond (eqb q.wanted lost) (goes q)
-    (cond (alike name (field_name q.entry q.wanted)) (take_wanted rest place q) (goes (dropped q)))
+abbrev pub take_at : Wanted → List ℕ → List ℕ → ℕ → Request → Step
+take_at (W.Field entry field) name rest place q =
+    cond (alike name (field_name entry field)) (take_wanted field rest place q) (goes (dropped q))
+take_at (W.Complete entry) name rest place q = goes (dropped q)
+take_at W.Outside name rest place q = goes (dropped q)
+take_at W.Lost name rest place q = goes q
+
+abbrev pub take_field : List ℕ → List ℕ → ℕ → Request → Step
+take_field name rest place q = take_at q.wanted name rest place q
 
 -- "Nothing may follow the name of an entry": bare says that nothing does.
-unfoldable pub begin : ℕ → Bool → Request → Request
-begin entry bare q = cond bare (started entry parties) (dropped q)
+abbrev pub begin : Entry → Bool → Request → Request
+begin entry bare q = cond bare (started (W.Field entry F.Parties)) (dropped q)
 
 -- whether there is no word at or after a place
 unfoldable pub empty : List ℕ → ℕ → Bool
 empty line from = eqb (start_from line from) (end_from line from)
 
 -- a line with a word, by the entry that its first word names
-unfoldable pub take_named : ℕ → List ℕ → Request → Step
-take_named entry line q =
-    cond (ltb entry no_entry) (goes (begin entry (empty line (end_from line 0)) q))
-    (take_field (word_from line 0) (drop (end_from line 0) line) (end_from line 0) q)
+abbrev pub take_named : Option Entry → List ℕ → Request → Step
+take_named (Some entry) line q = goes (begin entry (empty line (end_from line 0)) q)
+take_named None line q = take_field (word_from line 0) (drop (end_from line 0) line) (end_from line 0) q
 
 -- "A line with no word, or whose first byte is `#`, is skipped, within a request too."
 unfoldable pub take_line : List ℕ → Request → Step
 take_line line q =
-    cond (empty line 0) (goes q)
-    (cond (eqb (get_or line 0 0) 35) (goes q)
-    (take_named (entry_named (word_from line 0)) line q))
+    cond (empty line 0 || eqb (get_or line 0 0) 35) (goes q)
+    (take_named (entry_named (word_from line 0)) line q)

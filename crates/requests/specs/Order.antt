@@ -1,81 +1,81 @@
 -- What comes next in a request, as the table of docs/REPLAY.md has it, and what a request holds then.
 -- Assumes nothing.
-use Rattle.std.specs.Prelude.{ℕ, ◌+◌, ◌-◌, Bool, not, cond, [], ◌∷◌, set, ltb}
-use Rattle.text.specs.Text.{alike}
+use Rattle.std.specs.Prelude.{ℕ, ◌+◌, Bool, true, false, List, [], ◌∷◌, get_or, set, drop, Option, Some, None, Result, Ok, Err}
+use Rattle.std.specs.List.{find}
 use Rattle.circuit.specs.declared.Round.TheVariants.{Own}
+use Rattle.protocol.specs.declared.Stage.{Stage}
 use Rattle.protocol.specs.declared.Stage.TheVariants.{Send}
 use Rattle.requests.specs.declared.request.Request.{Request}
+use Rattle.requests.specs.declared.request.Wanted.{Wanted}
+use Rattle.requests.specs.declared.request.Wanted.TheVariants as W
+use Rattle.requests.specs.declared.naming.Entry.{Entry}
+use Rattle.requests.specs.declared.naming.Field.{Field}
 use Rattle.party.specs.declared.Position as At
-use Rattle.requests.specs.declared.naming.Named.{Named}
-use Rattle.requests.specs.declared.naming.Named.TheVariants as N
-use Rattle.requests.specs.declared.reading.One.{One}
-use Rattle.requests.specs.declared.reading.One.TheVariants.{Number, Fault}
-use Rattle.requests.specs.declared.reading.Placed.{Placed}
-use Rattle.requests.specs.declared.reading.Placed.TheVariants as L
-use Rattle.requests.specs.Words.{first_from}
-use Rattle.requests.specs.Names.{bytes, field_name}
+use Rattle.requests.specs.Names.{fields, place, has}
 
--- the fields whose lines have a number, and the one whose line has a position; the others are lists
-abbrev pub parties : ℕ
-parties = 0
+-- whether a field is wanted
+abbrev pub awaits : Wanted → Bool
+awaits (W.Field entry field) = true
+awaits (W.Complete entry) = false
+awaits W.Outside = false
+awaits W.Lost = false
 
-abbrev pub party : ℕ
-party = 1
+-- the first field that an entry is lent, and the first after another; a request is complete where there is none
+abbrev pub first : Entry → Option Field → Wanted
+first entry None = W.Complete entry
+first entry (Some field) = W.Field entry field
 
-abbrev pub position : ℕ
-position = 6
+unfoldable pub following : Entry → Field → Wanted
+following entry field = first entry (find (has entry) (drop (place field + 1) fields))
 
--- no field: a request is complete, or is dropped
-abbrev pub complete : ℕ
-complete = 11
-
-abbrev pub lost : ℕ
-lost = 13
-
--- whether an entry is lent a field, and the first after one that it is lent; a request is complete where there is none
-unfoldable pub has : ℕ → ℕ → Bool
-has entry field = not (alike (bytes "-") (field_name entry field))
-
-unfoldable pub following : ℕ → ℕ → ℕ
-following entry field = first_from (has entry) complete (complete - (field + 1)) (field + 1)
-
--- a request of which only the entry is known
-abbrev pub started : ℕ → ℕ → Request
-started entry wanted =
+-- a request of which nothing is read
+abbrev pub started : Wanted → Request
+started wanted =
     record {
-      entry = entry;
       wanted = wanted;
       at = record { gate = 0; stage = Send Own; held = 0 };
       read = 0 ∷ 0 ∷ 0 ∷ 0 ∷ 0 ∷ 0 ∷ 0 ∷ 0 ∷ 0 ∷ 0 ∷ 0 ∷ [];
     }
 
-abbrev pub wanting : Request → ℕ → Request
-wanting q wanted = record { entry = q.entry; wanted = wanted; at = q.at; read = q.read }
+-- the number that is read of a field
+abbrev pub number_of : Request → Field → ℕ
+number_of q field = get_or q.read (place field) 0
+
+abbrev pub wanting : Request → Wanted → Request
+wanting q wanted = record { wanted = wanted; at = q.at; read = q.read }
+
+-- what comes after what was wanted
+abbrev pub next : Wanted → Wanted
+next (W.Field entry field) = following entry field
+next (W.Complete entry) = W.Complete entry
+next W.Outside = W.Outside
+next W.Lost = W.Lost
 
 abbrev pub moved_on : Request → Request
-moved_on q = wanting q (following q.entry q.wanted)
+moved_on q = wanting q (next q.wanted)
 
 -- "The request is dropped": nothing is wanted until the next begins.
 abbrev pub dropped : Request → Request
-dropped q = wanting q lost
+dropped q = wanting q W.Lost
+
+-- the numbers that are read, with that of what was wanted
+abbrev pub with_read : Wanted → List ℕ → ℕ → List ℕ
+with_read (W.Field entry field) read n = set read (place field) n
+with_read (W.Complete entry) read n = read
+with_read W.Outside read n = read
+with_read W.Lost read n = read
 
 -- a request with the number that was wanted, or the length of the list that was
-unfoldable pub with_number : Request → ℕ → Request
-with_number q n =
-    record {
-      entry = q.entry;
-      wanted = q.wanted;
-      at = q.at;
-      read = cond (ltb q.wanted complete) (set q.read q.wanted n) q.read;
-    }
+abbrev pub with_number : Request → ℕ → Request
+with_number q n = record { wanted = q.wanted; at = q.at; read = with_read q.wanted q.read n }
 
 -- a request at a position
 abbrev pub standing : Request → At.Position → Request
-standing q at = record { entry = q.entry; wanted = q.wanted; at = at; read = q.read }
+standing q at = record { wanted = q.wanted; at = at; read = q.read }
 
 -- a position of a gate, a stage and a check share, where each is read
-unfoldable pub placed : One → Named → One → Placed
-placed (Fault a) stage held = L.Fault
-placed (Number gate) N.None held = L.Fault
-placed (Number gate) (N.Stage stage) (Fault b) = L.Fault
-placed (Number gate) (N.Stage stage) (Number held) = L.Position (record { gate = gate; stage = stage; held = held })
+abbrev pub placed : {E : Type 0} → Result ℕ E → Option Stage → Result ℕ E → Option At.Position
+placed (Err a) stage held = None
+placed (Ok gate) None held = None
+placed (Ok gate) (Some stage) (Err b) = None
+placed (Ok gate) (Some stage) (Ok held) = Some (record { gate = gate; stage = stage; held = held })

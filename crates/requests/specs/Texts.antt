@@ -1,13 +1,12 @@
 -- A text's bytes as the numbers of a list.
 -- Assumes nothing.
-use Rattle.std.specs.Prelude.{ℕ, ◌%◌, Bool, true, ◌&&◌, List, [], ◌∷◌, leb}
+use Rattle.std.specs.Prelude.{ℕ, ◌%◌, Bool, List, map, leb}
+use Rattle.std.specs.List.{list_all}
 
 -- "each number is 0 to 255"
-unfoldable pub bytes_in : List ℕ → Bool
-bytes_in [] = true
-bytes_in (x ∷ xs) = leb x 255 && bytes_in xs
+abbrev pub bytes_in : List ℕ → Bool
+bytes_in xs = list_all (λ x. leb x 255) xs
 
 -- the low byte of each number, which is the number where it is a byte
-unfoldable pub lows : List ℕ → List ℕ
-lows [] = []
-lows (x ∷ xs) = x % 256 ∷ lows xs
+abbrev pub lows : List ℕ → List ℕ
+lows xs = map (λ x. x % 256) xs

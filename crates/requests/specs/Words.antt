@@ -1,6 +1,6 @@
--- The words of a text, the one of a number, and the first number that passes a test.
+-- The words of a text, and the one of a number.
 -- Assumes nothing.
-use Rattle.std.specs.Prelude.{ℕ, zero, suc, ◌+◌, ◌-◌, Bool, true, false, cond, List, take, drop}
+use Rattle.std.specs.Prelude.{ℕ, zero, suc, ◌+◌, ◌-◌, true, false, List, take, drop}
 use Rattle.text.specs.Text.{run}
 
 -- where the first word at or after a place starts and ends
@@ -22,8 +22,3 @@ ends (suc n) text = end_from text (ends n text)
 -- the word of a number, from 0; it is empty where there are not so many
 unfoldable pub nth : ℕ → List ℕ → List ℕ
 nth k text = word_from text (ends k text)
-
--- the first number from one on, of so many, that passes a test, or else another
-unfoldable pub first_from : (ℕ → Bool) → ℕ → ℕ → ℕ → ℕ
-first_from test other zero k = other
-first_from test other (suc n) k = cond (test k) k (first_from test other n (k + 1))

@@ -13,14 +13,7 @@ const BYTES: Word = 256;
 pub fn all_bytes(list: &[Word]) -> bool
     ensures { result ≡ bytes_in list.now }
 {
-    let mut i = 0;
-    while i < list.len() {
-        if LARGEST_BYTE < list[i] {
-            return false;
-        }
-        i += 1;
-    }
-    true
+    list.iter().all(|n| *n <= LARGEST_BYTE)
 }
 
 // The low byte of each number.
@@ -28,10 +21,8 @@ pub fn to_bytes(list: &[Word], bytes: &mut [u8])
     requires { length list.now ≡ length bytes.old }
     ensures { bytes.new ≡ lows list.now }
 {
-    let mut i = 0;
-    while i < list.len() {
+    for i in 0..list.len() {
         bytes[i] = (list[i] % BYTES) as u8;
-        i += 1;
     }
 }
 
@@ -40,9 +31,7 @@ pub fn to_numbers(bytes: &[u8], list: &mut [Word])
     requires { length bytes.now ≡ length list.old }
     ensures { list.new ≡ bytes.now }
 {
-    let mut i = 0;
-    while i < bytes.len() {
+    for i in 0..bytes.len() {
         list[i] = bytes[i] as u32;
-        i += 1;
     }
 }

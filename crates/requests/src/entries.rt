@@ -5,66 +5,54 @@ ghost use Rattle.protocol.specs.Entry.{send_out, send_scratch, receive_scratch};
 ghost use Rattle.party.specs.Code.{position_of};
 ghost use Rattle.requests.specs.Calls.{party_in};
 
-use crate::naming::{PARTIES, PARTY, print_stage};
+use crate::naming::{Field, stage_name};
 use crate::request::Request;
+use circuit::questions::Refusal;
 use field::Word;
-use party::{Answer, Position};
+use party::{Outcome, Position};
 use protocol::Blame;
 use std::io;
 use std::io::Write;
 
-// A name and a number, with which a line of an answer begins.
-pub fn print_named<W: Write>(to: &mut W, name: &[u8], n: usize) -> io::Result<()> {
-    printing::print(to, name)?;
-    printing::print_number(to, n as u64)
-}
-
-// A gate, a stage and a check share.
-fn print_place<W: Write>(to: &mut W, at: Position) -> io::Result<()> {
-    let stage = at.stage;
-    printing::print_number(to, at.gate as u64)?;
-    print_stage(to, stage)?;
-    printing::print_number(to, at.held as u64)
-}
-
+// A gate, a stage and a check share, and the end of the line.
 fn print_position<W: Write>(to: &mut W, at: Position) -> io::Result<()> {
-    print_place(to, at)?;
-    printing::print(to, b"\n")
+    writeln!(to, " {} {} {}", at.gate, stage_name(at.stage), at.held)
 }
 
 // Whom a stop names, if anybody, and the end of the line.
 pub fn print_blame<W: Write>(to: &mut W, blame: Blame) -> io::Result<()> {
     match blame {
-        Blame::Nobody => printing::print(to, b"\n"),
-        Blame::Blames(i) => {
-            print_named(to, b" party", i)?;
-            printing::print(to, b"\n")
+        Some(i) => writeln!(to, " party {i}"),
+        None => writeln!(to),
+    }
+}
+
+pub fn print_refusal<W: Write>(to: &mut W, refusal: Refusal) -> io::Result<()> {
+    let number = refusal.question.number();
+    writeln!(to, "refusal {number} {}", refusal.index)
+}
+
+fn print_outcome<W: Write>(to: &mut W, outcome: Outcome) -> io::Result<()> {
+    match outcome {
+        Outcome::Next(at) => {
+            write!(to, "next")?;
+            print_position(to, at)
+        }
+        Outcome::Output(value, at) => {
+            write!(to, "output {value}")?;
+            print_position(to, at)
+        }
+        Outcome::Abort(blame, at) => {
+            write!(to, "abort {} {} {}", at.gate, stage_name(at.stage), at.held)?;
+            print_blame(to, blame)
         }
     }
 }
 
-pub fn print_refusal<W: Write>(to: &mut W, number: u32, index: usize) -> io::Result<()> {
-    print_named(to, b"refusal", number as usize)?;
-    printing::print_number(to, index as u64)?;
-    printing::print(to, b"\n")
-}
-
-fn print_answer<W: Write>(to: &mut W, answer: Answer) -> io::Result<()> {
+fn print_answer<W: Write>(to: &mut W, answer: Result<Outcome, Refusal>) -> io::Result<()> {
     match answer {
-        Answer::Refusal { number, index } => print_refusal(to, number, index),
-        Answer::Next(at) => {
-            printing::print(to, b"next")?;
-            print_position(to, at)
-        }
-        Answer::Output(value, at) => {
-            print_named(to, b"output", value as usize)?;
-            print_position(to, at)
-        }
-        Answer::Abort(blame, at) => {
-            printing::print(to, b"abort")?;
-            print_place(to, at)?;
-            print_blame(to, blame)
-        }
+        Ok(outcome) => print_outcome(to, outcome),
+        Err(refusal) => print_refusal(to, refusal),
     }
 }
 
@@ -76,10 +64,9 @@ pub fn answer_open<W: Write>(
     inputs: &[Word],
     scratch: &[Word],
 ) -> io::Result<()> {
-    let read = request.read;
     let answer = party::open_run(
-        read[PARTIES] as usize,
-        read[PARTY] as usize,
+        request.number(Field::Parties),
+        request.number(Field::Party),
         c,
         prep,
         inputs,
@@ -102,16 +89,14 @@ pub fn answer_send<W: Write>(
     ensures out { out.new ≡ send_out ops (party_in request c.now prep.now inputs.now) scratch.old (position_of request.at) coefficients.now nonce.now out.old }
     ensures scratch { scratch.new ≡ send_scratch ops (party_in request c.now prep.now inputs.now) scratch.old (position_of request.at) coefficients.now nonce.now (length out.old) }
 {
-    let read = request.read;
-    let at = request.at;
     let answer = party::send(
-        read[PARTIES] as usize,
-        read[PARTY] as usize,
+        request.number(Field::Parties),
+        request.number(Field::Party),
         c,
         prep,
         inputs,
         scratch,
-        at,
+        request.at,
         coefficients,
         nonce,
         out,
@@ -132,16 +117,14 @@ pub fn answer_receive<W: Write>(
 ) -> io::Result<()>
     ensures scratch { scratch.new ≡ receive_scratch ops (party_in request c.now prep.now inputs.now) scratch.old (position_of request.at) heard.now }
 {
-    let read = request.read;
-    let at = request.at;
     let answer = party::receive(
-        read[PARTIES] as usize,
-        read[PARTY] as usize,
+        request.number(Field::Parties),
+        request.number(Field::Party),
         c,
         prep,
         inputs,
         scratch,
-        at,
+        request.at,
         heard,
     );
     print_answer(to, answer)?;

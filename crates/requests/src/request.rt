@@ -1,81 +1,93 @@
 // What is read of a request.
-ghost use Rattle.std.specs.Prelude.{◌≤◌, ◌≡◌, length, take};
+ghost use Rattle.std.specs.Prelude.{◌≤◌, ◌≡◌};
 ghost use Rattle.requests.specs.Order as O;
 
-use crate::naming::{COMPLETE, LOST, OUTPUTS, is_field};
+use crate::naming::{Entry, FIELDS, Field, has};
 use circuit::Round;
-use field::Word;
 use party::Position;
 use protocol::Stage;
 
 // The most numbers of a list.
 pub const ROOM: usize = 65536;
 
-// The lists that are only read share one room, in which each has its place.
-pub const CIRCUIT_ROOM: usize = 0;
+// What the next line is to have: a field of an entry; or none, for the request is complete, has not begun, or is dropped.
+#[derive(Clone, Copy)]
+pub enum Wanted {
+    Field(Entry, Field),
+    Complete(Entry),
+    Outside,
+    Lost,
+}
 
-pub const PREP_ROOM: usize = 65536;
-
-pub const INPUTS_ROOM: usize = 131072;
-
-pub const WORDS_ROOM: usize = 196608;
-
-pub const NONCES_ROOM: usize = 262144;
-
-// The entry, the field that comes next, the position, and the number that is read of each field: of a list it is the length.
+// What comes next, the position, and the number that is read of each field: of a list it is the length.
 #[derive(Clone, Copy)]
 pub struct Request {
-    pub entry: usize,
-    pub wanted: usize,
+    pub wanted: Wanted,
     pub at: Position,
     pub read: [u32; 11],
 }
 
-// A request of which only the entry is known.
-pub fn started(entry: usize, wanted: usize) -> Request
-    ensures { result ≡ O.started entry wanted }
+impl Request {
+    // The number that is read of a field.
+    pub fn number(self, field: Field) -> usize
+        ensures { result ≡ O.number_of self field }
+    {
+        self.read[field.place()] as usize
+    }
+
+    // The length of the list of a field, no more than there is room for.
+    pub fn count(self, field: Field) -> usize
+        ensures { result ≤ 65536 }
+    {
+        self.number(field).min(ROOM)
+    }
+}
+
+// A request of which nothing is read.
+pub fn started(wanted: Wanted) -> Request
+    ensures { result ≡ O.started wanted }
 {
-    let read = [0; 11];
     Request {
-        entry,
         wanted,
         at: Position {
             gate: 0,
             stage: Stage::Send(Round::Own),
             held: 0,
         },
-        read,
+        read: [0; 11],
     }
 }
 
 // What comes next in a request of an entry: the first field after one that the entry has.
-fn following(entry: usize, field: usize) -> usize
+fn following(entry: Entry, field: Field) -> Wanted
     ensures { result ≡ O.following entry field }
 {
-    let mut next = field;
-    while next < OUTPUTS {
-        next += 1;
-        if !is_field(entry, next, b"-") {
-            return next;
-        }
+    let after = field.place() + 1;
+    match FIELDS[after..].iter().find(|next| has(entry, **next)) {
+        Some(next) => Wanted::Field(entry, *next),
+        None => Wanted::Complete(entry),
     }
-    COMPLETE
 }
 
 pub fn moved_on(request: Request) -> Request
     ensures { result ≡ O.moved_on request }
 {
-    let mut next = request;
-    next.wanted = following(request.entry, request.wanted);
-    next
+    match request.wanted {
+        Wanted::Field(entry, field) => Request {
+            wanted: following(entry, field),
+            ..request
+        },
+        _ => request,
+    }
 }
 
 pub fn dropped(request: Request) -> Request
     ensures { result ≡ O.dropped request }
 {
-    let mut next = request;
-    next.wanted = LOST;
-    next
+    Request {
+        wanted: Wanted::Lost,
+        ..request
+    }
 }
 
 // A request with the number that was wanted, or with the length of the list that was.
@@ -83,9 +95,8 @@ pub fn with_number(request: Request, n: u32) -> Request
     ensures { result ≡ O.with_number request n }
 {
     let mut next = request;
-    let wanted = request.wanted;
-    if wanted < COMPLETE {
-        next.read[wanted] = n;
+    if let Wanted::Field(_, field) = request.wanted {
+        next.read[field.place()] = n;
     }
     next
 }
@@ -93,27 +104,5 @@ pub fn with_number(request: Request, n: u32) -> Request
 pub fn with_position(request: Request, at: Position) -> Request
     ensures { result ≡ O.standing request at }
 {
-    let entry = request.entry;
-    let wanted = request.wanted;
-    let read = request.read;
-    Request {
-        entry,
-        wanted,
-        at,
-        read,
-    }
-}
-
-// A count of a list that is only read, or the most that there is room for.
-pub fn within(n: usize) -> usize
-    ensures { result ≤ 65536 }
-{
-    if n < ROOM { n } else { ROOM }
-}
-
-// A count, or the length of a list where the list is shorter.
-pub fn part(n: usize, list: &[Word]) -> usize
-    ensures { (result ≤ length list.now) × (result ≡ length (take result list.now)) }
-{
-    if n < list.len() { n } else { list.len() }
+    Request { at, ..request }
 }

@@ -1,27 +1,58 @@
 // Reading a line of a request, and storing its list. An error is the writer's, where a complaint is printed; the lists then have what was stored before it.
-ghost use Rattle.std.specs.Prelude.{◌≤◌, length};
+ghost use Rattle.std.specs.Prelude.{◌≡◌, length};
 
 use crate::bytes::all_bytes;
-use crate::naming::{CIRCUIT, INPUTS, NONCES, OUT, OUTPUTS, PREP, SCRATCH, WORDS, is_field};
-use crate::reading::{complain, complain_numbers, shorter, take_line};
-use crate::request::{
-    CIRCUIT_ROOM, INPUTS_ROOM, NONCES_ROOM, PREP_ROOM, ROOM, Request, WORDS_ROOM, dropped,
-    moved_on, part, with_number, within,
-};
+use crate::naming::{Field, field_name};
+use crate::reading::{complain, complain_numbers, take_line};
+use crate::request::{ROOM, Request, Wanted, dropped, moved_on, with_number};
 use field::Word;
 use std::io;
 use std::io::Write;
-use text::Numbers;
 
-// May these numbers be what is wanted? A text has only bytes, and so have nonces.
-fn fitting(request: Request, list: &[Word]) -> bool {
-    if is_field(request.entry, request.wanted, b"text") {
-        return all_bytes(list);
+// Room for a list of each field that is one.
+#[derive(Drop)]
+pub struct Lists {
+    pub circuit: [Word; ROOM],
+    pub prep: [Word; ROOM],
+    pub inputs: [Word; ROOM],
+    pub scratch: [Word; ROOM],
+    pub words: [Word; ROOM],
+    pub nonces: [Word; ROOM],
+    pub out: [Word; ROOM],
+    pub outputs: [Word; ROOM],
+}
+
+impl Lists {
+    fn room(&mut self, field: Field) -> Option<&mut [Word]> {
+        match field {
+            Field::Circuit => Some(&mut self.circuit),
+            Field::Prep => Some(&mut self.prep),
+            Field::Inputs => Some(&mut self.inputs),
+            Field::Scratch => Some(&mut self.scratch),
+            Field::Words => Some(&mut self.words),
+            Field::Nonces => Some(&mut self.nonces),
+            Field::Out => Some(&mut self.out),
+            Field::Outputs => Some(&mut self.outputs),
+            Field::Parties | Field::Party | Field::Position => None,
+        }
     }
-    if request.wanted == NONCES {
-        return all_bytes(list);
+}
+
+// Room of a size, in which nothing is yet.
+pub fn room<T: Copy, const N: usize>(zero: T) -> [T; N]
+    ensures { length result ≡ N }
+{
+    [zero; N]
+}
+
+// Is what is wanted bytes? A text is, and so are nonces.
+fn wants_bytes(wanted: Wanted) -> bool {
+    match wanted {
+        Wanted::Field(entry, field) => {
+            field == Field::Nonces || field_name(entry, field) == b"text".as_slice()
+        }
+        _ => false,
     }
-    true
 }
 
 // Reads the list that is wanted, which begins at a place of the line, into its room.
@@ -33,50 +64,21 @@ fn take_list<W: Write>(
     request: Request,
     list: &mut [Word],
 ) -> io::Result<Request> {
-    let start = shorter(from, line.len());
-    let read = text::read_numbers(&line[start..], list);
-    complain_numbers(to, number, read)?;
-    match read {
-        Numbers::Count(n) => {
-            let count = part(n, list);
-            if !fitting(request, &list[..count]) {
-                complain(to, number, b"a byte above 255")?;
+    let start = from.min(line.len());
+    match text::read_numbers(&line[start..], list) {
+        Ok(n) => {
+            let count = n.min(list.len());
+            if wants_bytes(request.wanted) && !all_bytes(&list[..count]) {
+                complain(to, number, "a byte above 255")?;
                 return Ok(dropped(request));
             }
-            Ok(moved_on(with_number(request, within(n) as u32)))
+            Ok(moved_on(with_number(request, n.min(ROOM) as u32)))
         }
-        _ => Ok(dropped(request)),
+        Err(fault) => {
+            complain_numbers(to, number, fault)?;
+            Ok(dropped(request))
+        }
     }
-}
-
-// Where the room of a list that is only read begins.
-fn place_of(wanted: usize) -> usize
-    ensures { result ≤ 262144 }
-{
-    match wanted {
-        CIRCUIT => CIRCUIT_ROOM,
-        PREP => PREP_ROOM,
-        INPUTS => INPUTS_ROOM,
-        NONCES => NONCES_ROOM,
-        _ => WORDS_ROOM,
-    }
-}
-
-// Reads a list that an entry only reads.
-fn take_given<W: Write>(
-    to: &mut W,
-    number: u64,
-    line: &[u8],
-    from: usize,
-    request: Request,
-    given: &mut [Word],
-) -> io::Result<Request>
-    requires { 327680 ≤ length given.old }
-{
-    let wanted = request.wanted;
-    let place = place_of(wanted);
-    let end = place + ROOM;
-    take_list(to, number, line, from, request, &mut given[place..end])
 }
 
 // Reads a line. The list that it has is stored in its room.
@@ -85,25 +87,15 @@ pub fn read_line<W: Write>(
     number: u64,
     line: &[u8],
     request: Request,
-    given: &mut [Word],
-    scratch: &mut [Word],
-    out: &mut [Word],
-    outputs: &mut [Word],
-) -> io::Result<Request>
-    requires { 327680 ≤ length given.old }
-{
+    lists: &mut Lists,
+) -> io::Result<Request> {
     let step = take_line(to, number, line, request)?;
     let next = step.request;
-    if !step.listed {
+    let (Some(from), Wanted::Field(_, field)) = (step.list, next.wanted) else {
         return Ok(next);
-    }
-    let from = step.from;
-    let wanted = next.wanted;
-    match wanted {
-        CIRCUIT | PREP | INPUTS | WORDS | NONCES => take_given(to, number, line, from, next, given),
-        SCRATCH => take_list(to, number, line, from, next, scratch),
-        OUT => take_list(to, number, line, from, next, out),
-        OUTPUTS => take_list(to, number, line, from, next, outputs),
-        _ => Ok(next),
+    };
+    match lists.room(field) {
+        Some(list) => take_list(to, number, line, from, next, list),
+        None => Ok(next),
     }
 }

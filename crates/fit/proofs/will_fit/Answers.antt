@@ -1,52 +1,67 @@
 -- `fit::will_fit` meets its contract: a refusal is told; else the walk is made, and only where nothing leaves its lists are handed over.
 -- Assumes nothing.
-use native.Mathlib.Omega.{arith}
-use Rattle.circuit.specs.Gate.{gates}
-use Rattle.circuit.specs.Code.{verdict_was}
-use Rattle.fit.specs.Code.{change_of, answer_of, found_of}
+use mathlib.Core.Path.{sym}
+use lib.Seq.{length-take-le}
+use Rattle.std.proofs.Common.{rules, arith}
+use Rattle.circuit.proofs.Verdicts.{asked_last}
+use Rattle.fit.specs.Code.{answer_of, found_of}
 use Rattle.fit.proofs.Holding.{held_blank}
-use Rattle.fit.proofs.Told.{kept_few, refused_told, told_few, told_tame, told_long, told_fair, leaves_told, front_fits, scores_fit, fits_told}
+use Rattle.fit.proofs.Told.{refused_told, told_few, told_tame, told_long, told_fair, leaves_told, ends_long, front_fits, scores_long, scores_fit, fits_told}
 use Rattle.fit.proofs.will_fit.Goals as goal
 
-pub returns-in-Refused : goal.returns-in-Refused
-unfolding verdict_was answer_of
-returns-in-Refused c =
-    let told = refused_told c.args.parties c.args.c.now c.args.ranges.now (change_of c.args.change) c.args.intervals.now c.args.moves.now (rw c.in-Refused.is at c.ask.ensures) in
-    record { answer = told.0; intervals = told.1.0; moves = told.1.1 }
+pub returns-in_err-ask : goal.returns-in_err-ask
+unfolding answer_of
+returns-in_err-ask c =
+    let told = refused_told _ _ _ _ _ _ (rw c.in_err-ask.was at c.ask.ensures) in
+    record { answer = search (rules, told.0); intervals = told.1.0; moves = told.1.1 }
 
 pub walk-requires : goal.walk-requires
-unfolding verdict_was
 walk-requires c =
-    (told_few c.args.parties c.args.c.now c.args.ranges.now (change_of c.args.change) c.args.intervals.now c.args.moves.now (rw c.in-Accepted.is at c.ask.ensures), told_tame c.args.parties c.args.c.now c.args.ranges.now (change_of c.args.change) c.args.intervals.now c.args.moves.now (rw c.in-Accepted.is at c.ask.ensures), told_long c.args.parties c.args.c.now c.args.ranges.now (change_of c.args.change) c.args.intervals.now c.args.moves.now (rw c.in-Accepted.is at c.ask.ensures), told_fair c.args.parties c.args.c.now c.args.ranges.now (change_of c.args.change) c.args.intervals.now c.args.moves.now (rw c.in-Accepted.is at c.ask.ensures), held_blank _, held_blank _, held_blank _)
+    let e = asked_last c.ask.ensures c.in_ok-ask.was in
+    (told_few _ _ _ _ _ _ e, told_tame _ _ _ _ _ _ e, told_long _ _ _ _ _ _ e, told_fair _ _ _ _ _ _ e, held_blank _, held_blank _, held_blank _)
+
+pub overflow_mul-numbers : goal.overflow_mul-numbers
+overflow_mul-numbers c =
+    omega (arith, told_few _ _ _ _ _ _ (asked_last c.ask.ensures c.in_ok-ask.was))
+
+pub slice_bounds-ends-end : goal.slice_bounds-ends-end
+unfolding found_of
+slice_bounds-ends-end c =
+    ends_long _ _ _ _ _ _ (asked_last c.ask.ensures c.in_ok-ask.was) _ _ _ _ c.gates_of-numbers.ensures c.in-Ok.ensures.found c.in-Ok.ensures.lists
 
 pub slice_bounds-copy-end : goal.slice_bounds-copy-end
-unfolding verdict_was gates
+unfolding found_of
 slice_bounds-copy-end c =
-    omega (arith, told_few c.args.parties c.args.c.now c.args.ranges.now (change_of c.args.change) c.args.intervals.now c.args.moves.now (rw c.in-Accepted.is at c.ask.ensures), (rw c.in-Fits.is at c.walk.ensures.lists).0.long)
+    sym (length-take-le _ _ (ends_long _ _ _ _ _ _ (asked_last c.ask.ensures c.in_ok-ask.was) _ _ _ _ c.gates_of-numbers.ensures c.in-Ok.ensures.found c.in-Ok.ensures.lists))
 
 pub copy-requires : goal.copy-requires
-unfolding verdict_was found_of gates
+unfolding found_of
 copy-requires c =
-    front_fits c.args.parties c.args.c.now c.args.ranges.now (change_of c.args.change) c.args.intervals.now c.args.moves.now (rw c.in-Accepted.is at c.ask.ensures) _ c.walk.new.moves _ (rw c.in-Fits.is at c.walk.ensures.found) (rw c.in-Fits.is at c.walk.ensures.lists)
+    front_fits _ _ _ _ _ _ (asked_last c.ask.ensures c.in_ok-ask.was) _ _ _ _ c.gates_of-numbers.ensures c.in-Ok.ensures.found c.in-Ok.ensures.lists
 
-pub slice_bounds-copy-end-in-Fits : goal.slice_bounds-copy-end-in-Fits
-unfolding verdict_was
-slice_bounds-copy-end-in-Fits c =
-    kept_few c.args.c.now c.args.ranges.now c.walk.new.scores (told_few c.args.parties c.args.c.now c.args.ranges.now (change_of c.args.change) c.args.intervals.now c.args.moves.now (rw c.in-Accepted.is at c.ask.ensures)) (rw c.in-Fits.is at c.walk.ensures.lists).2 (change_of c.args.change) c.walk.new.moves c.in-Fits.outs (rw c.in-Fits.is at c.walk.ensures.lists).1
+pub slice_bounds-scores-end : goal.slice_bounds-scores-end
+unfolding found_of
+slice_bounds-scores-end c =
+    scores_long _ _ _ _ _ _ (asked_last c.ask.ensures c.in_ok-ask.was) _ _ _ _ c.gates_of-numbers.ensures c.in-Ok.ensures.found c.in-Ok.ensures.lists
 
-pub copy-requires-in-Fits : goal.copy-requires-in-Fits
-unfolding verdict_was found_of
-copy-requires-in-Fits c =
-    scores_fit c.args.parties c.args.c.now c.args.ranges.now (change_of c.args.change) c.args.intervals.now c.args.moves.now (rw c.in-Accepted.is at c.ask.ensures) c.walk.new.scores c.walk.new.moves c.in-Fits.outs (rw c.in-Fits.is at c.walk.ensures.found) (rw c.in-Fits.is at c.walk.ensures.lists)
+pub slice_bounds-copy-end-in-Ok : goal.slice_bounds-copy-end-in-Ok
+unfolding found_of
+slice_bounds-copy-end-in-Ok c =
+    sym (length-take-le _ _ (scores_long _ _ _ _ _ _ (asked_last c.ask.ensures c.in_ok-ask.was) _ _ _ _ c.gates_of-numbers.ensures c.in-Ok.ensures.found c.in-Ok.ensures.lists))
 
-pub returns-in-Leaves : goal.returns-in-Leaves
-unfolding verdict_was answer_of found_of
-returns-in-Leaves c =
-    let told = leaves_told c.args.parties c.args.c.now c.args.ranges.now (change_of c.args.change) c.args.intervals.now c.args.moves.now (rw c.in-Accepted.is at c.ask.ensures) (rw c.in-Leaves.is at c.walk.ensures.found) in
+pub copy-requires-in-Ok : goal.copy-requires-in-Ok
+unfolding found_of
+copy-requires-in-Ok c =
+    scores_fit _ _ _ _ _ _ (asked_last c.ask.ensures c.in_ok-ask.was) _ _ _ _ c.gates_of-numbers.ensures c.in-Ok.ensures.found c.in-Ok.ensures.lists
+
+pub returns-in-Ok : goal.returns-in-Ok
+unfolding found_of answer_of
+returns-in-Ok c =
+    let told = fits_told _ _ _ _ _ _ (asked_last c.ask.ensures c.in_ok-ask.was) _ _ _ _ c.gates_of-numbers.ensures c.in-Ok.ensures.found c.in-Ok.ensures.lists c.copy.ensures c.copy-in-Ok.ensures in
     record { answer = told.0; intervals = told.1.0; moves = told.1.1 }
 
-pub returns-in-Fits : goal.returns-in-Fits
-unfolding verdict_was answer_of found_of gates
-returns-in-Fits c =
-    let told = fits_told c.args.parties c.args.c.now c.args.ranges.now (change_of c.args.change) c.args.intervals.now c.args.moves.now (rw c.in-Accepted.is at c.ask.ensures) c.walk.new.scores c.walk.new.moves c.in-Fits.outs (rw c.in-Fits.is at c.walk.ensures.found) (rw c.in-Fits.is at c.walk.ensures.lists) c.copy.ensures c.copy-in-Fits.ensures in
+pub returns-in-Err : goal.returns-in-Err
+unfolding found_of answer_of
+returns-in-Err c =
+    let told = leaves_told _ _ _ _ _ _ (asked_last c.ask.ensures c.in_ok-ask.was) c.in-Err.ensures.found in
     record { answer = told.0; intervals = told.1.0; moves = told.1.1 }

@@ -1,5 +1,6 @@
 -- `fit::working::follow` meets its contract: the move of the gate is put, and an output's score has that of the gate that it names.
 -- Assumes nothing.
+use Rattle.std.proofs.Common.{rules}
 use Rattle.fit.proofs.Walks.{out_said, gates_within, stepped_out, stepped_other}
 use Rattle.fit.proofs.working.follow.Goals as goal
 
@@ -9,8 +10,8 @@ has_value_at-requires c =
 
 pub returns-then-not-has_value_at : goal.returns-then-not-has_value_at
 returns-then-not-has_value_at c =
-    stepped_out _ _ _ _ _ (gates_within _ _ c.requires.there) c.requires.few c.requires.tame _ c.move_at-m.ensures c.first_at-first.ensures (out_said _ _ c.has_value_at.ensures c.if-not-has_value_at.true-raw) c.requires.scored c.requires.low
+    stepped_out _ _ _ _ _ (gates_within _ _ c.requires.there) c.requires.few c.requires.tame _ c.move_at-m.ensures c.first_at-first.ensures (out_said _ _ c.has_value_at.ensures (search rules)) c.requires.scored c.requires.low
 
 pub returns : goal.returns
 returns c =
-    stepped_other _ _ _ _ _ (gates_within _ _ c.requires.there) c.requires.few c.requires.tame _ c.move_at-m.ensures (out_said _ _ c.has_value_at.ensures c.if-not-has_value_at.false-raw) c.requires.scored c.requires.low
+    stepped_other _ _ _ _ _ (gates_within _ _ c.requires.there) c.requires.few c.requires.tame _ c.move_at-m.ensures (out_said _ _ c.has_value_at.ensures (search rules)) c.requires.scored c.requires.low

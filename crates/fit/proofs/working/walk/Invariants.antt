@@ -1,12 +1,6 @@
-use Prim.Native.Nat.{◌-◌}
-use mathlib.Core.Path.{◌≡◌}
-use Rattle.circuit.specs.Gate.{gates}
 use Rattle.fit.specs.Code.{change_of}
 use Rattle.fit.proofs.Walks.{Course}
 use Rattle.fit.proofs.working.walk.Given as goal
 
 abbrev pub invariant-loop-j : goal.invariant-loop-j
-invariant-loop-j l = Course (change_of l.change) l.c l.ranges l.ends l.moves l.scores l.ins l.outs l.j × (l.count ≡ gates l.c)
-
-abbrev pub decreases-loop-j : goal.decreases-loop-j
-decreases-loop-j l = l.count - l.j
+invariant-loop-j l = Course (change_of l.change) l.c l.ranges l.ends l.moves l.scores l.ins l.outs l.j

@@ -1,4 +1,4 @@
-use Prim.Native.Nat.{ℕ, ◌-◌, ◌<◌, ◌≤◌}
+use Prim.Native.Nat.{ℕ, ◌<◌}
 use mathlib.Core.Path.{◌≡◌}
 use Rattle.circuit.specs.Valid.{ValidGate}
 use Rattle.gates.specs.Weight.{weight_before}
@@ -6,7 +6,4 @@ use Rattle.gates.proofs.asking.well.Given as goal
 
 abbrev pub invariant-loop-j : goal.invariant-loop-j
 invariant-loop-j l =
-    (l.j ≤ l.to) × ((i : ℕ) → i < l.j → ValidGate l.parties l.size l.c i) × (l.sum ≡ weight_before l.c l.me l.j)
-
-abbrev pub decreases-loop-j : goal.decreases-loop-j
-decreases-loop-j l = l.to - l.j
+    ((i : ℕ) → i < l.j → ValidGate l.parties l.size l.c i) × (l.sum ≡ weight_before l.c l.me l.j)

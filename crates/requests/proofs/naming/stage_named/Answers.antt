@@ -1,9 +1,13 @@
--- `requests::naming::stage_named` meets its contract: the stages are tried in the definition's order, the last first.
+-- `requests::naming::stage_named` meets its contract: the first whose name is the word is found.
 -- Assumes nothing.
-use Rattle.requests.specs.Names.{rounds, try_rounds, stage_named}
+use Rattle.std.proofs.Common.{◌∙◌, rules, tests}
+use Rattle.std.proofs.lemmas.Iterator.{YieldsList-from_slice}
+use Rattle.std.proofs.lemmas.Iterator.Search.{find_from_yields_List}
+use Rattle.text.specs.Text.{alike}
+use Rattle.requests.specs.Names.{stage_name, stages, stage_named}
 use Rattle.requests.proofs.naming.stage_named.Goals as goal
 
 pub returns : goal.returns
-unfolding rounds try_rounds stage_named
+unfolding stages stage_named
 returns c =
-    rw (c.try_round.ensures, c.try_round-found-5.ensures, c.try_round-found-4.ensures, c.try_round-found-3.ensures, c.try_round-found-2.ensures, c.try_round-found.ensures, c.try_stage-found-2.ensures, c.try_stage-found.ensures)
+    c.copied.ensures ∙ find_from_yields_List (λ x. alike c.args.word.now (stage_name x)) _ _ c.find.result c.find.ensures.ran (YieldsList-from_slice stages c.iter.ensures.rest) (λ x b q k. search (rules, tests))

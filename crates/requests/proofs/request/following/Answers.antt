@@ -1,28 +1,26 @@
--- `requests::request::following` meets its contract: what follows each field that is passed is what follows the first.
+-- `requests::request::following` meets its contract: the first that the entry has is found.
 -- Assumes nothing.
-use Prim.Native.Nat.{◌+◌}
-use mathlib.Core.Path.{refl, sym, ap, ◌∙◌}
-use mathlib.Core.Bool.{not}
-use native.Mathlib.Omega.{arith}
-use borrow.Author.Rules.{rules}
-use Rattle.requests.specs.Names.{bytes}
-use Rattle.requests.specs.Order as O
-use Rattle.requests.proofs.Order.{first_here, first_later, first_none}
+use Rattle.std.proofs.Common.{◌+◌, ◌≡◌, ◌∙◌, drop, rules, tests}
+use Rattle.std.proofs.lemmas.Iterator.{YieldsList-from_slice}
+use Rattle.std.proofs.lemmas.Iterator.Search.{find_from_yields_List}
+use Rattle.std.proofs.lemmas.List.{take_rest}
+use Rattle.std.specs.Slice.Iter.{iter_rest}
+use Rattle.requests.specs.Names.{fields, place, has}
+use Rattle.requests.specs.Order.{following}
 use Rattle.requests.proofs.request.following.Goals as goal
 
-pub loop-next-init : goal.loop-next-init
-loop-next-init c = refl
+pub returns-in-Some : goal.returns-in-Some
+unfolding fields following
+returns-in-Some c =
+    let after = drop (place c.args.field + 1) fields in
+    let rest : iter_rest c.iter.result ≡ after = c.iter.ensures.rest ∙ rw c.place-after.ensures.same (take_rest fields (place c.args.field + 1)) in
+    let found = find_from_yields_List (has c.args.entry) _ _ c.find.result c.find.ensures.ran (YieldsList-from_slice after rest) (λ x b q k. search (rules, tests)) in
+    rw (← found, c.in-Some.is)
 
-pub returns-then-not-is_field : goal.returns-then-not-is_field
-unfolding bytes O.has O.following
-returns-then-not-is_field c =
-    first_here (O.has c.args.entry) _ _ (c.loop-next.next + 1) (omega arith) (ap not (sym c.is_field.ensures) ∙ search rules) ∙ c.loop-next.invariant
-
-pub loop-next-preserved : goal.loop-next-preserved
-unfolding bytes O.has O.following
-loop-next-preserved c =
-    first_later (O.has c.args.entry) _ _ (c.loop-next.next + 1) (omega arith) (ap not (sym c.is_field.ensures) ∙ search rules) ∙ c.loop-next.invariant
-
-pub returns : goal.returns
-unfolding O.following
-returns c = first_none (O.has c.args.entry) _ _ (c.loop-next.next + 1) (omega arith) ∙ c.loop-next.invariant
+pub returns-in-None : goal.returns-in-None
+unfolding fields following
+returns-in-None c =
+    let after = drop (place c.args.field + 1) fields in
+    let rest : iter_rest c.iter.result ≡ after = c.iter.ensures.rest ∙ rw c.place-after.ensures.same (take_rest fields (place c.args.field + 1)) in
+    let found = find_from_yields_List (has c.args.entry) _ _ c.find.result c.find.ensures.ran (YieldsList-from_slice after rest) (λ x b q k. search (rules, tests)) in
+    rw (← found, c.in-None.is)

@@ -1,9 +1,0 @@
--- `gates::reading::second_at` meets its contract: it is the third of a gate's four numbers.
--- Assumes nothing.
-use Rattle.circuit.specs.Gate.{entry, gate}
-use Rattle.gates.proofs.reading.second_at.Goals as goal
-
-pub returns : goal.returns
-unfolding gate entry
-returns c =
-    c.index.ensures
