@@ -8,7 +8,7 @@ use native.Mathlib.Omega.{arith}
 use Rattle.std.specs.Prelude.{Option, Some, None}
 use lib.ListN.{length, drop}
 use Rattle.field.specs.Words.{size, ops}
-use Rattle.circuit.specs.Verdict.{Verdict, Accepted, Refused, ◌then◌}
+use Rattle.circuit.specs.Verdict.{Verdict, Accepted, ◌then◌}
 use Rattle.circuit.specs.Gate.{gate_size, gate, gates}
 use Rattle.circuit.specs.Kind.{is_give, seen_by, alone}
 use Rattle.circuit.specs.Count.{unchecked}
@@ -25,7 +25,7 @@ use Rattle.protocol.specs.Ready.{Ready}
 use Rattle.protocol.specs.declared.Stage as D
 use Rattle.protocol.specs.declared.Layout.{Layout}
 use Rattle.protocol.specs.declared.Site.{Site}
-use Rattle.protocol.specs.Ask.{most_parties, ask_lent, ask_send_round, ask_receive_round, ask_send, ask_receive}
+use Rattle.protocol.specs.Ask.{most_parties, ask_send_round, ask_receive_round, ask_send, ask_receive}
 use Rattle.protocol.specs.Entry as E
 use Rattle.party.specs.Code.{position_of, leads_to, Posed, place_of, LentTo, RoundAt, Sendable, Receivable}
 use Rattle.party.specs.declared.Position.{Position}

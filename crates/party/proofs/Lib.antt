@@ -5,3 +5,4 @@ pub mod Halves
 pub mod Answers
 pub mod Slots
 pub mod Loops
+pub mod Elements

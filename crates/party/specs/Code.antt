@@ -11,7 +11,6 @@ use Rattle.circuit.specs.Count.{capacity, unchecked}
 use Rattle.circuit.specs.Round.{Round, opened_in}
 use Rattle.circuit.specs.Accept.{most_gates}
 use Rattle.circuit.specs.Question.{number_of}
-use Rattle.circuit.specs.Code.{round_of}
 use Rattle.circuit.specs.declared.questions.Refusal.{Refusal}
 use Rattle.protocol.specs.Scratch as S
 use Rattle.protocol.specs.Position as At

@@ -1,13 +1,13 @@
 // The questions at a party's entries.
-ghost use Rattle.std.specs.Prelude.{◌≡◌, ◌↔◌, true, cond, ℕ, ◌+◌, ◌*◌, ◌<◌, ◌≤◌, length, get_or, ltb, leb, eqb, IfOk};
+ghost use Rattle.std.specs.Prelude.{◌≡◌, ◌↔◌, true, cond, ℕ, ◌+◌, ◌*◌, ◌<◌, ◌≤◌, length, get_or, position, ltb, leb, eqb, IfOk};
 ghost use Rattle.field.specs.Words.{size};
 ghost use Rattle.circuit.specs.Verdict.{ask, ◌then◌, each, elements};
 ghost use Rattle.circuit.specs.Question.{number_of, verdict_of};
 ghost use Rattle.circuit.specs.Gate.{gate_size, gates};
 ghost use Rattle.circuit.specs.Count.{unchecked};
 ghost use Rattle.circuit.specs.Accept.{ask_circuit};
-ghost use Rattle.circuit.specs.Round.{is_reveal, reveal_words, shape_words, coefficients_in, nonce_in};
-ghost use Rattle.circuit.specs.Code.{round_of, shape_of};
+ghost use Rattle.circuit.specs.Round.{is_reveal, reveal_words, coefficients_in, nonce_in};
+ghost use Rattle.circuit.specs.Code.{round_of};
 ghost use Rattle.protocol.specs.Scratch.{layout};
 ghost use Rattle.protocol.specs.Position.{may_hold, stage_occurs, occurs};
 ghost use Rattle.protocol.specs.Party.{party_of};
@@ -52,18 +52,24 @@ fn all_elements(xs: &[Word]) -> bool
     all
 }
 
+// Where the first number of a list stands that is no element.
+fn no_element(xs: &[Word]) -> Option<usize>
+    ensures { result ≡ position (leb size) xs.now }
+{
+    xs.iter().position(|x| field::SIZE <= *x)
+}
+
 // Are the numbers of a list elements? The index of one that is not is looked for only if there is one.
-#[tactic(auto, using(crate::proofs::Loops::asked_each), unfolding(circuit::specs::Verdict::elements))]
 pub fn ask_elements(question: Question, xs: &[Word]) -> Result<(), Refusal>
     ensures { verdict_of result ≡ elements (number_of question) size xs.now }
 {
     if all_elements(xs) {
         return Ok(());
     }
-    for k in 0..xs.len() {
-        ask(question, k, xs[k] < field::SIZE)?;
+    match no_element(xs) {
+        Some(index) => Err(Refusal { question, index }),
+        None => Ok(()),
     }
-    Ok(())
 }
 
 // Question 20 of a reveal: of the check shares of so many parties, each the first of its words.

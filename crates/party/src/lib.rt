@@ -76,11 +76,12 @@ pub fn open_run(
         ≡ open_answer ops (party_of parties me c.now prep.now inputs.now) l.now }
 {
     asking::ask_lent(parties, me, c, prep, inputs, l, 0)?;
-    Ok(Outcome::Next(Position {
+    let start = Position {
         gate: 0,
         stage: Stage::Send(Round::Own),
         held: 0,
-    }))
+    };
+    Ok(Outcome::Next(start))
 }
 
 // Sending: the words of the position's round, and the position to receive at. A commitment notes its nonce in the scratch.

@@ -7,6 +7,7 @@ use mathlib.Core.List.{List}
 use native.Mathlib.Omega.{arith}
 use native.Mathlib.Numerals.{add-one}
 use lib.ListN.{length}
+use Rattle.std.specs.Prelude.{Option, None, Some, MatchOption, unwrap_or}
 use Rattle.algebra.specs.Ops.{Ops}
 use Rattle.algebra.specs.Field.{Field}
 use Rattle.algebra.proofs.Ring.{inv_lt}
@@ -191,6 +192,23 @@ module _ (c : List ℕ) (n b : ℕ) where
     -- the gates before the stop are linear
     pub reaching_linear : j < reach c (n - b) b → (j < n) × (is_linear (gate c j) ≡ true)
     reaching_linear h = let k = before_stop c (n - j) j (omega (arith, h, inv.place)) in (omega (arith, k.0), k.1)
+
+  reached : (k : ℕ) → b + k ≤ n → ((i : ℕ) → b ≤ i → i < b + k → is_linear (gate c i) ≡ true) → Reaching c n b (b + k)
+  reached zero h e = let z : b + 0 ≡ b = omega arith in rw z (reaching_start (omega arith))
+  reached (suc k) h e =
+      let z : b + suc k ≡ b + k + 1 = omega arith in
+      rw z (reaching_again (b + k) (reached k (omega arith) (λ i l m. e i l (omega arith))) (omega arith) (e (b + k) (omega arith) (omega arith)))
+
+  reached_at : (j : ℕ) → b ≤ j → j ≤ n → ((i : ℕ) → b ≤ i → i < j → is_linear (gate c i) ≡ true) → Reaching c n b j
+  reached_at j l h e = let z : b + (j - b) ≡ j = omega arith in rw z at (reached (j - b) (omega arith) (λ i m k. e i m (omega arith)))
+
+  -- the first gate that is not linear, or none
+  pub first_stop : b ≤ n → (r : Option ℕ)
+      → MatchOption r ((k : ℕ) → b ≤ k → k < n → is_linear (gate c k) ≡ true)
+      (λ i. (b ≤ i) × (i < n) × (is_linear (gate c i) ≡ false) × ((k : ℕ) → b ≤ k → k < i → is_linear (gate c k) ≡ true))
+      → unwrap_or r n ≡ reach c (n - b) b
+  first_stop h None f = reaching_done n (reached_at n h (omega arith) f) (omega arith)
+  first_stop h (Some i) f = reaching_stop i (reached_at i f.0 (omega (arith, f.1)) f.3) f.1 f.2
 
 -- the linear gates keep what was worked out and opened
 pub settle_keeps : {O : Ops} (F : Field O) (c : List ℕ) (y : Layout) (i key u left j : ℕ) (l : List ℕ)

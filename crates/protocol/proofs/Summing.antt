@@ -1,13 +1,12 @@
 -- How the sums over words heard and over opened entries go on by one term.
 -- Assumes nothing.
 use Prim.Native.Nat.{ℕ, zero, suc, ◌+◌, ◌*◌, ◌<◌, ◌≤◌}
-use mathlib.Core.Path.{◌≡◌, refl, ap, ◌∙◌, subst}
+use mathlib.Core.Path.{◌≡◌, refl, ap, subst}
 use mathlib.Core.List.{List}
 use native.Mathlib.Omega.{arith}
 use native.Mathlib.Numerals.{add-one}
 use native.Mathlib.Nat.{le_trans, mul-le-mul_right, suc-mul}
 use lib.ListN.{length, get_or}
-use Rattle.algebra.specs.Element.{Is}
 use Rattle.algebra.specs.Ops.{Ops}
 use Rattle.algebra.specs.Field.{Field}
 use Rattle.algebra.proofs.Ring.{add_lt}
@@ -16,7 +15,6 @@ use Rattle.algebra.specs.Sum.{sum}
 use Rattle.protocol.specs.Scratch.{Layout, Value, ValueMac, offset, slots_size, read}
 use Rattle.protocol.specs.Holding.{Opened}
 use Rattle.protocol.specs.Send.{check_share}
-use Rattle.protocol.specs.Receive.{heard_sum}
 
 -- i terms of a row are added up
 pub record Added (O : Ops) (f : ℕ → ℕ) (i acc : ℕ) : Type 0 where
@@ -90,40 +88,3 @@ check_made O y l k key coefficients g h d f = rw (f, d, g, h)
 -- n parties sent k words each: those of party i end before the list does
 pub words_fit : (n k i : ℕ) {len : ℕ} → i < n → n * k ≤ len → i * k + k ≤ len
 words_fit n k i h f = le_trans (subst (λ (m : ℕ). m ≤ n * k) (suc-mul i k) (mul-le-mul_right k h)) f
-
--- word t of the first i of n parties is added up, and that of the next stands at at
-pub record Hearing (O : Ops) (n k t : ℕ) (heard : List ℕ) (acc at i : ℕ) : Type 0 where
-  pub upto : i ≤ n
-  pub place : at ≡ i * k + t
-  pub added : Added O (λ z. get_or heard (z * k + t) 0) i acc
-
-module _ {O : Ops} (F : Field O) (n k t : ℕ) (heard : List ℕ) where
-  pub hearing_start : Hearing O n k t heard 0 t 0
-  hearing_start = record { upto = omega arith; place = omega arith; added = added_start F _ }
-
-  module _ (acc at i : ℕ) (inv : Hearing O n k t heard acc at i) where
-    pub hearing_in : i < n → t < k → n * k ≤ length heard → (at < length heard) × (k ≤ length heard)
-    hearing_in h tk f =
-        let e : i * k + k ≤ length heard = words_fit n k i h f in
-        let g : at ≡ i * k + t = inv.place in
-        (omega arith, omega arith)
-
-    pub hearing_again : i < n → {r : ℕ} → r ≡ O.add acc (get_or heard at 0) → Hearing O n k t heard r (at + k) (i + 1)
-    hearing_again h e =
-        record {
-          upto = omega arith;
-          place = ap (λ (x : ℕ). x + k) inv.place ∙ step;
-          added = added_more F (λ z. get_or heard (z * k + t) 0) i acc inv.added (ap (λ (z : ℕ). get_or heard z 0) inv.place) e;
-        }
-      where
-        step : i * k + t + k ≡ (i + 1) * k + t
-        step =
-            let f : suc i * k ≡ i * k + k = suc-mul i k in
-            let g : (i + 1) * k ≡ suc i * k = ap (λ (z : ℕ). z * k) (add-one i) in
-            omega arith
-
-    pub hearing_done : n ≤ i → Is O.size (heard_sum O n k t heard) acc
-    unfolding heard_sum
-    hearing_done h =
-        let e : i ≡ n = omega (arith, inv.upto) in
-        record { is = rw (← e) inv.added.is; below = inv.added.below }

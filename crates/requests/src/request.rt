@@ -11,17 +11,6 @@ use protocol::Stage;
 // The most numbers of a list.
 pub const ROOM: usize = 65536;
 
-// The lists that are only read share one room, in which each has its place.
-pub const CIRCUIT_ROOM: usize = 0;
-
-pub const PREP_ROOM: usize = 65536;
-
-pub const INPUTS_ROOM: usize = 131072;
-
-pub const WORDS_ROOM: usize = 196608;
-
-pub const NONCES_ROOM: usize = 262144;
-
 // What the next line is to have: a field of an entry; or none, for the request is complete, has not begun, or is dropped.
 #[derive(Clone, Copy)]
 pub enum Wanted {
@@ -45,6 +34,13 @@ impl Request {
         ensures { result ≡ O.number_of self field }
     {
         self.read[field.place()] as usize
+    }
+
+    // The length of the list of a field, no more than there is room for.
+    pub fn count(self, field: Field) -> usize
+        ensures { result ≤ 65536 }
+    {
+        within(self.number(field))
     }
 }
 

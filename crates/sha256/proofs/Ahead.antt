@@ -1,6 +1,7 @@
 -- The rounds of a block, turn by turn, with its schedule sixteen words ahead of them: what their loop keeps.
 -- Assumes nothing.
-use Rattle.std.proofs.Common.{◌≡◌, ℕ, zero, suc, ◌+◌, ◌-◌, ◌%◌, ◌<◌, ◌≤◌, List, [], ◌∷◌, ◌++◌, length, take, drop, sym, refl, ap, ◌∙◌, suc-add, zero-add, arith, length-append, length-drop, drop_of_length-le, length-take-le, take_all, take-take, drop-drop, take_at}
+use Rattle.std.proofs.Common.{◌≡◌, ℕ, ◌+◌, ◌-◌, ◌%◌, ◌<◌, ◌≤◌, List, ◌++◌, length, take, drop, sym, refl, ap, ◌∙◌, arith, length-append, length-drop, drop_of_length-le, length-take-le, take_all, take-take, drop-drop, take_at}
+use Rattle.std.proofs.lemmas.List.{drop-take}
 use Rattle.sha256.specs.Sha256.{K, extend, schedule, rounds}
 use Rattle.sha256.proofs.Filling.{no_word, length_extend, extend_extend, take_schedule, length_schedule}
 use Rattle.sha256.proofs.Turns.{rounds_split}
@@ -8,12 +9,6 @@ use Rattle.sha256.proofs.Turns.{rounds_split}
 length_K : length K ≡ 64
 unfolding K
 length_K = refl
-
-drop_take : (n m : ℕ) (l : List ℕ) → drop n (take (n + m) l) ≡ take m (drop n l)
-drop_take zero m l = rw zero-add
-drop_take (suc n) zero [] = rw suc-add
-drop_take (suc n) (suc m) [] = rw suc-add
-drop_take (suc n) m (x ∷ l) = rw suc-add (drop_take n m l)
 
 -- w has the first n words of the schedule of the block that w₀ begins with
 pub record Ahead (w₀ w : List ℕ) (n : ℕ) : Type 0 where
@@ -24,7 +19,7 @@ pub record Ahead (w₀ w : List ℕ) (n : ℕ) : Type 0 where
 part_same : {w₀ w : List ℕ} {n : ℕ} (t : ℕ) → t + 8 ≤ n → Ahead w₀ w n → take 8 (drop t w) ≡ take 8 (drop t (schedule (take 16 w₀)))
 part_same {w₀} {w} {n} t h a =
     let s : List ℕ = schedule (take 16 w₀) in
-    sym (drop_take t 8 w) ∙ ap (drop t) (sym (take-take (t + 8) n w h) ∙ ap (take (t + 8)) a.same ∙ take-take (t + 8) n s h) ∙ drop_take t 8 s
+    sym (drop-take t 8 w) ∙ ap (drop t) (sym (take-take (t + 8) n w h) ∙ ap (take (t + 8)) a.same ∙ take-take (t + 8) n s h) ∙ drop-take t 8 s
 
 -- the rounds from t on, from v, give what all rounds give from h
 pub record Turning (w₀ h w v : List ℕ) (t : ℕ) : Type 0 where
@@ -76,9 +71,9 @@ pub ahead_still : {w₀ h w v w' : List ℕ} {t : ℕ} → Turning w₀ h w v t 
 ahead_still {w₀} {h} {w} {v} {w'} {t} r le e =
     record { long = ap length e ∙ r.ahead.long; same = ap (take (t + 24)) (e ∙ filled r.long (omega arith) r.ahead) }
 
-pub turning_again : {w₀ h w w' k v v' : List ℕ} {t : ℕ} → Turning w₀ h w v t → t < 64 → k ≡ K → Ahead w₀ w' (t + 24)
-    → v' ≡ rounds (take (t + 8 - t) (drop t k)) (take (t + 8 - t) (drop t w')) v → Turning w₀ h w' v' (t + 8)
-turning_again {w₀} {h} {w} {w'} {k} {v} {v'} {t} r lt ek a e =
+pub turning_again : {w₀ h w w' k v v' : List ℕ} {t t' : ℕ} → Turning w₀ h w v t → t < 64 → t' ≡ t + 8 → k ≡ K → Ahead w₀ w' (t + 24)
+    → v' ≡ rounds (take (t + 8 - t) (drop t k)) (take (t + 8 - t) (drop t w')) v → Turning w₀ h w' v' t'
+turning_again {w₀} {h} {w} {w'} {k} {v} {v'} {t} r lt et ek a e =
     let s : List ℕ = schedule (take 16 w₀) in
     let ls : length s ≡ 64 = length_schedule (take 16 w₀) (block_long w₀ r.long) in
     let n : t + 24 ≡ t + 8 + 16 = omega arith in
@@ -88,7 +83,8 @@ turning_again {w₀} {h} {w} {w'} {k} {v} {v'} {t} r lt ek a e =
     sym
     (e ∙ (λ i. rounds (take (m i) (drop t (ek i))) (take (m i) (drop t w')) v)
     ∙ ap (λ (l : List ℕ). rounds (take 8 (drop t K)) l v) (part_same t (omega arith) a)) in
-    record {
+    rw et
+    (record {
       long = r.long;
       within = fits;
       whole = omega (arith, r.whole);
@@ -97,7 +93,7 @@ turning_again {w₀} {h} {w} {w'} {k} {v} {v'} {t} r lt ek a e =
           r.rest
           ∙ rounds_split 8 (drop t K) (drop t s) v (omega (arith, length-drop t K, length_K)) (omega (arith, length-drop t s))
           ∙ (λ i. rounds (drop-drop 8 t K i) (drop-drop 8 t s i) (u i));
-    }
+    })
 
 pub turning_done : {w₀ h w v : List ℕ} {t : ℕ} → 64 ≤ t → Turning w₀ h w v t
     → (v ≡ rounds K (schedule (take 16 w₀)) h) × (w ≡ schedule (take 16 w₀))

@@ -1,6 +1,9 @@
 -- Words as bytes and bytes as words, high byte first: each way undoes the other.
 -- Assumes nothing.
-use Rattle.std.proofs.Common.{◌≡◌, ℕ, zero, suc, ◌+◌, ◌*◌, ◌/◌, ◌%◌, ◌^◌, ◌<◌, ◌≤◌, List, [], ◌∷◌, ◌++◌, length, get_or, drop, set, sym, refl, ap, ◌∙◌, ap₂, append_assoc, div-add-mod', arith, pow_pos, shr-shr}
+use Rattle.std.proofs.Common.{◌≡◌, ℕ, zero, suc, ◌+◌, ◌*◌, ◌/◌, ◌%◌, ◌^◌, ◌<◌, ◌≤◌, List, [], ◌∷◌, ◌++◌, length, get_or, take, drop, set, sym, refl, ap, ◌∙◌, ap₂, append_assoc, div-add-mod', arith, pow_pos, shr-shr}
+use Rattle.std.proofs.lemmas.List.{get_or-take, get_or-drop, drop-drop}
+use Rattle.std.specs.Int.{w32, from_be_bytes}
+use Rattle.std.specs.Simd.{first_chunks}
 use Rattle.sha256.specs.Sha256.{bytes_of, word_of, words_of, sha256}
 use Rattle.sha256.specs.Digest.{bytes, digest}
 use Rattle.sha256.specs.Digest.Laws.{digest_is}
@@ -78,6 +81,19 @@ get_d_words n (a ∷ b ∷ c ∷ []) i e h = absurd (omega arith)
 get_d_words zero (a ∷ b ∷ c ∷ d ∷ bs) i e h = absurd (omega arith)
 get_d_words (suc n) (a ∷ b ∷ c ∷ d ∷ bs) zero e h = refl
 get_d_words (suc n) (a ∷ b ∷ c ∷ d ∷ bs) (suc i) e h = get_d_words n bs i (omega arith) (omega arith) ∙ sym (word_at_suc a b c d bs i)
+
+-- which is what the library makes of the four bytes at i
+chunk_at : (n i : ℕ) (bs d : List ℕ) → i < n → get_or (first_chunks 4 n bs) i d ≡ take 4 (drop (4 * i) bs)
+chunk_at zero i bs d h = absurd (omega arith)
+chunk_at (suc n) zero bs d h = refl
+chunk_at (suc n) (suc i) bs d h = chunk_at n i (drop 4 bs) d (omega arith) ∙ ap (take 4) (drop-drop (4 * i) 4 bs ∙ ap (λ (k : ℕ). drop k bs) (omega arith))
+
+pub word_at_chunk : {cs : List (List ℕ)} (n i : ℕ) (bs d : List ℕ) → cs ≡ first_chunks 4 n bs → i < n → from_be_bytes w32 (get_or cs i d) ≡ word_at bs i
+unfolding word_of
+word_at_chunk n i bs d e h =
+    let byte = λ (k j : ℕ) (b : k < 4) (e : 4 * i + k ≡ j). get_or-take 4 (drop (4 * i) bs) k 0 b ∙ get_or-drop (4 * i) bs k 0 ∙ ap (λ (m : ℕ). get_or bs m 0) e in
+    rw (e, chunk_at n i bs d h)
+    (omega (arith, byte 0 (4 * i) (omega arith) (omega arith), byte 1 (4 * i + 1) (omega arith) refl, byte 2 (4 * i + 2) (omega arith) refl, byte 3 (4 * i + 3) (omega arith) refl))
 
 four_back : (a b c d : ℕ) → a < 2 ^ 8 → b < 2 ^ 8 → c < 2 ^ 8 → d < 2 ^ 8 → bytes_of 4 (word_of a b c d) ≡ a ∷ b ∷ c ∷ d ∷ []
 unfolding bytes_of word_of

@@ -2,7 +2,7 @@
 -- Assumes nothing.
 use Rattle.std.proofs.Common.{◌≡◌, ℕ, zero, suc, ◌-◌, ◌*◌, ◌/◌, ◌%◌, ◌^◌, ◌<◌, sym, refl, ap, ◌∙◌, ap₂, pow-suc, arith}
 use lib.Bits.{bit_and, bit_xor, and_shr, and_mod, xor_shr, xor_mod}
-use Rattle.sha256.specs.Sha256.{◌⊕◌, ∁, ch}
+use Rattle.sha256.specs.Sha256.{ch}
 
 -- the code's choice, and the standard's with the complement written c
 abbrev quick : ℕ → ℕ → ℕ → ℕ
@@ -58,5 +58,4 @@ choose (suc k) x y z hx hz =
     omega arith
 
 pub ch_is : (x y z : ℕ) → x < 2 ^ 32 → z < 2 ^ 32 → quick x y z ≡ ch x y z
-unfolding ch ◌⊕◌ ∁
 ch_is x y z hx hz = choose 32 x y z hx hz

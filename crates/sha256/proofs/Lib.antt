@@ -1,4 +1,4 @@
--- The standard's vectors; the choice; loops that write a list, the schedule and the rounds, and compare; words and bytes; one block.
+-- The standard's vectors; the choice; loops that write a list, the schedule and the rounds; comparing; words and bytes; one block.
 pub mod Vectors
 pub mod Choice
 pub mod Written

@@ -1,10 +1,10 @@
 -- A message of at most 13 words is one block when it is padded: its words, the bit 1, bits 0, and its length in bits.
 -- Assumes nothing.
-use Rattle.std.proofs.Common.{◌≡◌, ℕ, zero, suc, ◌+◌, ◌-◌, ◌*◌, ◌^◌, ◌<◌, ◌≤◌, List, [], ◌∷◌, ◌++◌, length, get_or, take, drop, set, replicate, sym, refl, ap, ◌∙◌, le_of_suc-le-suc, not-suc-le-zero, suc-add, zero-add, arith, length-set, length-take-le}
+use Rattle.std.proofs.Common.{◌≡◌, ℕ, zero, suc, ◌+◌, ◌-◌, ◌*◌, ◌^◌, ◌<◌, ◌≤◌, List, [], ◌∷◌, ◌++◌, length, get_or, take, drop, set, replicate, sym, refl, ap, ◌∙◌, le_of_suc-le-suc, not-suc-le-zero, suc-add, zero-add, arith, length-append, length-drop, length-set, length-take-le}
 use lib.Seq.{take-length, take-append-add}
 use Rattle.sha256.specs.Sha256.{H₀, bytes_of, padding, pad, word_of, words_of, compress, blocks, sha256}
 use Rattle.sha256.specs.Digest.{bytes, digest}
-use Rattle.sha256.specs.Digest.Laws.{digest_is, digest_long}
+use Rattle.sha256.specs.Digest.Laws.{digest_is}
 use Rattle.sha256.proofs.Bytes.{words_back, length_bytes}
 
 set_append_add : (xs ys : List ℕ) (i a : ℕ) → set (xs ++ ys) (length xs + i) a ≡ xs ++ set ys i a
@@ -54,12 +54,9 @@ module _ (m w : List ℕ) (h : length m ≤ 13) (low : (i : ℕ) → get_or m i 
       ∙ ap (λ (l : List ℕ). m ++ l) (behind n (omega arith) ∙ ap (λ (k : ℕ). words_of (padding k)) (sym (length_bytes m)))
       ∙ sym (words_back m (padding (length (bytes m))) low)
 
-  pub one_block : length w ≡ 64 → compress H₀ (take 16 (set (set w (length m) 0x8000_0000) 15 (32 * length m))) ≡ digest m
-  one_block lw =
+  pub one_block : compress H₀ (take 16 (set (set w (length m) 0x8000_0000) 15 (32 * length m))) ≡ digest m
+  one_block =
+      let lw : length w ≡ 64 = ap length e ∙ simp (length-append, length-drop) (omega arith) in
       let u : List ℕ = set (set w (length m) 0x8000_0000) 15 (32 * length m) in
       let lu : length u ≡ 64 = simp length-set (omega arith) in
       once (bytes m) (take 16 u) padded (length-take-le 16 u (omega arith)) ∙ sym (digest_is m)
-
--- a hash written over the front of a list
-pub written_over : (m z : List ℕ) {h : List ℕ} → h ≡ digest m → h ++ drop (length h) z ≡ digest m ++ drop 8 z
-written_over m z e = ap (λ (l : List ℕ). l ++ drop (length l) z) e ∙ ap (λ (k : ℕ). digest m ++ drop k z) (digest_long m)

@@ -1,7 +1,7 @@
 -- The definition computed on messages whose hash is known: the standard's examples, the empty message, and a word followed by a nonce of 32 bytes 0.
 -- Assumes nothing.
 use Rattle.std.proofs.Common.{◌≡◌, ℕ, List, [], ◌∷◌, ◌++◌, replicate, refl}
-use Rattle.sha256.specs.Sha256.{◌⊞◌, ◌⊕◌, ∁, shr, rotr, ch, maj, Σ₀, Σ₁, σ₀, σ₁, K, bytes_of, padding, pad, word_of, words_of, H₀, next, extend, schedule, T₁, T₂, round, rounds, sums, compress, blocks, sha256}
+use Rattle.sha256.specs.Sha256.{K, bytes_of, padding, pad, word_of, words_of, H₀, next, extend, schedule, T₁, T₂, round, rounds, sums, compress, blocks, sha256}
 
 -- "abc"
 pub abc : List ℕ
@@ -27,5 +27,5 @@ pub record Vectors : Type 0 where
   pub minus_twenty : sha256 (with_zeros 2147483627) ≡ 721445309 ∷ 59359921 ∷ 2920372308 ∷ 1087459295 ∷ 151985532 ∷ 3708268289 ∷ 1836622388 ∷ 705217064 ∷ []
 
 pub vectors : Vectors
-unfolding abc alphabet with_zeros ◌⊞◌ ◌⊕◌ ∁ shr rotr ch maj Σ₀ Σ₁ σ₀ σ₁ K bytes_of padding pad word_of words_of H₀ next extend schedule T₁ T₂ round rounds sums compress blocks sha256
+unfolding abc alphabet with_zeros K bytes_of padding pad word_of words_of H₀ next extend schedule T₁ T₂ round rounds sums compress blocks sha256
 vectors = record { nothing = refl; one_block = refl; two_blocks = refl; ten = refl; minus_ten = refl; twenty = refl; minus_twenty = refl }

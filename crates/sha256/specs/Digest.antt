@@ -1,7 +1,7 @@
 -- The hash of a message of words, as the crates above know it. It is shut: outside this module and the module below it nothing is known
 -- of it but what Laws says.
 -- Assumes nothing.
-use Rattle.std.specs.Prelude.{ℕ, Bool, true, false, ◌&&◌, List, [], ◌∷◌, ◌++◌, ◌==◌}
+use Rattle.std.specs.Prelude.{ℕ, Bool, List, [], ◌∷◌, ◌++◌, bytes_eq}
 use Rattle.sha256.specs.Sha256.{bytes_of, sha256}
 pub mod Laws
 
@@ -16,7 +16,4 @@ digest words = sha256 (bytes words)
 
 -- whether two lists are the same
 unfoldable pub same : List ℕ → List ℕ → Bool
-same [] [] = true
-same [] (y ∷ ys) = false
-same (x ∷ xs) [] = false
-same (x ∷ xs) (y ∷ ys) = x == y && same xs ys
+same x y = bytes_eq x y

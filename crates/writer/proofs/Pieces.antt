@@ -6,75 +6,42 @@ use mathlib.Core.Logic.{◌≢◌}
 use mathlib.Core.Bool.{Bool, true, false, cond}
 use mathlib.Core.List.{List, [], ◌∷◌}
 use native.Mathlib.Nat.{add-zero}
+use native.Mathlib.Numerals.{add-one}
 use native.Mathlib.Omega.{arith}
+use Rattle.std.proofs.lemmas.List.{drop_all}
 use lib.Dec.{eqb}
-use lib.ListN.{length, get_or, length-append}
-use borrow.Author.Tests.{ne_eqb}
+use lib.ListN.{length, get_or, drop, length-append}
+use lib.Seq.{drop-cons}
+use borrow.Author.Tests.{eq-eqb, ne_eqb}
 use Rattle.circuit.specs.Gate.{gate_size, entry}
 use Rattle.forms.specs.declared.Head.{Head}
-use Rattle.forms.specs.declared.Head.TheVariants.{Line}
+use Rattle.forms.specs.declared.Head.TheVariants.{In, Line}
 use Rattle.forms.specs.declared.Sort.{Sort}
 use Rattle.forms.specs.declared.Sort.TheVariants.{Leaf, One, Two, Scaled}
-use Rattle.forms.specs.Words.{sort, shape_of}
-use Rattle.forms.specs.Form.{Form, leaf, one, two, scaled, feed, print}
+use Rattle.forms.specs.Words.{heads, kind, sort, shape_of}
+use Rattle.forms.specs.Form as R
+use Rattle.forms.specs.Form.{leaf, one, two, scaled, feed, print}
 use Rattle.forms.specs.Entry.{head_of, picked, number_of, name, form_of, row_for, row_of}
 use Rattle.forms.proofs.Lengths.{letters_few, length_word, length_leaf, length_one, length_two, length_scaled}
-use Rattle.writer.specs.declared.Parts.{Parts}
-use Rattle.writer.specs.Code.{form_in, row_text, row_room}
+use Rattle.writer.specs.Code.{row_text, row_room}
 
--- a number that is no kind
-pub head_line : (k : ℕ) → 1 ≢ k → 2 ≢ k → 3 ≢ k → 4 ≢ k → 5 ≢ k → 6 ≢ k → 7 ≢ k → 8 ≢ k → 9 ≢ k → 10 ≢ k → Line ≡ head_of k
-unfolding head_of picked
-head_line k a b d e f g h i j l =
-    rw (
-      ne_eqb 1 k a,
-      ne_eqb 2 k b,
-      ne_eqb 3 k d,
-      ne_eqb 4 k e,
-      ne_eqb 5 k f,
-      ne_eqb 6 k g,
-      ne_eqb 7 k h,
-      ne_eqb 8 k i,
-      ne_eqb 9 k j,
-      ne_eqb 10 k l,
-    ) (same (eqb 0 k))
-  where
-    same : (t : Bool) → Line ≡ cond t Line Line
-    same true = refl
-    same false = refl
+-- the words are looked through in their order
+module _ (i k : ℕ) where
+  pub picked_here : (h : Head) → h ≡ get_or heads i In → i < length heads → kind h ≡ k → picked (drop i heads) k ≡ h
+  unfolding picked
+  picked_here h e l q = rw (drop-cons heads i In l, ← e) (rw (eq-eqb _ _ q))
 
--- the parts of a row are what its gate's numbers say
-pub parts_made : (c : List ℕ) (j : ℕ) (p : Parts)
-    → p.head ≡ head_of (get_or c (gate_size * j) 0)
-    → p.first ≡ get_or c (gate_size * j + 1) 0
-    → p.second ≡ get_or c (gate_size * j + 2) 0
-    → p.number ≡ number_of (shape_of p.head) (get_or c (gate_size * j + 1) 0) (get_or c (gate_size * j + 2) 0) (get_or c (gate_size * j + 3) 0)
-    → form_in p ≡ row_of c j
-unfolding form_in row_of row_for entry
-parts_made c j p h x y n = rw (n, x, y, h, add-zero)
+  pub picked_later : (h : Head) → h ≡ get_or heads i In → i < length heads → kind h ≢ k → picked (drop (i + 1) heads) k ≡ picked (drop i heads) k
+  unfolding picked
+  picked_later h e l q = rw (add-one, drop-cons heads i In l, ← e) (rw (ne_eqb _ _ q))
 
--- forms by their sort ---------------------------------------------------------------------------------------------------
-
-module _ (p : Parts) where
-  pub form_leaf : sort p.head ≡ Leaf → form_in p ≡ leaf p.head p.number
-  unfolding form_in form_of
-  form_leaf e = rw e
-
-  pub form_one : sort p.head ≡ One → form_in p ≡ one p.head (name p.first)
-  unfolding form_in form_of
-  form_one e = rw e
-
-  pub form_two : sort p.head ≡ Two → form_in p ≡ two p.head (name p.first) (name p.second)
-  unfolding form_in form_of
-  form_two e = rw e
-
-  pub form_scaled : sort p.head ≡ Scaled → form_in p ≡ scaled p.head (name p.first) p.number
-  unfolding form_in form_of
-  form_scaled e = rw e
+  pub picked_none : length heads ≤ i → picked (drop i heads) k ≡ Line
+  unfolding picked
+  picked_none h = rw (drop_all i heads h)
 
 -- how many bytes --------------------------------------------------------------------------------------------------------
 
-pub length_row : (f : Form) → length (row_text f) ≡ length (print f) + 1
+length_row : (f : R.Form) → length (row_text f) ≡ length (print f) + 1
 unfolding row_text
 length_row f = length-append (print f) (feed ∷ [])
 
@@ -82,32 +49,31 @@ length_name : (n : ℕ) → n < 2 ^ 64 → length (print (name n)) ≤ 28
 unfolding name
 length_name n h = omega (arith, length_leaf Line n, letters_few Line, length_word n h)
 
--- a row whose numbers are those of a machine
-pub row_few : (p : Parts) → p.first < 2 ^ 64 → p.second < 2 ^ 64 → p.number < 2 ^ 64 → length (row_text (form_in p)) ≤ row_room
-row_few p x y n = go (sort p.head) refl
-  where
-    h : Head
-    h = p.head
+-- the row of a gate is what its numbers say, which are those of a machine
+module _ (c : List ℕ) (j : ℕ) {h : Head} {x y n : ℕ} {k : Sort}
+    (eh : h ≡ head_of (get_or c (gate_size * j) 0))
+    (ex : x ≡ get_or c (gate_size * j + 1) 0)
+    (ey : y ≡ get_or c (gate_size * j + 2) 0)
+    (en : n ≡ number_of (shape_of h) (get_or c (gate_size * j + 1) 0) (get_or c (gate_size * j + 2) 0) (get_or c (gate_size * j + 3) 0))
+    (fx : x < 2 ^ 64) (fy : y < 2 ^ 64) (fn : n < 2 ^ 64) (s : k ≡ sort h) where
+  made : form_of h k x y n ≡ row_of c j
+  unfolding row_of row_for entry
+  made = rw (s, en, ex, ey, eh, add-zero)
 
-    go : (k : Sort) → sort p.head ≡ k → length (row_text (form_in p)) ≤ row_room
-    go Leaf s =
-        rw (form_leaf p s) (omega (arith, length_row (leaf h p.number), length_leaf h p.number, letters_few h, length_word p.number n))
-    go One s =
-        let f : Form = name p.first in
-        rw (form_one p s) (omega (arith, length_row (one h f), length_one h f, letters_few h, length_name p.first x))
-    go Two s =
-        let f : Form = name p.first in
-        let g : Form = name p.second in
-        rw (form_two p s)
-        (omega (arith, length_row (two h f g), length_two h f g, letters_few h, length_name p.first x, length_name p.second y))
-    go Scaled s =
-        let f : Form = name p.first in
-        rw (form_scaled p s)
-        (omega (
-          arith,
-          length_row (scaled h f p.number),
-          length_scaled h f p.number,
-          letters_few h,
-          length_name p.first x,
-          length_word p.number n,
-        ))
+  pub leaf_made : k ≡ Leaf → (leaf h n ≡ row_of c j) × (length (row_text (leaf h n)) ≤ row_room)
+  unfolding form_of
+  leaf_made e = (rw e at made, omega (arith, length_row (leaf h n), length_leaf h n, letters_few h, length_word n fn))
+
+  pub one_made : k ≡ One → (one h (name x) ≡ row_of c j) × (length (row_text (one h (name x))) ≤ row_room)
+  unfolding form_of
+  one_made e = (rw e at made, omega (arith, length_row (one h (name x)), length_one h (name x), letters_few h, length_name x fx))
+
+  pub two_made : k ≡ Two → (two h (name x) (name y) ≡ row_of c j) × (length (row_text (two h (name x) (name y))) ≤ row_room)
+  unfolding form_of
+  two_made e =
+      (rw e at made, omega (arith, length_row (two h (name x) (name y)), length_two h (name x) (name y), letters_few h, length_name x fx, length_name y fy))
+
+  pub scaled_made : k ≡ Scaled → (scaled h (name x) n ≡ row_of c j) × (length (row_text (scaled h (name x) n)) ≤ row_room)
+  unfolding form_of
+  scaled_made e =
+      (rw e at made, omega (arith, length_row (scaled h (name x) n), length_scaled h (name x) n, letters_few h, length_name x fx, length_word n fn))

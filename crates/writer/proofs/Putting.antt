@@ -9,6 +9,8 @@ use native.Mathlib.Omega.{arith}
 use lib.ListN.{length, get_or, take, drop, set, length-append, length-drop, length-set, take-append-drop}
 use lib.Seq.{length-take-le, take_at, drop-append-add, drop-drop, take-suc, set_split, drop-cons, take-set-le, drop-set-lt, get_or-set_same}
 use lib.Seq.{take-length, take-append_seam}
+use borrow.Rule.Slice.PartMut.{put_mid}
+use Rattle.std.proofs.lemmas.Slice.{put_mid-paste}
 use Rattle.protocol.specs.Send.{overwrite}
 use Rattle.writer.specs.Code.{over, Put}
 
@@ -63,10 +65,10 @@ over_last text at xs b h =
 -- from the start -------------------------------------------------------------------------------------------------------
 
 -- what was put, as it is lent
-pub put_front : {before later bytes : List ℕ} {to : ℕ} → Put before later 0 to bytes → take (to - 0) (drop 0 later) ≡ bytes
+pub put_front : {before later bytes : List ℕ} {to : ℕ} → Put before later 0 to bytes → take to later ≡ bytes
 unfolding over
 put_front {before} {later} {bytes} {to} p =
-    let e : to - 0 ≡ length bytes = omega (arith, p.ends) in
+    let e : to ≡ length bytes = omega (arith, p.ends) in
     rw (e, p.holds) (take-append_seam bytes (drop (0 + length bytes) before))
 
 pub over_start : (text bytes : List ℕ) → over text 0 bytes ≡ overwrite bytes text
@@ -91,37 +93,12 @@ module _ (xs ys : List ℕ) {a b : List ℕ} {at mid : ℕ} (fits : at + length 
     holds = q.holds ∙ rw (p.ends, p.holds) (over_over a at xs ys (omega arith));
   }
 
--- byte by byte ----------------------------------------------------------------------------------------------------------
-
--- the first k bytes are put
-pub record Begun (before : List ℕ) (at : ℕ) (bytes text : List ℕ) (k : ℕ) : Type 0 where
-  pub upto : k ≤ length bytes
-  pub long : length text ≡ length before
-  pub holds : text ≡ over before at (take k bytes)
-
-module _ (before : List ℕ) (at : ℕ) (bytes : List ℕ) where
-  pub begun_none : Begun before at bytes before 0
-  begun_none = record { upto = omega arith; long = refl; holds = sym (over_nothing before at) }
-
-  module _ (fits : at + length bytes ≤ length before) {text : List ℕ} {k : ℕ} (s : Begun before at bytes text k) where
-    pub begun_more : k < length bytes → Begun before at bytes (set text (at + k) (get_or bytes k 0)) (k + 1)
-    begun_more h = record {
-      upto = omega arith;
-      long = length-set text (at + k) (get_or bytes k 0) ∙ s.long;
-      holds =
-          over_byte text (at + k) (get_or bytes k 0) (omega (arith, s.long))
-          ∙ rw (s.holds, add-one) (rw (take-suc bytes k 0 h) one_more);
-    }
-      where
-        one_more : over (over before at (take k bytes)) (at + k) (get_or bytes k 0 ∷ []) ≡ over before at (take k bytes ++ (get_or bytes k 0 ∷ []))
-        one_more =
-            let e : length (take k bytes) ≡ k = length-take-le k bytes s.upto in
-            rw e at (over_over before at (take k bytes) (get_or bytes k 0 ∷ []) (omega arith))
-
-    pub begun_all : length bytes ≤ k → Put before text at (at + k) bytes
-    begun_all h =
-        let e : k ≡ length bytes = omega (arith, s.upto) in
-        record { ends = rw e; holds = s.holds ∙ rw (e, take-length) }
+-- bytes that are copied over a part of the text
+pub put_part : (text bytes : List ℕ) (at : ℕ) {part : List ℕ} → part ≡ bytes
+    → Put text (put_mid at (at + length bytes - at) text part) at (at + length bytes) bytes
+unfolding over
+put_part text bytes at {part} e =
+    record { ends = refl; holds = put_mid-paste at (at + length bytes - at) text part bytes (length bytes) e (omega arith) refl ∙ rw take-length }
 
 -- three pieces, one after another: each fits where those before it are put
 module _ (a : List ℕ) (at : ℕ) (xs ys zs : List ℕ) (fits : at + length (xs ++ ys ++ zs) ≤ length a) where

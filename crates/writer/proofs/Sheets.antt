@@ -1,7 +1,7 @@
 -- The rows of a circuit one after another: that they are put, and handed over; what the writer answers.
 -- Assumes nothing.
 use Prim.Native.Nat.{ℕ, ◌+◌, ◌-◌, ◌*◌, ◌/◌, ◌≤◌, ◌<◌}
-use mathlib.Core.Path.{◌≡◌, refl, sym, ◌∙◌}
+use mathlib.Core.Path.{◌≡◌, refl, sym, ap, ◌∙◌}
 use mathlib.Core.List.{List, ◌++◌}
 use native.Mathlib.Numerals.{add-one}
 use native.Mathlib.Omega.{arith}
@@ -14,7 +14,7 @@ use Rattle.circuit.specs.Accept.{most_gates, ask_circuit}
 use Rattle.circuit.specs.Verdict.{Accepted, Refused, ask, ◌then◌}
 use Rattle.circuit.specs.Valid.{Valid}
 use Rattle.circuit.proofs.Valid.{valid}
-use Rattle.circuit.proofs.Verdicts.{ask_yes, ask_no, then_right, then_refused, then_passed}
+use Rattle.circuit.proofs.Verdicts.{ask_yes, ask_no, then_right, then_refused, then_passed, asked_last}
 use Rattle.circuit.proofs.Loops.{then_assoc}
 use Rattle.protocol.specs.Ask.{ask_parties}
 use Rattle.protocol.specs.Send.{overwrite}
@@ -24,8 +24,9 @@ use Rattle.forms.specs.Entry as E
 use Rattle.forms.specs.Entry.{answer, row_of, rows_up_to, rows_of, sheet_of, ask_write, write_answer, write_text}
 use Rattle.forms.proofs.Lengths.{print_more}
 use Rattle.forms.specs.Code.{answer_of}
-use Rattle.forms.specs.declared.Answer.{Answer}
-use Rattle.forms.specs.declared.Answer.TheVariants as A
+use Rattle.std.specs.Prelude.{Result, Ok, Err}
+use Rattle.circuit.specs.Question.{number_of, verdict_of}
+use Rattle.circuit.specs.declared.questions.Refusal.{Refusal}
 use Rattle.writer.specs.Code.{Put, row_text, row_room, ask_room, Handed}
 use Rattle.writer.proofs.Putting.{over_nothing, put_next, put_front, over_start}
 
@@ -81,8 +82,8 @@ module _ (c : List ℕ) (count : ℕ) (before : List ℕ) where
 
 module _ (c : List ℕ) (k : ℕ) (text : List ℕ) where
   whole : {later : List ℕ} {count : ℕ} → count ≡ length (up_to c k) → count ≤ length text → later ≡ overwrite (up_to c k) text
-      → Handed c k text later (A.Done count)
-  unfolding ask_room answer leave answer_of
+      → Handed c k text later (Ok count)
+  unfolding ask_room answer leave
   whole e h w =
       let r = ask_yes 18 0 (le-leb (length (up_to c k)) (length text) (omega (arith, e))) in
       record { answers = rw (r, e); leaves = rw r w }
@@ -92,18 +93,19 @@ module _ (c : List ℕ) (k : ℕ) (text : List ℕ) where
     rows_size : count ≡ length (up_to c k)
     rows_size = omega (arith, s.ends)
 
-    pub short_handed : length text < count → Handed c k text text (A.Refusal 18 0)
-    unfolding ask_room answer leave answer_of
-    short_handed h =
-        let r = ask_no 18 0 (lt-leb (length (up_to c k)) (length text) (omega (arith, rows_size))) in
-        record { answers = rw r; leaves = rw r }
+    pub short_handed : {A : Type 0} {v : Result A Refusal} {e : Refusal} {r : Result ℕ Refusal} → verdict_of v ≡ ask 18 0 (leb count (length text)) → v ≡ Err e
+        → r ≡ Err e → Handed c k text text r
+    unfolding ask_room answer leave
+    short_handed {A} {v} {e} a h q =
+        let s : Refused (number_of e.question) e.index ≡ ask 18 0 (leb (length (up_to c k)) (length text)) = rw (← rows_size) (rw (← a) (rw h)) in
+        record { answers = rw (q, ← s); leaves = rw (← s) }
 
-    pub rows_handed : count ≤ length text → {later : List ℕ} {to : ℕ} → Put text later 0 to (take (count - 0) (drop 0 sheet))
-        → Handed c k text later (A.Done count)
+    pub rows_handed : count ≤ length text → {later : List ℕ} {to : ℕ} → Put text later 0 to (take count sheet)
+        → Handed c k text later (Ok count)
     rows_handed h p = whole rows_size h (p.holds ∙ rw (put_front s) (over_start text (up_to c k)))
 
   -- or over the text itself
-  pub rows_put : {later : List ℕ} {count : ℕ} → Put text later 0 count (up_to c k) → count ≤ length text → Handed c k text later (A.Done count)
+  pub rows_put : {later : List ℕ} {count : ℕ} → Put text later 0 count (up_to c k) → count ≤ length text → Handed c k text later (Ok count)
   rows_put s h = whole (rows_size s) h (s.holds ∙ over_start text (up_to c k))
 
 -- answered --------------------------------------------------------------------------------------------------------------
@@ -112,20 +114,24 @@ module _ (c : List ℕ) (k : ℕ) (text : List ℕ) where
 abbrev pub Written : ℕ → List ℕ → List ℕ → E.Answer → List ℕ → Type 0
 Written n c text a later = (a ≡ write_answer n size c (length text)) × (later ≡ write_text n size c text)
 
-module _ (n : ℕ) (c text : List ℕ) where
-  -- questions 1 and 3 to 7, and then 18
-  asks : (room : ℕ) → ask_write n size c room ≡ ((ask_parties n then ask_circuit n size c) then ask 18 0 (leb (length (sheet_of c)) room))
-  unfolding ask_write
-  asks room = sym (then_assoc (ask_parties n) (ask_circuit n size c) (ask 18 0 (leb (length (sheet_of c)) room)))
+-- questions 1 and 3 to 7, and then 18
+asks : (n : ℕ) (c : List ℕ) (room : ℕ) → ask_write n size c room ≡ ((ask_parties n then ask_circuit n size c) then ask 18 0 (leb (length (sheet_of c)) room))
+unfolding ask_write
+asks n c room = sym (then_assoc (ask_parties n) (ask_circuit n size c) (ask 18 0 (leb (length (sheet_of c)) room)))
 
-  pub setting_refused : {number index : ℕ} → Refused number index ≡ (ask_parties n then ask_circuit n size c)
-      → Written n c text (E.Refusal number index) text
+module _ (n : ℕ) (c text : List ℕ) {A : Type 0} {v : Result A Refusal} where
+  pub setting_refused : {e : Refusal} {r : Result ℕ Refusal} → verdict_of v ≡ (ask_parties n then ask_circuit n size c) → v ≡ Err e → r ≡ Err e
+      → Written n c text (answer_of r) text
   unfolding write_answer write_text answer leave
-  setting_refused e =
-      let r = asks (length text) ∙ then_refused (ask 18 0 (leb (length (sheet_of c)) (length text))) (sym e) in
-      (rw r, rw r)
+  setting_refused {e} a h q =
+      let s : (ask_parties n then ask_circuit n size c) ≡ Refused (number_of e.question) e.index = sym a ∙ rw h in
+      let r = asks n c (length text) ∙ then_refused (ask 18 0 (leb (length (sheet_of c)) (length text))) s in
+      (rw (q, r), rw r)
 
-  module _ (e : Accepted ≡ (ask_parties n then ask_circuit n size c)) where
+  module _ {a : A} (told : verdict_of v ≡ (ask_parties n then ask_circuit n size c)) (h : v ≡ Ok a) where
+    e : Accepted ≡ (ask_parties n then ask_circuit n size c)
+    e = asked_last told h
+
     accepted : Valid n size c
     accepted = valid n size c (then_right (ask_parties n) (ask_circuit n size c) (sym e))
 
@@ -138,8 +144,8 @@ module _ (n : ℕ) (c text : List ℕ) where
 
     asked : ask_write n size c (length text) ≡ ask_room c (length c / gate_size) (length text)
     unfolding ask_room sheet_of rows_of gates
-    asked = asks (length text) ∙ then_passed (ask 18 0 (leb (length (sheet_of c)) (length text))) (sym e)
+    asked = asks n c (length text) ∙ then_passed (ask 18 0 (leb (length (sheet_of c)) (length text))) (sym e)
 
-    pub handed_written : (r : Answer) {later : List ℕ} → Handed c (length c / gate_size) text later r → Written n c text (answer_of r) later
+    pub handed_written : (r : Result ℕ Refusal) {later : List ℕ} → Handed c (length c / gate_size) text later r → Written n c text (answer_of r) later
     unfolding write_answer write_text sheet_of rows_of gates
     handed_written r h = (rw asked h.answers, rw asked h.leaves)

@@ -1,15 +1,16 @@
 -- What the writer's functions promise: bytes that stand over those of a text from a place on, a row's bytes, and rows that are handed over.
 -- Assumes nothing.
-use Rattle.std.specs.Prelude.{ℕ, ◌+◌, ◌≤◌, ◌≡◌, List, [], ◌∷◌, ◌++◌, length, take, drop, leb}
+use Rattle.std.specs.Prelude.{ℕ, ◌+◌, ◌≤◌, ◌≡◌, List, [], ◌∷◌, ◌++◌, length, take, drop, leb, Result}
 use Rattle.circuit.specs.Verdict.{Verdict, ask}
 use Rattle.protocol.specs.Send.{overwrite}
 use Rattle.protocol.specs.Entry.{leave}
-use Rattle.forms.specs.Words.{sort}
-use Rattle.forms.specs.Form.{Form, print, print_rows, feed}
-use Rattle.forms.specs.Entry.{answer, form_of, rows_up_to}
+use Rattle.circuit.specs.declared.questions.Refusal.{Refusal}
+use Rattle.forms.specs.Form as R
+use Rattle.forms.specs.Form.{print, print_rows, feed}
+use Rattle.forms.specs.Entry.{answer, name, rows_up_to}
 use Rattle.forms.specs.Code.{answer_of}
-use Rattle.forms.specs.declared.Answer.{Answer}
-use Rattle.writer.specs.declared.Parts.{Parts}
+use Rattle.writer.specs.declared.Form.{Form}
+use Rattle.writer.specs.declared.Form.TheVariants.{Leaf, One, Two, Scaled}
 
 -- a text with some bytes over it from a place on
 unfoldable pub over : List ℕ → ℕ → List ℕ → List ℕ
@@ -25,12 +26,15 @@ pub record Counts (bytes : List ℕ) (most : ℕ) (r : ℕ) : Type 0 where
   pub counted : r ≡ length bytes
   pub small : r ≤ most
 
--- the row of these parts
-unfoldable pub form_in : Parts → Form
-form_in p = form_of p.head (sort p.head) p.first p.second p.number
+-- the row as the sheet's definition has it
+unfoldable pub form_in : Form → R.Form
+form_in (Leaf head number) = R.leaf head number
+form_in (One head first) = R.one head (name first)
+form_in (Two head first second) = R.two head (name first) (name second)
+form_in (Scaled head first number) = R.scaled head (name first) number
 
 -- the bytes of a row
-unfoldable pub row_text : Form → List ℕ
+unfoldable pub row_text : R.Form → List ℕ
 row_text f = print f ++ (feed ∷ [])
 
 -- no row is longer, whatever its numbers are
@@ -42,6 +46,6 @@ unfoldable pub ask_room : List ℕ → ℕ → ℕ → Verdict
 ask_room c k room = ask 18 0 (leb (length (print_rows (rows_up_to c k))) room)
 
 -- their rows are handed over, if that accepts
-pub record Handed (c : List ℕ) (k : ℕ) (before later : List ℕ) (r : Answer) : Type 0 where
+pub record Handed (c : List ℕ) (k : ℕ) (before later : List ℕ) (r : Result ℕ Refusal) : Type 0 where
   pub answers : answer_of r ≡ answer (ask_room c k (length before)) (length (print_rows (rows_up_to c k)))
   pub leaves : later ≡ leave (ask_room c k (length before)) (overwrite (print_rows (rows_up_to c k)) before) before

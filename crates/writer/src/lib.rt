@@ -12,18 +12,32 @@ ghost use Rattle.forms.specs.Code.{answer_of};
 ghost use Rattle.circuit.specs.Gate.{gate_size};
 ghost use Rattle.writer.specs.Code.{row_room, Handed};
 
-use circuit::Verdict;
+use circuit::questions::{Question, Refusal, ask};
 use field::Word;
-use forms::{Answer, Head};
+use forms::Head;
 use gates::reading;
 
-// What a row is made of: its word, the rows that it names and its number. Where it has fewer, the others tell nothing.
+// The row of a gate: a word with a number, a name, two names, or a name and a number. A name is told by the gate that it names.
 #[derive(Clone, Copy)]
-pub struct Parts {
-    pub head: Head,
-    pub first: usize,
-    pub second: usize,
-    pub number: usize,
+pub enum Form {
+    Leaf {
+        head: Head,
+        number: usize,
+    },
+    One {
+        head: Head,
+        first: usize,
+    },
+    Two {
+        head: Head,
+        first: usize,
+        second: usize,
+    },
+    Scaled {
+        head: Head,
+        first: usize,
+        number: usize,
+    },
 }
 
 // No row is longer, whatever its numbers are.
@@ -37,37 +51,26 @@ const FEW_GATES: usize = 16;
 const FEW_ROOM: usize = ROW_ROOM * FEW_GATES;
 
 // The rows of the first gates are put over a list with room for them; then 18 is asked of their bytes, and they are handed over.
-fn hand_over(sheet: &mut [u8], c: &[Word], gates: usize, text: &mut [u8]) -> Answer
+fn hand_over(sheet: &mut [u8], c: &[Word], gates: usize, text: &mut [u8]) -> Result<usize, Refusal>
     requires { (gate_size * gates ≤ length c.now) × (row_room * gates ≤ length sheet.old) }
     ensures { Handed c.now gates text.old text.new result }
 {
     let count = writing::put_rows(sheet, c, gates);
-    if text.len() < count {
-        return Answer::Refusal {
-            number: 18,
-            index: 0,
-        };
-    }
-    writing::put_bytes(text, 0, &sheet[0..count]);
-    Answer::Done { count }
+    ask(Question::Room, 0, count <= text.len())?;
+    writing::put_bytes(text, 0, &sheet[..count]);
+    Ok(count)
 }
 
 // Writes a circuit as a sheet. Where there is room whatever the rows are, they are put at once; else over a list of the writer's own, so that
 // nothing is written on a refusal.
-pub fn write_sheet(parties: usize, c: &[Word], text: &mut [u8]) -> Answer
+pub fn write_sheet(parties: usize, c: &[Word], text: &mut [u8]) -> Result<usize, Refusal>
     ensures { (answer_of result ≡ write_answer parties size c.now (length text.old))
         × (text.new ≡ write_text parties size c.now text.old) }
 {
-    match party::asking::ask_setting(parties, c) {
-        Verdict::Refused { number, index } => {
-            return Answer::Refusal { number, index };
-        }
-        Verdict::Accepted => {}
-    }
+    party::asking::ask_setting(parties, c)?;
     let gates = c.len() / reading::GATE_SIZE;
     if ROW_ROOM * gates <= text.len() {
-        let count = writing::put_rows(text, c, gates);
-        return Answer::Done { count };
+        return Ok(writing::put_rows(text, c, gates));
     }
     if gates <= FEW_GATES {
         let mut few: [u8; FEW_ROOM] = [0; FEW_ROOM];

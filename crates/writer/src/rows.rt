@@ -6,53 +6,28 @@ ghost use Rattle.forms.specs.Words.{shape_of};
 ghost use Rattle.forms.specs.Entry.{head_of, counted, number_of, row_of};
 ghost use Rattle.writer.specs.Code.{form_in, row_text, row_room};
 
-use crate::Parts;
+use crate::Form;
 use circuit::Role;
 use field::Word;
-use forms::Head;
+use forms::{Head, Sort};
 use gates::reading;
 use tokens::table;
 
-const KIND_IN: Word = 1;
-
-const KIND_ADD: Word = 2;
-
-const KIND_SUB: Word = 3;
-
-const KIND_PLUS: Word = 4;
-
-const KIND_TIMES: Word = 5;
-
-const KIND_MUL: Word = 6;
-
-const KIND_OUT: Word = 7;
-
-const KIND_SQ: Word = 8;
-
-const KIND_GIVE: Word = 9;
-
-const KIND_OVER: Word = 10;
-
-// The word whose form makes a gate of this kind.
+// The word whose form makes a gate of this kind, or the word of a name.
+#[tactic(auto, unfolding(forms::specs::Entry::head_of))]
 fn head_of(kind: Word) -> Head
     ensures { result ≡ head_of kind }
 {
-    match kind {
-        KIND_IN => Head::In,
-        KIND_ADD => Head::Add,
-        KIND_SUB => Head::Sub,
-        KIND_PLUS => Head::Plus,
-        KIND_TIMES => Head::Times,
-        KIND_MUL => Head::Mul,
-        KIND_OUT => Head::Out,
-        KIND_SQ => Head::Sq,
-        KIND_GIVE => Head::Give,
-        KIND_OVER => Head::Over,
-        _ => Head::Line,
+    for h in table::HEADS {
+        if table::row(h).kind == kind {
+            return h;
+        }
     }
+    Head::Line
 }
 
 // A number of a gate, if its form has it as its number; else 0.
+#[tactic(auto, unfolding(forms::specs::Entry::counted))]
 fn counted(role: Role, x: Word) -> Word
     ensures { result ≡ counted (role_of role) x }
 {
@@ -70,28 +45,34 @@ fn number_of(h: Head, first: Word, second: Word, constant: Word) -> usize
     ensures { result ≡ number_of (shape_of h) first second constant }
 {
     let row = table::row(h);
-    let a = row.first;
-    let b = row.second;
-    let k = row.constant;
-    field::index(counted(a, first))
-        + field::index(counted(b, second))
-        + field::index(counted(k, constant))
+    field::index(counted(row.first, first))
+        + field::index(counted(row.second, second))
+        + field::index(counted(row.constant, constant))
 }
 
-// What the row of gate j is made of.
-pub fn parts_at(c: &[Word], j: usize) -> Parts
+// The row of gate j.
+pub fn form_at(c: &[Word], j: usize) -> Form
     requires { gate_size * j + gate_size ≤ length c.now }
     ensures { (form_in result ≡ row_of c.now j) × (length (row_text (form_in result)) ≤ row_room) }
 {
     let at = reading::GATE_SIZE * j;
     let head = head_of(c[at]);
-    let first = c[at + 1];
-    let second = c[at + 2];
-    let number = number_of(head, first, second, c[at + 3]);
-    Parts {
-        head,
-        first: field::index(first),
-        second: field::index(second),
-        number,
+    let number = number_of(head, c[at + 1], c[at + 2], c[at + 3]);
+    let first = field::index(c[at + 1]);
+    let second = field::index(c[at + 2]);
+    let row = table::row(head);
+    match row.sort {
+        Sort::Leaf => Form::Leaf { head, number },
+        Sort::One => Form::One { head, first },
+        Sort::Two => Form::Two {
+            head,
+            first,
+            second,
+        },
+        Sort::Scaled => Form::Scaled {
+            head,
+            first,
+            number,
+        },
     }
 }

@@ -5,13 +5,14 @@ ghost use Rattle.forms.specs.Form.{leaf, one, two, scaled, space, begin, print, 
 ghost use Rattle.forms.specs.Entry.{name, rows_up_to};
 ghost use Rattle.writer.specs.Code.{Put, form_in, row_text, row_room};
 
-use crate::{Parts, lengths, rows};
+use crate::{Form, lengths, rows};
 use field::Word;
-use forms::{Head, Sort};
+use forms::Head;
 use tokens::table;
 
 const NAUGHT: u8 = b'0';
 
+#[tactic(auto, using(crate::proofs::Putting::over_byte))]
 fn put_byte(text: &mut [u8], at: usize, b: u8) -> usize
     requires { at < length text.old }
     ensures { Put text.old text.new at result (b ∷ []) }
@@ -24,12 +25,9 @@ pub fn put_bytes(text: &mut [u8], at: usize, bytes: &[u8]) -> usize
     requires { at + length bytes.now ≤ length text.old }
     ensures { Put text.old text.new at result bytes.now }
 {
-    let mut k = 0;
-    while k < bytes.len() {
-        text[at + k] = bytes[k];
-        k += 1;
-    }
-    at + k
+    let to = at + bytes.len();
+    text[at..to].copy_from_slice(bytes);
+    to
 }
 
 // A bracket, a word and a space.
@@ -37,19 +35,9 @@ fn put_begin(text: &mut [u8], at: usize, h: Head) -> usize
     requires { at + length (begin h) ≤ length text.old }
     ensures { Put text.old text.new at result (begin h) }
 {
-    match h {
-        Head::In => put_bytes(text, at, b"(in "),
-        Head::Add => put_bytes(text, at, b"(add "),
-        Head::Sub => put_bytes(text, at, b"(sub "),
-        Head::Plus => put_bytes(text, at, b"(plus "),
-        Head::Times => put_bytes(text, at, b"(times "),
-        Head::Mul => put_bytes(text, at, b"(mul "),
-        Head::Out => put_bytes(text, at, b"(out "),
-        Head::Line => put_bytes(text, at, b"(line "),
-        Head::Sq => put_bytes(text, at, b"(sq "),
-        Head::Give => put_bytes(text, at, b"(give "),
-        Head::Over => put_bytes(text, at, b"(over "),
-    }
+    let word = put_byte(text, at, tokens::OPENING);
+    let end = put_bytes(text, word, table::letters(h));
+    put_byte(text, end, tokens::SPACE)
 }
 
 // The digits from the last to the first.
@@ -119,27 +107,33 @@ fn put_scaled(text: &mut [u8], at: usize, h: Head, x: usize, n: usize) -> usize
     put_byte(text, end, tokens::CLOSING)
 }
 
-fn put_form(text: &mut [u8], at: usize, p: Parts) -> usize
-    requires { at + length (print (form_in p)) ≤ length text.old }
-    ensures { Put text.old text.new at result (print (form_in p)) }
+#[tactic(auto, unfolding(crate::specs::Code::form_in))]
+fn put_form(text: &mut [u8], at: usize, f: Form) -> usize
+    requires { at + length (print (form_in f)) ≤ length text.old }
+    ensures { Put text.old text.new at result (print (form_in f)) }
 {
-    let head = p.head;
-    let row = table::row(head);
-    let sort = row.sort;
-    match sort {
-        Sort::Leaf => put_leaf(text, at, head, p.number),
-        Sort::One => put_one(text, at, head, p.first),
-        Sort::Two => put_two(text, at, head, p.first, p.second),
-        Sort::Scaled => put_scaled(text, at, head, p.first, p.number),
+    match f {
+        Form::Leaf { head, number } => put_leaf(text, at, head, number),
+        Form::One { head, first } => put_one(text, at, head, first),
+        Form::Two {
+            head,
+            first,
+            second,
+        } => put_two(text, at, head, first, second),
+        Form::Scaled {
+            head,
+            first,
+            number,
+        } => put_scaled(text, at, head, first, number),
     }
 }
 
 // A form and its line feed.
-fn put_row(text: &mut [u8], at: usize, p: Parts) -> usize
-    requires { at + length (row_text (form_in p)) ≤ length text.old }
-    ensures { Put text.old text.new at result (row_text (form_in p)) }
+fn put_row(text: &mut [u8], at: usize, f: Form) -> usize
+    requires { at + length (row_text (form_in f)) ≤ length text.old }
+    ensures { Put text.old text.new at result (row_text (form_in f)) }
 {
-    let end = put_form(text, at, p);
+    let end = put_form(text, at, f);
     put_byte(text, end, tokens::FEED)
 }
 
@@ -149,10 +143,8 @@ pub fn put_rows(text: &mut [u8], c: &[Word], count: usize) -> usize
     ensures { Put text.old text.new 0 result (print_rows (rows_up_to c.now count)) × (result ≤ row_room * count) }
 {
     let mut at = 0;
-    let mut j = 0;
-    while j < count {
-        at = put_row(text, at, rows::parts_at(c, j));
-        j += 1;
+    for j in 0..count {
+        at = put_row(text, at, rows::form_at(c, j));
     }
     at
 }

@@ -15,7 +15,6 @@ pub record Hash (h : List ℕ) : Type 0 where
   pub low : (i : ℕ) → slice_index h i < 2 ^ 32
 
 sum_low : (x y : ℕ) {l : List ℕ} → Low l → Low (x ⊞ y ∷ l)
-unfolding ◌⊞◌
 sum_low x y {l} r = record { low = each }
   where
     each : (i : ℕ) → slice_index ((x + y) % 2 ^ 32 ∷ l) i < 2 ^ 32
@@ -43,7 +42,7 @@ blocks_hash (suc n) w h r = blocks_hash n (drop 16 w) (compress h (take 16 w)) (
 
 -- Each word of the initial hash value is its sum with 0.
 initial : Hash H₀
-unfolding H₀ sums ◌⊞◌
+unfolding H₀ sums
 initial = sums_hash H₀ []
 
 -- The hash of a message of any length is eight words.

@@ -1,6 +1,6 @@
 -- `steps::receiving::misfit` meets its contract: the parties before the first that does not fit do, so it is the lowest.
 -- Assumes nothing.
-use mathlib.Core.Path.{◌≡◌, sym, ◌∙◌}
+use mathlib.Core.Path.{◌≡◌}
 use mathlib.Core.Bool.{true, false}
 use borrow.Author.Rules.{rules}
 use borrow.Author.Tests.{tests}

@@ -34,20 +34,12 @@ second_at-z-requires c =
 pub operand_at-k-requires : goal.operand_at-k-requires
 unfolding layout_of
 operand_at-k-requires c =
-    let k = reaching_linear _ _ _ _ c.loop-j.invariant.1 (omega (arith, c.requires.1, c.loop-j-test.true)) in (omega (arith, k.0, c.requires.0.valid.whole, c.requires.0.count), shape_constant _ _ c.shape_of-s.ensures ∙ ap (λ z. (kind_shape z).constant) c.kind_at-kind.ensures, divisor_low (c.requires.0.valid.each _ (omega (arith, k.0, c.requires.0.count))))
+    let k = reaching_linear _ _ _ _ c.loop-j.invariant.1 (omega (arith, c.requires.1, c.loop-j-test.true)) in (omega (arith, k.0, c.requires.0.valid.whole, c.requires.0.count), shape_constant _ _ c.shape_of.ensures ∙ ap (λ z. (kind_shape z).constant) c.kind_at-kind.ensures, divisor_low (c.requires.0.valid.each _ (omega (arith, k.0, c.requires.0.count))))
 
 pub after_linear-requires : goal.after_linear-requires
 unfolding layout_of
 after_linear-requires c =
     let k = reaching_linear _ _ _ _ c.loop-j.invariant.1 (omega (arith, c.requires.1, c.loop-j-test.true)) in let g = gate_from c.kind_at-kind.ensures c.first_at-x.ensures c.second_at-z.ensures c.operand_at-k.ensures in let a = settling_asks _ _ _ _ _ _ _ _ c.loop-j.invariant.0 laws c.requires.0 k.0 g in (c.requires.0.key_low, a.0, k.0, ap (λ z. is_class Local (kind_shape z).class) c.kind_at-kind.ensures ∙ k.1, a.1)
-
-pub overflow_add-j : goal.overflow_add-j
-overflow_add-j c =
-    omega (arith, c.loop-j-test.true)
-
-pub loop-j-smaller : goal.loop-j-smaller
-loop-j-smaller c =
-    omega (arith, c.loop-j-test.true)
 
 pub loop-j-preserved : goal.loop-j-preserved
 unfolding layout_of

@@ -1,4 +1,3 @@
-use Prim.Native.Nat.{◌-◌}
 use Rattle.field.specs.Words.{ops}
 use Rattle.protocol.specs.Code.{layout_of}
 use Rattle.protocol.proofs.Settling.{Settling, Reaching}
@@ -6,6 +5,3 @@ use Rattle.steps.proofs.receiving.settle.Given as goal
 
 abbrev pub invariant-loop-j : goal.invariant-loop-j
 invariant-loop-j l = Settling ops l.c (layout_of l.y) l.me l.key l.from l.initial.l l.j l.l × Reaching l.c l.y.gates l.from l.j
-
-abbrev pub decreases-loop-j : goal.decreases-loop-j
-decreases-loop-j l = l.stop - l.j

@@ -1,12 +1,12 @@
-use Prim.Native.Nat.{◌+◌, ◌-◌, ◌*◌, ◌≤◌}
-use lib.ListN.{get_or}
+use Prim.Native.Nat.{◌+◌, ◌*◌, ◌<◌}
+use mathlib.Core.Path.{◌≡◌}
+use lib.ListN.{length}
 use Rattle.field.specs.Words.{ops, sum_size, term_size}
-use Rattle.protocol.proofs.Summing.{Running}
+use Rattle.steps.specs.Code.{weighed}
 use Rattle.steps.proofs.sending.weigh_on.Given as goal
 
-abbrev pub invariant-loop-t : goal.invariant-loop-t
-invariant-loop-t l =
-    (l.from ≤ l.t) × (l.t ≤ l.to) × Running ops (sum_size + (l.t - l.from) * term_size) (λ i. ops.mul (get_or l.coefficients i 0) (get_or l.l (l.at + i) 0)) l.t l.acc
-
-abbrev pub decreases-loop-t : goal.decreases-loop-t
-decreases-loop-t l = l.to - l.t
+abbrev pub invariant-loop-coefficient : goal.invariant-loop-coefficient
+invariant-loop-coefficient l = record {
+  below : l.acc < sum_size + length l.yielded * term_size;
+  is : ops.norm l.acc ≡ ops.add (ops.norm l.start) (weighed l.values l.coefficients (length l.yielded));
+}

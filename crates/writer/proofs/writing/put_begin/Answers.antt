@@ -1,114 +1,28 @@
--- `writer::writing::put_begin` meets its contract: each word is spelt as the table spells it.
+-- `writer::writing::put_begin` meets its contract: its three pieces stand one after another.
 -- Assumes nothing.
-use Rattle.forms.specs.Form.{begin}
+use mathlib.Core.List.{[], ◌∷◌}
+use native.Mathlib.Omega.{arith}
+use Rattle.forms.specs.Words.{letters}
+use Rattle.forms.specs.Form.{opening, space, begin}
+use Rattle.writer.proofs.Putting.{fits_first, fits_second, fits_third, put_three}
 use Rattle.writer.proofs.writing.put_begin.Goals as goal
 
-pub put_bytes-requires : goal.put_bytes-requires
+pub put_byte-word-requires : goal.put_byte-word-requires
 unfolding begin
-put_bytes-requires c =
-    rw c.in-In.is at c.requires
+put_byte-word-requires c =
+    omega (arith, fits_first c.args.text.now c.args.at (opening ∷ []) (letters c.args.h) (space ∷ []) c.requires)
 
-pub put_bytes-requires-in-Add : goal.put_bytes-requires-in-Add
+pub put_bytes-end-requires : goal.put_bytes-end-requires
 unfolding begin
-put_bytes-requires-in-Add c =
-    rw c.in-Add.is at c.requires
+put_bytes-end-requires c =
+    rw c.letters.ensures (fits_second _ _ (opening ∷ []) (letters c.args.h) (space ∷ []) c.requires c.put_byte-word.ensures)
 
-pub put_bytes-requires-in-Sub : goal.put_bytes-requires-in-Sub
+pub put_byte-requires : goal.put_byte-requires
 unfolding begin
-put_bytes-requires-in-Sub c =
-    rw c.in-Sub.is at c.requires
+put_byte-requires c =
+    omega (arith, fits_third _ _ (opening ∷ []) (letters c.args.h) (space ∷ []) c.requires c.put_byte-word.ensures (rw c.letters.ensures at c.put_bytes-end.ensures))
 
-pub put_bytes-requires-in-Plus : goal.put_bytes-requires-in-Plus
+pub returns : goal.returns
 unfolding begin
-put_bytes-requires-in-Plus c =
-    rw c.in-Plus.is at c.requires
-
-pub put_bytes-requires-in-Times : goal.put_bytes-requires-in-Times
-unfolding begin
-put_bytes-requires-in-Times c =
-    rw c.in-Times.is at c.requires
-
-pub put_bytes-requires-in-Mul : goal.put_bytes-requires-in-Mul
-unfolding begin
-put_bytes-requires-in-Mul c =
-    rw c.in-Mul.is at c.requires
-
-pub put_bytes-requires-in-Out : goal.put_bytes-requires-in-Out
-unfolding begin
-put_bytes-requires-in-Out c =
-    rw c.in-Out.is at c.requires
-
-pub put_bytes-requires-in-Line : goal.put_bytes-requires-in-Line
-unfolding begin
-put_bytes-requires-in-Line c =
-    rw c.in-Line.is at c.requires
-
-pub put_bytes-requires-in-Sq : goal.put_bytes-requires-in-Sq
-unfolding begin
-put_bytes-requires-in-Sq c =
-    rw c.in-Sq.is at c.requires
-
-pub put_bytes-requires-in-Give : goal.put_bytes-requires-in-Give
-unfolding begin
-put_bytes-requires-in-Give c =
-    rw c.in-Give.is at c.requires
-
-pub put_bytes-requires-in-Over : goal.put_bytes-requires-in-Over
-unfolding begin
-put_bytes-requires-in-Over c =
-    rw c.in-Over.is at c.requires
-
-pub returns-in-In : goal.returns-in-In
-unfolding begin
-returns-in-In c =
-    rw c.in-In.is c.put_bytes.ensures
-
-pub returns-in-Add : goal.returns-in-Add
-unfolding begin
-returns-in-Add c =
-    rw c.in-Add.is c.put_bytes-in-Add.ensures
-
-pub returns-in-Sub : goal.returns-in-Sub
-unfolding begin
-returns-in-Sub c =
-    rw c.in-Sub.is c.put_bytes-in-Sub.ensures
-
-pub returns-in-Plus : goal.returns-in-Plus
-unfolding begin
-returns-in-Plus c =
-    rw c.in-Plus.is c.put_bytes-in-Plus.ensures
-
-pub returns-in-Times : goal.returns-in-Times
-unfolding begin
-returns-in-Times c =
-    rw c.in-Times.is c.put_bytes-in-Times.ensures
-
-pub returns-in-Mul : goal.returns-in-Mul
-unfolding begin
-returns-in-Mul c =
-    rw c.in-Mul.is c.put_bytes-in-Mul.ensures
-
-pub returns-in-Out : goal.returns-in-Out
-unfolding begin
-returns-in-Out c =
-    rw c.in-Out.is c.put_bytes-in-Out.ensures
-
-pub returns-in-Line : goal.returns-in-Line
-unfolding begin
-returns-in-Line c =
-    rw c.in-Line.is c.put_bytes-in-Line.ensures
-
-pub returns-in-Sq : goal.returns-in-Sq
-unfolding begin
-returns-in-Sq c =
-    rw c.in-Sq.is c.put_bytes-in-Sq.ensures
-
-pub returns-in-Give : goal.returns-in-Give
-unfolding begin
-returns-in-Give c =
-    rw c.in-Give.is c.put_bytes-in-Give.ensures
-
-pub returns-in-Over : goal.returns-in-Over
-unfolding begin
-returns-in-Over c =
-    rw c.in-Over.is c.put_bytes-in-Over.ensures
+returns c =
+    put_three _ _ (opening ∷ []) (letters c.args.h) (space ∷ []) c.requires c.put_byte-word.ensures (rw c.letters.ensures at c.put_bytes-end.ensures) c.put_byte.ensures

@@ -1,6 +1,6 @@
 -- `writer::writing::put_rows` meets its contract: before each turn the rows of the gates before j are put.
 -- Assumes nothing.
-use borrow.Author.Rules.{rules}
+use Rattle.std.proofs.Common.{rules, arith}
 use Rattle.writer.proofs.Sheets.{rowed_none, rowed_fits, rowed_more, rowed_all}
 use Rattle.writer.proofs.writing.put_rows.Goals as goal
 
@@ -10,16 +10,12 @@ loop-j-init c =
 
 pub put_row-at-requires : goal.put_row-at-requires
 put_row-at-requires c =
-    let e = c.parts_at.ensures in rowed_fits _ _ _ c.requires.1
-    c.loop-j.invariant c.loop-j-test.true _ e.0 e.1
+    rowed_fits _ _ _ c.requires.1 c.loop-j.invariant c.loop-j-test.true _ c.form_at.ensures.0 c.form_at.ensures.1
 
 pub loop-j-preserved : goal.loop-j-preserved
 loop-j-preserved c =
-    let e = c.parts_at.ensures in
-    rowed_more _ _ _ c.requires.1
-    c.loop-j.invariant c.loop-j-test.true _ e.0 e.1
-    (search rules) c.put_row-at.ensures
+    rowed_more _ _ _ c.requires.1 c.loop-j.invariant c.loop-j-test.true _ c.form_at.ensures.0 c.form_at.ensures.1 (search rules) c.put_row-at.ensures
 
 pub returns : goal.returns
 returns c =
-    rowed_all _ _ _ c.loop-j.invariant c.loop-j-test.false
+    rowed_all _ _ _ c.loop-j.invariant (omega arith)
