@@ -37,11 +37,9 @@ use Rattle.protocol.specs.JointEntry.{joint_answer, joint_scratch, joint_transcr
 use Rattle.party.specs.Code.{outcome_is, answer_of}
 use Rattle.party.specs.declared.Outcome.{Outcome}
 use Rattle.party.specs.declared.Outcome.TheVariants as party
---[joint
-use Rattle.joint.specs.Code.{joint_answer_of}
+use Rattle.joint.specs.Code.{ending_of, joint_answer_of}
 use Rattle.joint.specs.declared.Ending.{Ending}
 use Rattle.joint.specs.declared.Ending.TheVariants as joint
---]joint
 use Rattle.capi.specs.Numbers.{places, answer_numbers, joint_numbers}
 use Rattle.capi.specs.Calls.{room_question, called, returned, answer_verdict, joint_verdict}
 use Rattle.capi.specs.declared.Refusal.{Refusal}
@@ -116,17 +114,15 @@ answer_said (Err r) = refl
 pub answer_told : (a : Result Outcome code.Refusal) {b : E.Answer} {v : Verdict} → answer_of a ≡ b → answer_verdict b ≡ v → verdict_of a ≡ v
 answer_told a e h = answer_said a ∙ rw e h
 
---[joint
 joint_said : (a : Result Ending code.Refusal) → verdict_of a ≡ joint_verdict (joint_answer_of a)
-unfolding joint_answer_of joint_verdict
+unfolding joint_answer_of ending_of joint_verdict
 joint_said (Ok (joint.Done rounds)) = refl
-joint_said (Ok (joint.Aborted gate b rounds)) = refl
+joint_said (Ok (joint.Aborted j b rounds)) = refl
 joint_said (Err r) = refl
 
 pub joint_told : (a : Result Ending code.Refusal) {b : Whole.JointAnswer} {v : Verdict} → joint_answer_of a ≡ b → joint_verdict b ≡ v → verdict_of a ≡ v
 joint_told a e h = joint_said a ∙ rw e h
 
---]joint
 -- the verdict of an answer is that of its entry's questions
 answered : (v : Verdict) (a : E.Answer) → answer_verdict a ≡ Accepted → answer_verdict (E.answer v a) ≡ v
 unfolding E.answer answer_verdict

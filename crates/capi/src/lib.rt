@@ -207,14 +207,17 @@ fn put_position(answer: &mut [u64], kind: u64, value: u64, at: Position)
     requires { places ≤ length answer.old }
     ensures { answer.new ≡ overwrite (position_numbers kind value (position_of at)) answer.old }
 {
-    put(answer, [
-        kind,
-        value,
-        at.gate as u64,
-        u64::from(half_number(at.stage)),
-        u64::from(stage_round(at.stage)),
-        u64::from(at.held),
-    ]);
+    put(
+        answer,
+        [
+            kind,
+            value,
+            at.gate as u64,
+            u64::from(half_number(at.stage)),
+            u64::from(stage_round(at.stage)),
+            u64::from(at.held),
+        ],
+    );
 }
 
 // Nobody is 0, and a party one more than its number.
@@ -243,31 +246,34 @@ fn put_answer(answer: &mut [u64], a: Result<Outcome, questions::Refusal>)
     }
 }
 
-//[joint
-#[tactic(auto, unfolding(joint::specs::Code::joint_answer_of, crate::specs::Numbers::joint_numbers, protocol::specs::Send::overwrite))]
+#[tactic(auto, unfolding(joint::specs::Code::joint_answer_of, joint::specs::Code::ending_of, crate::specs::Numbers::joint_numbers, protocol::specs::Send::overwrite))]
 fn put_joint(answer: &mut [u64], a: Result<Ending, questions::Refusal>)
     requires { (places ≤ length answer.old) × JointTellable (joint_answer_of a) }
     ensures { answer.new ≡ overwrite (joint_numbers (joint_answer_of a)) answer.old }
 {
     match a {
         Ok(Ending::Done(rounds)) => put(answer, [DONE, rounds as u64, 0, 0, 0, 0]),
-        Ok(Ending::Aborted {
-            gate,
-            blame,
-            rounds,
-        }) => put(answer, [
-            ABORTED_RUN,
-            rounds as u64,
-            gate as u64,
-            blame_number(blame),
-            0,
-            0,
-        ]),
+        Ok(
+            Ending::Aborted {
+                gate,
+                blame,
+                rounds,
+            },
+        ) => put(
+            answer,
+            [
+                ABORTED_RUN,
+                rounds as u64,
+                gate as u64,
+                blame_number(blame),
+                0,
+                0,
+            ],
+        ),
         Err(_) => {}
     }
 }
 
-//]joint
 // What a call returns whose answer has room.
 #[tactic(auto, unfolding(crate::specs::Calls::returned))]
 pub fn returned_of<T>(asked: &Result<T, questions::Refusal>) -> Refusal
