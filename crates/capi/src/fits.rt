@@ -40,8 +40,8 @@ fn put_fit(answer: &mut [u64], a: Result<Option<usize>, questions::Refusal>)
     ensures { answer.new ≡ overwrite (fit_numbers (answer_of a)) answer.old }
 {
     match a {
-        Ok(Some(gate)) => crate::put(answer, [LEAVES, gate as u64, 0, 0, 0, 0]),
-        Ok(None) => crate::put(answer, [FITS, 0, 0, 0, 0, 0]),
+        Ok(Some(gate)) => crate::put(answer, &[LEAVES, gate as u64, 0, 0, 0, 0]),
+        Ok(None) => crate::put(answer, &[FITS, 0, 0, 0, 0, 0]),
         Err(_) => {}
     }
 }

@@ -193,13 +193,13 @@ fn stage_round(s: Stage) -> u32
     }
 }
 
-// An answer is written at the start of its list.
+// Numbers are written at the start of an answer's list.
 #[tactic(auto, unfolding(protocol::specs::Send::overwrite))]
-pub fn put(answer: &mut [u64], numbers: [u64; PLACES])
-    requires { places ≤ length answer.old }
-    ensures { answer.new ≡ overwrite numbers answer.old }
+pub fn put(answer: &mut [u64], numbers: &[u64])
+    requires { length numbers.now ≤ length answer.old }
+    ensures { answer.new ≡ overwrite numbers.now answer.old }
 {
-    answer[..PLACES].copy_from_slice(&numbers);
+    answer[..numbers.len()].copy_from_slice(numbers);
 }
 
 #[tactic(auto, unfolding(crate::specs::Numbers::position_numbers, party::specs::Code::position_of))]
@@ -207,16 +207,11 @@ fn put_position(answer: &mut [u64], kind: u64, value: u64, at: Position)
     requires { places ≤ length answer.old }
     ensures { answer.new ≡ overwrite (position_numbers kind value (position_of at)) answer.old }
 {
+    let half = u64::from(half_number(at.stage));
+    let round = u64::from(stage_round(at.stage));
     put(
         answer,
-        [
-            kind,
-            value,
-            at.gate as u64,
-            u64::from(half_number(at.stage)),
-            u64::from(stage_round(at.stage)),
-            u64::from(at.held),
-        ],
+        &[kind, value, at.gate as u64, half, round, u64::from(at.held)],
     );
 }
 
@@ -252,24 +247,20 @@ fn put_joint(answer: &mut [u64], a: Result<Ending, questions::Refusal>)
     ensures { answer.new ≡ overwrite (joint_numbers (joint_answer_of a)) answer.old }
 {
     match a {
-        Ok(Ending::Done(rounds)) => put(answer, [DONE, rounds as u64, 0, 0, 0, 0]),
+        Ok(Ending::Done(rounds)) => put(answer, &[DONE, rounds as u64, 0, 0, 0, 0]),
         Ok(
             Ending::Aborted {
                 gate,
                 blame,
                 rounds,
             },
-        ) => put(
-            answer,
-            [
-                ABORTED_RUN,
-                rounds as u64,
-                gate as u64,
-                blame_number(blame),
-                0,
-                0,
-            ],
-        ),
+        ) => {
+            let named = blame_number(blame);
+            put(
+                answer,
+                &[ABORTED_RUN, rounds as u64, gate as u64, named, 0, 0],
+            );
+        }
         Err(_) => {}
     }
 }

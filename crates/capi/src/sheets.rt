@@ -25,7 +25,7 @@ fn put_sheet(answer: &mut [u64], kind: u64, a: Result<usize, questions::Refusal>
     ensures { answer.new ≡ overwrite (sheet_numbers kind (answer_of a)) answer.old }
 {
     if let Ok(count) = a {
-        crate::put(answer, [kind, count as u64, 0, 0, 0, 0]);
+        crate::put(answer, &[kind, count as u64, 0, 0, 0, 0]);
     }
 }
 
@@ -49,9 +49,9 @@ pub fn spdz_read_sheet(
     if answer.len() < crate::PLACES {
         return crate::returned_of(&reader::read_sheet(parties, text, &mut circuit[..0]));
     }
-    let a = reader::read_sheet(parties, text, circuit);
-    put_sheet(answer, READ, a);
-    crate::returned_of(&a)
+    let read = reader::read_sheet(parties, text, circuit);
+    put_sheet(answer, READ, read);
+    crate::returned_of(&read)
 }
 
 // Writing a sheet. Where its answer has no room, its text has none: no sheet of an accepted circuit is empty, so that nothing is written.
@@ -69,7 +69,7 @@ pub fn spdz_write_sheet(parties: usize, c: &[Word], text: &mut [u8], answer: &mu
     if answer.len() < crate::PLACES {
         return crate::returned_of(&writer::write_sheet(parties, c, &mut text[..0]));
     }
-    let a = writer::write_sheet(parties, c, text);
-    put_sheet(answer, WRITTEN, a);
-    crate::returned_of(&a)
+    let written = writer::write_sheet(parties, c, text);
+    put_sheet(answer, WRITTEN, written);
+    crate::returned_of(&written)
 }

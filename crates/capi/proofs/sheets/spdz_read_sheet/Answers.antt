@@ -19,10 +19,10 @@ returns-then-answer-lt-PLACES c =
 
 pub returns : goal.returns
 returns c =
-    let run = c.read_sheet-a.ensures in
+    let run = c.read_sheet-read.ensures in
     let long : places ≤ length c.args.answer.now = omega arith in
     record {
-      returned = long_returned _ _ long (sheet_told c.read_sheet-a.result run.0 (read_verdict _ _ _)) c.returned_of-2.ensures;
+      returned = long_returned _ _ long (sheet_told c.read_sheet-read.result run.0 (read_verdict _ _ _)) c.returned_of-2.ensures;
       answer = long_left _ _ long _ _ (read_left _ _ _ _)
           (c.put_sheet.ensures ∙ ap (λ (a : Answer). overwrite (sheet_numbers sheet_read a) c.args.answer.now) run.0);
       circuit = long_left _ _ long _ _ (circuit_left _ _ _) run.1;

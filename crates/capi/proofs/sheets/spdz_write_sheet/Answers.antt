@@ -19,10 +19,10 @@ returns-then-answer-lt-PLACES c =
 
 pub returns : goal.returns
 returns c =
-    let run = c.write_sheet-a.ensures in
+    let run = c.write_sheet-written.ensures in
     let long : places ≤ length c.args.answer.now = omega arith in
     record {
-      returned = long_returned _ _ long (sheet_told c.write_sheet-a.result run.0 (write_verdict _ _ _)) c.returned_of-2.ensures;
+      returned = long_returned _ _ long (sheet_told c.write_sheet-written.result run.0 (write_verdict _ _ _)) c.returned_of-2.ensures;
       answer = long_left _ _ long _ _ (write_left _ _ _ _)
           (c.put_sheet.ensures ∙ ap (λ (a : Answer). overwrite (sheet_numbers sheet_written a) c.args.answer.now) run.0);
       text = long_left _ _ long _ _ (text_left _ _ _) run.1;
