@@ -31,9 +31,9 @@ use Rattle.protocol.proofs.Tails.{length_written}
 use Rattle.protocol.proofs.Words.{joined_ext}
 use Rattle.protocol.proofs.Following.{next_follows, next_stops, weighs_zero, weighs_not}
 use Rattle.protocol.proofs.Marks.{Sealed, ends_other, commit_sealed, said_shown, sealed_ends}
-use Rattle.joint.specs.declared.JointAnswer.{JointAnswer}
+use Rattle.joint.specs.declared.Ending.{Ending}
 use Rattle.joint.specs.declared.Frame.{Frame}
-use Rattle.joint.specs.Code.{joint_answer_of, Course, due_at, site_of, state_of, prep_from, key_in, Prepared, Banded, EachBand, rebanded, share_in, nonce_in, reveal_in, marks_in, reveals_in, noted_in, Checks, none_held, Moving, Moved, Runnable, Ran, Common}
+use Rattle.joint.specs.Code.{ending_of, Course, due_at, site_of, state_of, prep_from, key_in, Prepared, Banded, EachBand, rebanded, share_in, nonce_in, reveal_in, marks_in, reveals_in, noted_in, Checks, none_held, Moving, Moved, Runnable, Ran, Common}
 use Rattle.joint.proofs.Parties.{lent_undrawn, lent_banded, lent_prepared, lent_record_is}
 use Rattle.joint.proofs.States.{sealed_alike}
 use Rattle.joint.proofs.Going.{within, occurs, rooms, nonces_long}
@@ -227,7 +227,7 @@ module _ {f : Frame} {c preps inputs coefficients nonces l₀ t₀ o₀ : List �
             (next_stops c s.point.gate _ (Reveal k) (ap passed stops) refl)
             (λ r' e. moving.going.prep_is) refl (none_held_lem revealing.going refl) (none_taken revealing.going refl) (none_begun revealing.going refl) words_put words_long (omega arith)
 
-        pub check_stopped : {a : JointAnswer} → joint_answer_of a ≡ E.ended Aborted s.point.gate Nobody (s.rounds + 2) → Ran J l₀ t₀ o₀ a l₁ revealed_to o
+        pub check_stopped : {a : Ending} → ending_of a ≡ E.ended Aborted s.point.gate Nobody (s.rounds + 2) → Ran J l₀ t₀ o₀ a l₁ revealed_to o
         unfolding aborted
         check_stopped e =
             running_over J f l₀ t₀ o₀ able

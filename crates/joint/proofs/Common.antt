@@ -1,13 +1,13 @@
 -- Opened values are the same to all parties: they are sums of words that all receive.
 -- Assumes nothing.
-use Prim.Native.Nat.{ℕ, zero, suc, ◌+◌, ◌-◌, ◌*◌, ◌<◌, ◌≤◌}
+use Prim.Native.Nat.{ℕ, zero, suc, ◌+◌, ◌-◌, ◌<◌, ◌≤◌}
 use mathlib.Core.Path.{◌≡◌, refl, sym, ap, ◌∙◌}
 use mathlib.Core.Bool.{Bool, true, false, cond}
 use mathlib.Core.List.{List}
 use native.Mathlib.Decide.{ℕ_discrete}
 use native.Mathlib.Omega.{arith}
 use lib.Dec.{eqb}
-use lib.ListN.{length, take}
+use lib.ListN.{length}
 use borrow.Author.Tests.{eqb-true, eqb-false}
 use Rattle.algebra.specs.Ops.{Ops}
 use Rattle.algebra.specs.Element.{Is}
@@ -28,35 +28,20 @@ use Rattle.protocol.specs.Receive.{after_input, put_differences, after_opening, 
 use Rattle.protocol.specs.Code.{layout_of}
 use Rattle.protocol.specs.Joint.{Joint, party}
 use Rattle.protocol.specs.Run.{said, notes, step}
-use Rattle.protocol.proofs.Bands.{band_end}
 use Rattle.protocol.proofs.Tails.{slots_room}
 use Rattle.protocol.proofs.Marks.{ends_other}
 use Rattle.protocol.proofs.Slots.{length_opened, value_put, value_opened_same, value_opened_other}
 use Rattle.steps.specs.Code.{value_sum}
 use Rattle.joint.specs.declared.Frame.{Frame}
-use Rattle.joint.specs.Code.{Course, Banded, Common, state_of, Going, Moved}
+use Rattle.joint.specs.Code.{Course, Common, state_of, Going, Moved}
 use Rattle.joint.proofs.Going.{within, rooms as whole-rooms}
-
--- the first party's band
-pub first_band : (f : Frame) (l : List ℕ) → take f.scratch l ≡ band f.scratch l 0
-unfolding band
-first_band f l = let z : 0 * f.scratch ≡ 0 = omega arith in rw z
-
-pub first_room : {f : Frame} {l : List ℕ} → Banded f l → 0 < f.parties → f.scratch ≤ length l
-first_room {f} b some = omega (arith, band_end f.parties f.scratch 0 some, b.room)
 
 -- so their weighed sum is, which the code makes of the first party's
 pub common_sum : (f : Frame) (l : List ℕ) (k : ℕ) (coefficients : List ℕ) → Common f l k → (i : ℕ) → i < f.parties → {v : ℕ}
-    → Is size (value_sum (layout_of f.layout) (take f.scratch l) k coefficients) v
+    → Is size (value_sum (layout_of f.layout) (band f.scratch l 0) k coefficients) v
     → Is size (value_sum (layout_of f.layout) (band f.scratch l i) k coefficients) v
 common_sum f l k coefficients h i l' w =
-    record {
-      is = w.is ∙ sym (sum_ext laws k _ _ (λ t q. ap (ops.mul _) (h i l' t q ∙ first t)));
-      below = w.below;
-    }
-  where
-    first : (t : ℕ) → read (layout_of f.layout) (band f.scratch l 0) (Value t) ≡ read (layout_of f.layout) (take f.scratch l) (Value t)
-    first t = ap (λ (x : List ℕ). read (layout_of f.layout) x (Value t)) (sym (first_band f l))
+    record { is = w.is ∙ sym (sum_ext laws k _ _ (λ t q. ap (ops.mul _) (h i l' t q))); below = w.below }
 
 module _ (O : Ops) (y : Layout) {t : ℕ} (w : t < y.capacity) where
   -- a wire that is written leaves opened values, and so do linear gates

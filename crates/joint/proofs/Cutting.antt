@@ -55,6 +55,24 @@ module _ {f : Frame} {preps : List ℕ} {a k : ℕ} (q : Prepared f preps a k) (
   unfolding band
   key_is s = sym (get_or-take f.prep (drop (i * f.prep) preps) 0 0 (omega (arith, q.fits)) ∙ get_or-drop (i * f.prep) preps 0 0 ∙ ap (λ (z : ℕ). get_or preps z 0) (omega arith))
 
+  -- so what a call has cut out for it
+  pub taken_key : {key : ℕ} → key ≡ key_in f preps i → key < size
+  taken_key e = rw e (band_low 0)
+
+  pub taken_long : {m : List ℕ} → m ≡ prep_from f preps a i → k ≤ length m
+  taken_long e = rw e cut_long
+
+  pub taken_low : {m : List ℕ} → m ≡ prep_from f preps a i → Below size m
+  taken_low e = rw e cut_low
+
+-- reading more asks for reading the key share, and for reading on from the same number
+module _ {f : Frame} {preps : List ℕ} {a k : ℕ} (q : Prepared f preps a k) where
+  pub with_key : 0 < a + k → Prepared f preps 0 1
+  with_key h = record { long = q.long; low = q.low; fits = omega (arith, q.fits) }
+
+  pub from_there : Prepared f preps a 0
+  from_there = record { long = q.long; low = q.low; fits = omega (arith, q.fits) }
+
 -- the mask of a give
 pub mask_cut : {f : Frame} {preps : List ℕ} {a : ℕ} → Prepared f preps a 0 → a + mask_size ≤ f.prep → (i : ℕ) → i < f.parties → mask_size ≤ length (prep_from f preps a i)
 mask_cut {f} {preps} {a} q fits i h =
@@ -87,3 +105,6 @@ module _ {f : Frame} {l : List ℕ} (b : Banded f l) (i : ℕ) (h : i < f.partie
 
   pub band_room : slots_size (layout_of f.layout) ≤ length (band f.scratch l i)
   band_room = omega (arith, band_long, banded_slots b)
+
+  pub taken_room : {x : List ℕ} → x ≡ band f.scratch l i → slots_size (layout_of f.layout) ≤ length x
+  taken_room e = rw e band_room

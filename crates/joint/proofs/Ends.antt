@@ -28,10 +28,10 @@ use Rattle.protocol.proofs.Readiness.{settles_here}
 use Rattle.protocol.proofs.Settling.{reach_here, settle_none}
 use Rattle.protocol.proofs.Words.{joined_ext}
 use Rattle.protocol.proofs.Runs.{Over}
-use Rattle.joint.specs.declared.JointAnswer.{JointAnswer}
+use Rattle.joint.specs.declared.Ending.{Ending}
 use Rattle.joint.specs.declared.Frame.{Frame}
 use Rattle.joint.specs.declared.Stop.{Stop}
-use Rattle.joint.specs.Code.{joint_answer_of, course_of, due_at, due_in, came_to, Placed, site_of, prep_from, key_in, Prepared, Banded, EachBand, marks_in, reveals_in, Checks, Checked, checked_stop, none_held, SettlesAll, settled_all, Moving, Moved, Kept, Runnable, Ran, Common, Passed}
+use Rattle.joint.specs.Code.{ending_of, course_of, due_at, due_in, came_to, Placed, site_of, prep_from, key_in, Prepared, Banded, EachBand, marks_in, reveals_in, Checks, Checked, checked_stop, none_held, SettlesAll, settled_all, Moving, Moved, Kept, Runnable, Ran, Common, Passed}
 use Rattle.joint.proofs.Common.{input_common, opening_common, show_common}
 use Rattle.joint.proofs.Parties.{lent_key, lent_banded, lent_keyed}
 use Rattle.joint.proofs.Later.{waits_stop, placed_stop}
@@ -124,7 +124,7 @@ module _ {f : Frame} {c preps inputs coefficients nonces l₀ t₀ o₀ : List �
       first_asked = check_asked able First sealing refl all_wait refl inv.common
 
       module _ {v : ℕ} {l₁ t₁ : List ℕ} (d : Checked f preps l s.waiting s.used coefficients s.checks nonces s.written t v l₁ t₁) where
-        pub first_stopped : (v ≡ 0 → ⊥) → {a : JointAnswer} → joint_answer_of a ≡ E.ended Aborted s.gate Nobody (s.rounds + 2)
+        pub first_stopped : (v ≡ 0 → ⊥) → {a : Ending} → ending_of a ≡ E.ended Aborted s.gate Nobody (s.rounds + 2)
             → Ran (lent_all f c preps inputs coefficients nonces) l₀ t₀ o₀ a l₁ t₁ o
         first_stopped w e = rw d.transcript (check_stopped able First sealing refl all_wait d.scratch d.sum w e)
 
@@ -192,7 +192,7 @@ module _ {f : Frame} {c preps inputs coefficients nonces l₀ t₀ o₀ : List �
           pub second_record : s₁.prep + (shape (gate c s.gate)).prep ≤ f.prep
           second_record = output_record able shown refl e.scratch
 
-          pub second_stopped : (v ≡ 0 → ⊥) → {a : JointAnswer} → joint_answer_of a ≡ E.ended Aborted s.gate Nobody (s₁.rounds + 2)
+          pub second_stopped : (v ≡ 0 → ⊥) → {a : Ending} → ending_of a ≡ E.ended Aborted s.gate Nobody (s₁.rounds + 2)
               → Ran (lent_all f c preps inputs coefficients nonces) l₀ t₀ o₀ a l₂ t₂ o
           second_stopped w q = rw e.transcript (check_stopped able Second shown refl refl e.scratch e.sum w q)
 
@@ -245,7 +245,7 @@ module _ {f : Frame} {c preps inputs coefficients nonces l₀ t₀ o₀ : List �
 
   -- no gate is left
   pub standing_over : {s : Stop} {places l t o : List ℕ} → Standing (lent_all f c preps inputs coefficients nonces) f l₀ t₀ o₀ s places l t o → gates c ≤ s.gate
-      → {a : JointAnswer} → joint_answer_of a ≡ E.Done s.rounds → Ran (lent_all f c preps inputs coefficients nonces) l₀ t₀ o₀ a l t o
+      → {a : Ending} → ending_of a ≡ E.Done s.rounds → Ran (lent_all f c preps inputs coefficients nonces) l₀ t₀ o₀ a l t o
   unfolding finished E.ended
   standing_over {s} {l = l} {t = t} {o = o} inv h e =
       running_over (lent_all f c preps inputs coefficients nonces) f l₀ t₀ o₀ able

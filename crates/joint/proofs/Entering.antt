@@ -16,9 +16,9 @@ use Rattle.protocol.specs.Entry.{leave}
 use Rattle.protocol.specs.Joint.{Joint}
 use Rattle.protocol.specs.JointAsk.{ask_joint}
 use Rattle.protocol.specs.JointEntry.{JointAnswer, Refusal, jointly, verdict, joint_answer, joint_scratch, joint_transcript, joint_outputs}
-use Rattle.joint.specs.declared.JointAnswer as D
+use Rattle.joint.specs.declared.Ending.{Ending}
 use Rattle.joint.specs.declared.Frame.{Frame}
-use Rattle.joint.specs.Code.{joint_of, joint_answer_of, Placed, Framed, Runnable, Ran}
+use Rattle.joint.specs.Code.{joint_of, ending_of, Placed, Framed, Runnable, Ran}
 use Rattle.joint.proofs.Measures.{gates_are}
 use Rattle.joint.proofs.Accepting.{setting_of, lent_of, asked, Settled, settled, accepted_runnable}
 
@@ -40,8 +40,8 @@ module _ (J : Joint) (l t o : List ℕ) where
   unfolding joint_answer joint_scratch joint_transcript joint_outputs verdict jointly leave
   entry_refused e = (rw e, (rw e, (rw e, rw e)))
 
-  entry_ran : ask_joint size J l (length t) (length o) ≡ Accepted → {a : D.JointAnswer} {l' t' o' : List ℕ} → Ran J l t o a l' t' o'
-      → Ensured J l t o (joint_answer_of a) l' t' o'
+  entry_ran : ask_joint size J l (length t) (length o) ≡ Accepted → {a : Ending} {l' t' o' : List ℕ} → Ran J l t o a l' t' o'
+      → Ensured J l t o (ending_of a) l' t' o'
   unfolding joint_answer joint_scratch joint_transcript joint_outputs verdict jointly leave
   entry_ran e d = (rw e d.answer, (rw e d.scratch, (rw e d.transcript, rw e d.outputs)))
 
@@ -75,8 +75,8 @@ module _ (n : ℕ) (c preps inputs coefficients nonces l t o : List ℕ) (s : se
         accepted : lent_of n c preps inputs (length l) coefficients (length nonces) (length t) (length o) ≡ Accepted
         accepted = rw framed.parties at e
 
-    pub entry_left : {a : D.JointAnswer} {l' t' o' : List ℕ} → Ran (joint_of f.parties c preps inputs coefficients nonces) l t o a l' t' o'
-        → Ensured J l t o (joint_answer_of a) l' t' o'
+    pub entry_left : {a : Ending} {l' t' o' : List ℕ} → Ran (joint_of f.parties c preps inputs coefficients nonces) l t o a l' t' o'
+        → Ensured J l t o (ending_of a) l' t' o'
     entry_left {a} {l'} {t'} {o'} d =
         entry_ran J l t o (sym lent_is ∙ e)
         (subst (λ (k : ℕ). Ran (joint_of k c preps inputs coefficients nonces) l t o a l' t' o') framed.parties d)

@@ -8,6 +8,7 @@ pub mod Arrays
 pub mod Releasing
 pub mod Rows
 pub mod Cutting
+pub mod Parting
 pub mod SendTurns
 pub mod ReceiveTurns
 pub mod Measures

@@ -179,6 +179,9 @@ module _ (f : Frame) (c preps : List ℕ) (a : ℕ) (l₀ : List ℕ) (b : Bande
               reaching = reaching_again c f.layout.gates a j inv.reaching h linear;
             }
 
+    pub all_last : f.layout.gates ≤ j → f.layout.gates ≡ j
+    all_last h = omega (arith, inv.reaching)
+
     pub all_done : f.layout.gates ≤ j → j ≡ reach c (f.layout.gates - a) a
     all_done = reaching_done c f.layout.gates a j inv.reaching
 

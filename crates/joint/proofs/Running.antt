@@ -24,9 +24,9 @@ use Rattle.protocol.specs.Send.{overwrite}
 use Rattle.protocol.specs.Joint.{Joint, joined, party}
 use Rattle.protocol.specs.Run.{State, Run, said, step, released, takes, begun, still, ahead, run, most_rounds, whole}
 use Rattle.protocol.specs.JointEntry as E
-use Rattle.joint.specs.declared.JointAnswer.{JointAnswer}
+use Rattle.joint.specs.declared.Ending.{Ending}
 use Rattle.joint.specs.declared.Frame.{Frame}
-use Rattle.joint.specs.Code.{Course, joint_answer_of, site_of, state_of, due_at, none_held, Going, Moving, Alike, Turned, Runnable, Ran}
+use Rattle.joint.specs.Code.{Course, ending_of, site_of, state_of, due_at, none_held, Going, Moving, Alike, Turned, Runnable, Ran}
 use Rattle.protocol.proofs.Words.{length_band, joined_ext}
 use Rattle.joint.proofs.Written.{Written, written_more, written_le, written_done}
 use Rattle.protocol.proofs.Tails.{length_written}
@@ -305,7 +305,7 @@ module _ (J : Joint) (f : Frame) where
           ∙ ap (λ (k : ℕ). joined J.parties (whole ops J l₀).last.scratch ++ drop (J.parties * k) l₀) able.lent.framed.scratch
 
       -- so the answer tells the end of the whole run, and the lists hold what it leaves
-      pub running_over : {a : JointAnswer} → joint_answer_of a ≡ E.ended s.point.stage s.point.gate Nobody s.rounds → Ran J l₀ t₀ o₀ a l t o
+      pub running_over : {a : Ending} → ending_of a ≡ E.ended s.point.stage s.point.gate Nobody s.rounds → Ran J l₀ t₀ o₀ a l t o
       running_over e =
           record {
             answer = rw (point_last, blame_last, rounds_is) e;

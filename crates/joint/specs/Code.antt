@@ -1,10 +1,12 @@
 -- What the code's types stand for, and what its functions ask.
 -- Assumes nothing.
-use Rattle.std.specs.Prelude.{ℕ, ◌+◌, ◌-◌, ◌*◌, ◌<◌, ◌≤◌, ◌≡◌, false, cond, ◌&&◌, List, [], ◌∷◌, ◌++◌, length, get_or, take, drop, replicate, ltb, leb, eqb}
+use Rattle.std.specs.Prelude.{ℕ, ◌+◌, ◌-◌, ◌*◌, ◌<◌, ◌≤◌, ◌≡◌, false, cond, ◌&&◌, List, [], ◌∷◌, ◌++◌, length, get_or, take, drop, replicate, ltb, leb, eqb, Result, Ok, Err}
 use Rattle.algebra.specs.Ops.{Ops}
 use Rattle.algebra.specs.Element.{Is}
 use Rattle.field.specs.Words.{size, ops}
 use Rattle.circuit.specs.Verdict.{Verdict, ask, ◌then◌, elements}
+use Rattle.circuit.specs.Question.{number_of}
+use Rattle.circuit.specs.declared.questions.Refusal.{Refusal}
 use Rattle.circuit.specs.Gate.{gate, gates}
 use Rattle.circuit.specs.Kind.{Class, Local, Owned, Opens, Output, shape}
 use Rattle.circuit.specs.Count.{prep_size, prep_at, input_at, in_count, out_count, unchecked}
@@ -24,15 +26,18 @@ use Rattle.protocol.specs.Ask.{fewest_parties, most_parties}
 use Rattle.protocol.specs.Joint.{Joint, joined, inputs_at, party, nonce_for}
 use Rattle.protocol.specs.Run.{State, taken, said, step, released, most_rounds, whole}
 use Rattle.protocol.specs.JointEntry as E
-use Rattle.joint.specs.declared.JointAnswer.{JointAnswer}
-use Rattle.joint.specs.declared.JointAnswer.TheVariants.{Refusal, Done, Aborted}
+use Rattle.joint.specs.declared.Ending.{Ending}
+use Rattle.joint.specs.declared.Ending.TheVariants.{Done, Aborted}
 use Rattle.joint.specs.declared.Frame.{Frame}
 use Rattle.joint.specs.declared.Stop.{Stop}
 
-unfoldable pub joint_answer_of : JointAnswer → E.JointAnswer
-joint_answer_of (Refusal number index) = E.Refusal number index
-joint_answer_of (Done rounds) = E.Done rounds
-joint_answer_of (Aborted gate blame rounds) = E.Aborted gate (blame_of blame) rounds
+unfoldable pub ending_of : Ending → E.JointAnswer
+ending_of (Done rounds) = E.Done rounds
+ending_of (Aborted gate blame rounds) = E.Aborted gate (blame_of blame) rounds
+
+unfoldable pub joint_answer_of : Result Ending Refusal → E.JointAnswer
+joint_answer_of (Ok e) = ending_of e
+joint_answer_of (Err r) = E.Refusal (number_of r.question) r.index
 
 -- what a joint run is lent, from the lists of the code
 abbrev pub joint_of : ℕ → List ℕ → List ℕ → List ℕ → List ℕ → List ℕ → Joint
@@ -341,8 +346,8 @@ pub record Runnable (J : Joint) (f : Frame) (l t o : List ℕ) : Type 0 where
   pub outputs_fit : out_count J.circuit ≤ length o
 
 -- what a run leaves
-pub record Ran (J : Joint) (l t o : List ℕ) (a : JointAnswer) (l' t' o' : List ℕ) : Type 0 where
-  pub answer : joint_answer_of a
+pub record Ran (J : Joint) (l t o : List ℕ) (a : Ending) (l' t' o' : List ℕ) : Type 0 where
+  pub answer : ending_of a
       ≡ E.ended (whole ops J l).last.point.stage (whole ops J l).last.point.gate (whole ops J l).last.blame (whole ops J l).rounds
   pub scratch : l' ≡ joined J.parties (whole ops J l).last.scratch ++ drop (J.parties * scratch_size J.parties J.circuit) l
   pub transcript : t' ≡ overwrite (whole ops J l).transcript t

@@ -2,7 +2,8 @@
 ghost use Rattle.std.specs.Prelude.{◌≡◌, ◌*◌, ◌≤◌};
 ghost use Rattle.field.specs.Words.{size};
 ghost use Rattle.circuit.specs.Verdict.{◌then◌};
-ghost use Rattle.circuit.specs.Code.{verdict_was, Totalled};
+ghost use Rattle.circuit.specs.Question.{verdict_of};
+ghost use Rattle.circuit.specs.Code.{Totalled};
 ghost use Rattle.circuit.specs.Count.{prep_size, in_count, out_count};
 ghost use Rattle.circuit.specs.Round.{nonce_size, word_count, coefficient_count, check_count};
 ghost use Rattle.circuit.specs.Valid.{Valid};
@@ -11,11 +12,14 @@ ghost use Rattle.protocol.specs.Ask.{most_parties};
 ghost use Rattle.joint.specs.Code.{Framed, lists_of, rooms_of};
 
 use crate::Frame;
+use circuit::Totals;
+use circuit::questions::{Question, Refusal, ask};
 use circuit::rounds::NONCE_SIZE;
-use circuit::{Totals, Verdict};
 use field::Word;
+use party::asking::{ask_elements, ask_lists};
 
 // Questions 16, 17, 25 and 18: so many coefficients, bytes of nonces, words and outputs are wanted.
+#[tactic(auto, using(circuit::proofs::Verdicts::asked))]
 fn ask_rooms(
     coefficients: &[Word],
     due: usize,
@@ -25,40 +29,13 @@ fn ask_rooms(
     transcript: usize,
     outs: usize,
     outputs: usize,
-) -> Verdict
-    ensures { verdict_was result ≡ rooms_of coefficients.now due nonces bytes words transcript outs outputs }
+) -> Result<(), Refusal>
+    ensures { verdict_of result ≡ rooms_of coefficients.now due nonces bytes words transcript outs outputs }
 {
-    if coefficients.len() != due {
-        return Verdict::Refused {
-            number: 16,
-            index: 0,
-        };
-    }
-    match party::asking::ask_elements(17, coefficients) {
-        Verdict::Refused { number, index } => {
-            return Verdict::Refused { number, index };
-        }
-        Verdict::Accepted => {}
-    }
-    if nonces != bytes {
-        return Verdict::Refused {
-            number: 25,
-            index: 0,
-        };
-    }
-    if transcript < words {
-        return Verdict::Refused {
-            number: 18,
-            index: 0,
-        };
-    }
-    if outputs < outs {
-        return Verdict::Refused {
-            number: 18,
-            index: 0,
-        };
-    }
-    Verdict::Accepted
+    ask(Question::CoefficientCount, 0, coefficients.len() == due)?;
+    ask_elements(Question::Coefficients, coefficients)?;
+    ask(Question::Nonce, 0, nonces == bytes)?;
+    ask(Question::Room, 0, words <= transcript && outs <= outputs)
 }
 
 // The questions after 7, of a scratch, nonces, a transcript and a list of outputs of those lengths.
@@ -73,28 +50,23 @@ pub fn ask_lent(
     nonces: usize,
     transcript: usize,
     outputs: usize,
-) -> Verdict
+) -> Result<(), Refusal>
     requires { Valid f.parties size c.now
         × (f.parties ≤ most_parties)
         × Framed f.parties c.now f
         × Totalled c.now f.layout.gates totals }
-    ensures { verdict_was result
+    ensures { verdict_of result
         ≡ (lists_of preps.now (f.parties * prep_size c.now) inputs.now (in_count c.now) room (f.parties * scratch_size f.parties c.now)
         then rooms_of coefficients.now (coefficient_count c.now) nonces (nonce_size * (f.parties * check_count c.now)) (f.parties * word_count c.now) transcript (out_count c.now) outputs) }
 {
-    match party::asking::ask_lists(
+    ask_lists(
         preps,
         f.parties * f.prep,
         inputs,
         totals.ins,
         room,
         f.parties * f.scratch,
-    ) {
-        Verdict::Refused { number, index } => {
-            return Verdict::Refused { number, index };
-        }
-        Verdict::Accepted => {}
-    }
+    )?;
     ask_rooms(
         coefficients,
         totals.coefficients,

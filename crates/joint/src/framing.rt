@@ -5,12 +5,43 @@ ghost use Rattle.circuit.specs.Gate.{gates};
 ghost use Rattle.circuit.specs.Valid.{Valid};
 ghost use Rattle.circuit.specs.Code.{Totalled};
 ghost use Rattle.protocol.specs.Ask.{most_parties};
-ghost use Rattle.joint.specs.Code.{Small, Counted, CountedOn, Placed, Framed};
+ghost use Rattle.protocol.specs.Scratch.{band};
+ghost use Rattle.joint.specs.Code.{Small, Counted, CountedOn, Placed, Framed, prep_from, key_in, Prepared, Banded};
 
 use crate::Frame;
+use crate::parts::part_of;
 use circuit::Totals;
 use field::Word;
 use protocol::Layout;
+
+impl Frame {
+    // Party i's key share, which is the first number of its preprocessing.
+    #[tactic(auto, unfolding(protocol::specs::Scratch::band))]
+    pub fn key(self, preps: &[Word], i: usize) -> Word
+        requires { (i < self.parties) × Prepared self preps.now 0 1 }
+        ensures { result ≡ key_in self preps.now i }
+    {
+        part_of(preps, self.prep, i)[0]
+    }
+
+    // Party i's preprocessing from number at on.
+    #[tactic(auto, unfolding(protocol::specs::Scratch::band))]
+    pub fn prep_from(self, preps: &[Word], at: usize, i: usize) -> &[Word]
+        requires { (i < self.parties) × Prepared self preps.now at 0 }
+        ensures { result.now ≡ prep_from self preps.now at i }
+    {
+        &part_of(preps, self.prep, i)[at..]
+    }
+
+    // Party i's band of the scratch of all.
+    #[tactic(auto, unfolding(protocol::specs::Scratch::band))]
+    pub fn band(self, scratch: &[Word], i: usize) -> &[Word]
+        requires { (i < self.parties) × Banded self scratch.now }
+        ensures { result.now ≡ band self.scratch scratch.now i }
+    {
+        part_of(scratch, self.scratch, i)
+    }
+}
 
 // Where gate j is an in gate, the number of its owner goes on.
 fn count_input(parties: usize, c: &[Word], j: usize, counts: &mut [usize])
@@ -29,10 +60,8 @@ fn count_inputs(parties: usize, c: &[Word], count: usize) -> [usize; 8]
     ensures { Counted parties c.now count result }
 {
     let mut counts = [0usize; 8];
-    let mut j = 0;
-    while j < count {
+    for j in 0..count {
         count_input(parties, c, j, &mut counts);
-        j += 1;
     }
     counts
 }
@@ -45,11 +74,9 @@ pub fn starts_of(parties: usize, c: &[Word], count: usize) -> [usize; 8]
     let counts = count_inputs(parties, c, count);
     let mut starts = [0usize; 8];
     let mut at = 0;
-    let mut i = 0;
-    while i < parties {
+    for i in 0..parties {
         starts[i] = at;
         at += counts[i];
-        i += 1;
     }
     starts
 }

@@ -3,6 +3,7 @@
 
 mod asking;
 mod framing;
+mod parts;
 mod receiving;
 mod rounds;
 mod sending;
@@ -12,17 +13,13 @@ ghost use Rattle.field.specs.Words.{ops};
 ghost use Rattle.protocol.specs.JointEntry.{joint_answer, joint_scratch, joint_transcript, joint_outputs};
 ghost use Rattle.joint.specs.Code.{joint_answer_of, joint_of};
 
-use circuit::Verdict;
+use circuit::questions::Refusal;
 use field::Word;
 use protocol::{Blame, Layout};
 
-// A refusal's number and index; the rounds made; the gate at which the run is aborted, whom the stop names, and the rounds made.
+// How a run ends: the rounds made; or the gate at which it is aborted, whom the stop names, and the rounds made.
 #[derive(Clone, Copy)]
-pub enum JointAnswer {
-    Refusal {
-        number: u32,
-        index: usize,
-    },
+pub enum Ending {
     Done(usize),
     Aborted {
         gate: usize,
@@ -73,7 +70,7 @@ pub fn joint_run(
     nonces: &[u8],
     transcript: &mut [Word],
     outputs: &mut [Word],
-) -> JointAnswer
+) -> Result<Ending, Refusal>
     ensures answer { joint_answer_of result
         ≡ joint_answer ops (joint_of parties c.now preps.now inputs.now coefficients.now nonces.now)
         scratch.old transcript.old outputs.old }
@@ -87,16 +84,11 @@ pub fn joint_run(
         ≡ joint_outputs ops (joint_of parties c.now preps.now inputs.now coefficients.now nonces.now)
         scratch.old transcript.old outputs.old }
 {
-    match party::asking::ask_setting(parties, c) {
-        Verdict::Refused { number, index } => {
-            return JointAnswer::Refusal { number, index };
-        }
-        Verdict::Accepted => {}
-    }
+    party::asking::ask_setting(parties, c)?;
     let count = c.len() / gates::reading::GATE_SIZE;
     let totals = gates::counting::totals_before(c, count);
     let f = framing::frame_of(parties, c, count, totals);
-    match asking::ask_lent(
+    asking::ask_lent(
         f,
         totals,
         c,
@@ -107,14 +99,9 @@ pub fn joint_run(
         nonces.len(),
         transcript.len(),
         outputs.len(),
-    ) {
-        Verdict::Refused { number, index } => {
-            return JointAnswer::Refusal { number, index };
-        }
-        Verdict::Accepted => {}
-    }
+    )?;
     let mut places = framing::starts_of(parties, c, count);
-    rounds::run(
+    Ok(rounds::run(
         f,
         &mut places,
         c,
@@ -125,5 +112,5 @@ pub fn joint_run(
         nonces,
         transcript,
         outputs,
-    )
+    ))
 }

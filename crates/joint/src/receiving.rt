@@ -16,6 +16,7 @@ ghost use Rattle.protocol.specs.Scratch.{band, put_marks};
 ghost use Rattle.joint.specs.Code.{prep_from, key_in, Prepared, Banded, EachBand, rebanded, SettlesAll, settled_all};
 
 use crate::Frame;
+use crate::parts::each_part;
 use circuit::Kind;
 use field::Word;
 
@@ -25,25 +26,11 @@ pub fn receive_inputs(f: Frame, j: usize, at: usize, preps: &[Word], scratch: &m
     ensures { scratch.new
         ≡ rebanded f (λ i. after_input ops i (key_in f preps.now i) (layout_of f.layout) (band f.scratch scratch.old i) j (prep_from f preps.now at i) e) scratch.old }
 {
-    let mut start = 0;
-    let mut i = 0;
-    while i < f.parties {
-        let end = start + f.scratch;
-        let key = i * f.prep;
-        let first = key + at;
-        let last = key + f.prep;
-        steps::receiving::after_input(
-            i,
-            preps[key],
-            f.layout,
-            &mut scratch[start..end],
-            j,
-            &preps[first..last],
-            e,
-        );
-        start = end;
-        i += 1;
-    }
+    each_part(f.parties, f.scratch, scratch, |i, band| {
+        let key = f.key(preps, i);
+        let record = f.prep_from(preps, at, i);
+        steps::receiving::after_input(i, key, f.layout, band, j, record, e);
+    });
 }
 
 // Gate j, which names x and z, opens k values, and whose record stands at number at; e and d are opened after u entries.
@@ -66,30 +53,11 @@ pub fn receive_openings(
     ensures { scratch.new
         ≡ rebanded f (λ i. after_opening ops i (key_in f preps.now i) (layout_of f.layout) (band f.scratch scratch.old i) j x z (prep_from f preps.now at i) k u e d) scratch.old }
 {
-    let mut start = 0;
-    let mut i = 0;
-    while i < f.parties {
-        let end = start + f.scratch;
-        let key = i * f.prep;
-        let first = key + at;
-        let last = key + f.prep;
-        steps::receiving::after_opening(
-            i,
-            preps[key],
-            f.layout,
-            &mut scratch[start..end],
-            j,
-            x,
-            z,
-            &preps[first..last],
-            k,
-            u,
-            e,
-            d,
-        );
-        start = end;
-        i += 1;
-    }
+    each_part(f.parties, f.scratch, scratch, |i, band| {
+        let key = f.key(preps, i);
+        let record = f.prep_from(preps, at, i);
+        steps::receiving::after_opening(i, key, f.layout, band, j, x, z, record, k, u, e, d);
+    });
 }
 
 // An output that names x; e is the sum of the shown shares, and the record of a give stands at number at.
@@ -110,23 +78,9 @@ pub fn receive_outputs(
     ensures { scratch.new
         ≡ rebanded f (λ i. after_open_output ops (layout_of f.layout) (band f.scratch scratch.old i) (shown ops (layout_of f.layout) (band f.scratch scratch.old i) give x (prep_from f preps.now at i)) e) scratch.old }
 {
-    let mut start = 0;
-    let mut i = 0;
-    while i < f.parties {
-        let end = start + f.scratch;
-        let first = i * f.prep + at;
-        let last = i * f.prep + f.prep;
-        steps::receiving::after_open_output(
-            f.layout,
-            &mut scratch[start..end],
-            x,
-            give,
-            &preps[first..last],
-            e,
-        );
-        start = end;
-        i += 1;
-    }
+    each_part(f.parties, f.scratch, scratch, |i, band| {
+        steps::receiving::after_open_output(f.layout, band, x, give, f.prep_from(preps, at, i), e);
+    });
 }
 
 // The score of output j that is listed, from the receiver's band and record; the record of a give stands at number at.
@@ -149,11 +103,12 @@ pub fn listed_score(
         ≡ score ops (layout_of f.layout) (band f.scratch scratch.now (receiver (gate c.now j))) give (prep_from f preps.now at (receiver (gate c.now j))) }
 {
     let i = gates::reading::receiver_at(c, j);
-    let first = i * f.prep + at;
-    let last = i * f.prep + f.prep;
-    let start = i * f.scratch;
-    let end = start + f.scratch;
-    steps::receiving::score_of(&scratch[start..end], f.layout, give, &preps[first..last])
+    steps::receiving::score_of(
+        f.band(scratch, i),
+        f.layout,
+        give,
+        f.prep_from(preps, at, i),
+    )
 }
 
 // A commitment, whose words are the marks of all.
@@ -162,14 +117,9 @@ pub fn receive_marks(f: Frame, scratch: &mut [Word], marks: &[Word])
     ensures { scratch.new
         ≡ rebanded f (λ i. put_marks (layout_of f.layout) (band f.scratch scratch.old i) marks.now) scratch.old }
 {
-    let mut start = 0;
-    let mut i = 0;
-    while i < f.parties {
-        let end = start + f.scratch;
-        steps::scratch::put_marks(&mut scratch[start..end], f.layout, marks);
-        start = end;
-        i += 1;
-    }
+    each_part(f.parties, f.scratch, scratch, |_, band| {
+        steps::scratch::put_marks(band, f.layout, marks);
+    });
 }
 
 // Gate j, of a local kind, which names x and z and is worked out with k.
@@ -191,25 +141,10 @@ fn settle_gate(
     ensures { scratch.new
         ≡ rebanded f (λ i. put_linear ops i (key_in f preps.now i) (layout_of f.layout) (band f.scratch scratch.old i) j (kind_of kind) x z k) scratch.old }
 {
-    let mut start = 0;
-    let mut i = 0;
-    while i < f.parties {
-        let end = start + f.scratch;
-        let key = i * f.prep;
-        steps::receiving::after_linear(
-            i,
-            preps[key],
-            f.layout,
-            &mut scratch[start..end],
-            j,
-            kind,
-            x,
-            z,
-            k,
-        );
-        start = end;
-        i += 1;
-    }
+    each_part(f.parties, f.scratch, scratch, |i, band| {
+        let key = f.key(preps, i);
+        steps::receiving::after_linear(i, key, f.layout, band, j, kind, x, z, k);
+    });
 }
 
 // The linear gates from gate from on, up to the stop that they reach, which is returned: each gate is read and what it is
@@ -219,20 +154,16 @@ pub fn settle(f: Frame, c: &[Word], from: usize, preps: &[Word], scratch: &mut [
     ensures { (result ≡ reach c.now (f.layout.gates - from) from)
         × (scratch.new ≡ settled_all f c.now preps.now scratch.old from) }
 {
-    let mut j = from;
-    while j < f.layout.gates {
+    for j in from..f.layout.gates {
         let kind = gates::reading::kind_at(c, j);
         let g = circuit::shapes::shape_of(kind);
-        let class = g.class;
-        if !circuit::shapes::is_linear(class) {
+        if !circuit::shapes::is_linear(g.class) {
             return j;
         }
         let x = gates::reading::first_at(c, j);
         let z = gates::reading::second_at(c, j);
-        let role = g.constant;
-        let k = steps::receiving::operand_at(c, j, role);
+        let k = steps::receiving::operand_at(c, j, g.constant);
         settle_gate(f, j, kind, x, z, k, preps, scratch);
-        j += 1;
     }
-    j
+    f.layout.gates
 }

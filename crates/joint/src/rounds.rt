@@ -10,11 +10,10 @@ ghost use Rattle.circuit.specs.Code.{shape_of};
 ghost use Rattle.protocol.specs.Position.{resume};
 ghost use Rattle.joint.specs.Code.{joint_of, Placed, course_of, due_at, Moving, Moved, none_held, Passed, Kept, Checks, Checked, checked_stop, SettlesAll, settled_all, Runnable, Ran};
 
-use crate::{Checkup, Frame, JointAnswer, Stop, receiving, sending};
+use crate::{Checkup, Ending, Frame, Stop, receiving, sending};
 use circuit::Shape;
 use circuit::rounds::{COMMIT_WORDS, NONCE_SIZE, REVEAL_WORDS};
 use field::Word;
-use protocol::Blame;
 
 // The round of an in gate, which has the shape g; each party's next input is at its place.
 fn input_round(
@@ -61,12 +60,9 @@ fn input_round(
     Stop {
         gate: j + 1,
         prep: s.prep + g.prep,
-        waiting: s.waiting,
-        used: s.used,
-        checks: s.checks,
         written: end,
-        released: s.released,
         rounds: s.rounds + 1,
+        ..s
     }
 }
 
@@ -115,11 +111,9 @@ fn opening_round(
         gate: j + 1,
         prep: s.prep + g.prep,
         waiting: s.waiting + k,
-        used: s.used,
-        checks: s.checks,
         written: end,
-        released: s.released,
         rounds: s.rounds + 1,
+        ..s
     }
 }
 
@@ -159,14 +153,9 @@ fn show_round(
     let e = steps::receiving::heard_sum(f.parties, 1, 0, &transcript[start..end]);
     receiving::receive_outputs(f, s.prep, x, give, preps, scratch, e);
     Stop {
-        gate: s.gate,
-        prep: s.prep,
-        waiting: s.waiting,
-        used: s.used,
-        checks: s.checks,
         written: end,
-        released: s.released,
         rounds: s.rounds + 1,
+        ..s
     }
 }
 
@@ -203,14 +192,12 @@ fn check(
     Checkup {
         sum,
         next: Stop {
-            gate: s.gate,
-            prep: s.prep,
             waiting: 0,
             used: s.used + k,
             checks: s.checks + 1,
             written: end,
-            released: s.released,
             rounds: s.rounds + 2,
+            ..s
         },
     }
 }
@@ -228,7 +215,7 @@ pub fn run(
     nonces: &[u8],
     transcript: &mut [Word],
     outputs: &mut [Word],
-) -> JointAnswer
+) -> Ending
     requires { Runnable (joint_of f.parties c.now preps.now inputs.now coefficients.now nonces.now) f scratch.old transcript.old outputs.old
         × Placed f.parties c.now 0 places.old }
     ensures { Ran (joint_of f.parties c.now preps.now inputs.now coefficients.now nonces.now) scratch.old transcript.old outputs.old result scratch.new transcript.new outputs.new }
@@ -247,7 +234,7 @@ pub fn run(
         let from = s.gate;
         let j = receiving::settle(f, c, from, preps, scratch);
         if f.layout.gates <= j {
-            return JointAnswer::Done(s.rounds);
+            return Ending::Done(s.rounds);
         }
         s.gate = j;
         let g = gates::reading::shape_at(c, j);
@@ -297,9 +284,9 @@ pub fn run(
             );
             s = first.next;
             if first.sum != 0 {
-                return JointAnswer::Aborted {
+                return Ending::Aborted {
                     gate: j,
-                    blame: Blame::Nobody,
+                    blame: None,
                     rounds: s.rounds,
                 };
             }
@@ -320,9 +307,9 @@ pub fn run(
         let second = check(f, 1, s, preps, scratch, coefficients, nonces, transcript);
         s = second.next;
         if second.sum != 0 {
-            return JointAnswer::Aborted {
+            return Ending::Aborted {
                 gate: j,
-                blame: Blame::Nobody,
+                blame: None,
                 rounds: s.rounds,
             };
         }

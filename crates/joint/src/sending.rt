@@ -16,9 +16,10 @@ ghost use Rattle.protocol.specs.Joint.{joined};
 ghost use Rattle.joint.specs.Code.{prep_from, Prepared, Banded, EachBand, rebanded, Common, share_in, revealed_by};
 
 use crate::Frame;
+use crate::parts::{each_part, each_word, part_of};
 use circuit::rounds::{COMMIT_WORDS, NONCE_SIZE, REVEAL_WORDS};
 use field::Word;
-use steps::{Ends, Sums};
+use steps::Ends;
 
 // Each party's word of an in gate into out. Its record stands at number at of each party's preprocessing, and each party's next input at its
 // place.
@@ -39,13 +40,9 @@ pub fn input_words(
     ensures { out.new
         ≡ joined f.parties (λ i. input_word ops i owner (prep_from f preps.now at i) (get_or inputs.now (get_or places.now i 0) 0) ∷ []) }
 {
-    let mut i = 0;
-    while i < f.parties {
-        let start = i * f.prep + at;
-        let end = i * f.prep + f.prep;
-        out[i] = steps::sending::input_word(i, owner, &preps[start..end], inputs, places[i]);
-        i += 1;
-    }
+    each_word(out, |i| {
+        steps::sending::input_word(i, owner, f.prep_from(preps, at, i), inputs, places[i])
+    });
 }
 
 // Each party's k words of a gate that opens k values into out, and what the first and the last words of all come to. The gate names x and z,
@@ -59,7 +56,7 @@ pub fn opening_words(
     preps: &[Word],
     scratch: &[Word],
     out: &mut [Word],
-) -> Ends
+) -> Ends<Word>
     requires { (1 ≤ k)
         × (k ≤ 2)
         × Prepared f preps.now at (2 * k + 2)
@@ -72,27 +69,20 @@ pub fn opening_words(
     ensures sums { Is size (heard_sum ops f.parties k 0 out.new) result.first
         × Is size (heard_sum ops f.parties k (k - 1) out.new) result.last }
 {
-    let mut sums = Sums { first: 0, last: 0 };
-    let mut a = 0;
-    let mut i = 0;
-    while i < f.parties {
-        let b = a + k;
-        let first = i * f.prep + at;
-        let last = i * f.prep + f.prep;
-        let start = i * f.scratch;
-        let end = start + f.scratch;
+    let mut sums = Ends { first: 0, last: 0 };
+    // No each_part: the clauses of a function that takes a closure tell nothing of sums that the closure adds to.
+    for i in 0..f.parties {
+        let start = i * k;
         let ends = steps::sending::opening_words(
-            &scratch[start..end],
+            f.band(scratch, i),
             f.layout,
             x,
             z,
-            &preps[first..last],
+            f.prep_from(preps, at, i),
             k,
-            &mut out[a..b],
+            &mut out[start..start + k],
         );
         sums = steps::receiving::hear(sums, ends);
-        a = b;
-        i += 1;
     }
     steps::receiving::heard_ends(sums)
 }
@@ -116,22 +106,10 @@ pub fn output_words(
     ensures { out.new
         ≡ joined f.parties (λ i. (shown ops (layout_of f.layout) (band f.scratch scratch.now i) give x (prep_from f preps.now at i)).share ∷ []) }
 {
-    let mut i = 0;
-    while i < f.parties {
-        let first = i * f.prep + at;
-        let last = i * f.prep + f.prep;
-        let start = i * f.scratch;
-        let end = start + f.scratch;
-        let shown = steps::sending::shown_part(
-            &scratch[start..end],
-            f.layout,
-            x,
-            give,
-            &preps[first..last],
-        );
-        out[i] = shown.share;
-        i += 1;
-    }
+    each_word(out, |i| {
+        let band = f.band(scratch, i);
+        steps::sending::shown_part(band, f.layout, x, give, f.prep_from(preps, at, i)).share
+    });
 }
 
 // Each party's check share over the first k opened entries, whose coefficients start at u, into out. The opened values are the same to all, so
@@ -157,25 +135,13 @@ pub fn check_shares(
         × (length out.old ≡ f.parties) }
     ensures { out.new ≡ joined f.parties (λ i. share_in f preps.now scratch.now k u coefficients.now i ∷ []) }
 {
-    let v = u + k;
-    let w = f.scratch;
-    let sum = steps::sending::weigh_values(&scratch[..w], f.layout, k, &coefficients[u..v]);
-    let mut i = 0;
-    while i < f.parties {
-        let key = i * f.prep;
-        let start = i * f.scratch;
-        let end = start + f.scratch;
-        let h = steps::sending::check_share_of(
-            sum,
-            &scratch[start..end],
-            f.layout,
-            k,
-            preps[key],
-            &coefficients[u..v],
-        );
-        out[i] = h;
-        i += 1;
-    }
+    let drawn = &coefficients[u..u + k];
+    let sum = steps::sending::weigh_values(f.band(scratch, 0), f.layout, k, drawn);
+    each_word(out, |i| {
+        let key = f.key(preps, i);
+        let band = f.band(scratch, i);
+        steps::sending::check_share_of(sum, band, f.layout, k, key, drawn)
+    });
 }
 
 // Each party's nonce into its scratch; nonces has those of all.
@@ -184,16 +150,9 @@ pub fn put_nonces(f: Frame, nonces: &[u8], scratch: &mut [Word])
     ensures { scratch.new
         ≡ rebanded f (λ i. put_nonce (layout_of f.layout) (band f.scratch scratch.old i) (words_of (band nonce_size nonces.now i))) scratch.old }
 {
-    let mut start = 0;
-    let mut i = 0;
-    while i < f.parties {
-        let end = start + f.scratch;
-        let first = i * NONCE_SIZE;
-        let last = first + NONCE_SIZE;
-        steps::scratch::put_nonce(&mut scratch[start..end], f.layout, &nonces[first..last]);
-        start = end;
-        i += 1;
-    }
+    each_part(f.parties, f.scratch, scratch, |i, band| {
+        steps::scratch::put_nonce(band, f.layout, part_of(nonces, NONCE_SIZE, i));
+    });
 }
 
 // Each party's mark into out; held has the check shares.
@@ -204,16 +163,9 @@ pub fn commit_words(f: Frame, held: &[Word], scratch: &[Word], out: &mut [Word])
         × (length out.old ≡ f.parties * commit_words) }
     ensures { out.new ≡ joined f.parties (λ i. mark (revealed_by f held.now scratch.now i)) }
 {
-    let mut a = 0;
-    let mut i = 0;
-    while i < f.parties {
-        let b = a + COMMIT_WORDS;
-        let start = i * f.scratch;
-        let end = start + f.scratch;
-        steps::sending::commit_words(held[i], &scratch[start..end], f.layout, &mut out[a..b]);
-        a = b;
-        i += 1;
-    }
+    each_part(f.parties, COMMIT_WORDS, out, |i, part| {
+        steps::sending::commit_words(held[i], f.band(scratch, i), f.layout, part);
+    });
 }
 
 // And what each party reveals.
@@ -224,14 +176,7 @@ pub fn reveal_words(f: Frame, held: &[Word], scratch: &[Word], out: &mut [Word])
         × (length out.old ≡ f.parties * reveal_words) }
     ensures { out.new ≡ joined f.parties (revealed_by f held.now scratch.now) }
 {
-    let mut a = 0;
-    let mut i = 0;
-    while i < f.parties {
-        let b = a + REVEAL_WORDS;
-        let start = i * f.scratch;
-        let end = start + f.scratch;
-        steps::sending::reveal_words(held[i], &scratch[start..end], f.layout, &mut out[a..b]);
-        a = b;
-        i += 1;
-    }
+    each_part(f.parties, REVEAL_WORDS, out, |i, part| {
+        steps::sending::reveal_words(held[i], f.band(scratch, i), f.layout, part);
+    });
 }

@@ -2,8 +2,8 @@
 -- Assumes nothing.
 use mathlib.Core.Path.{◌∙◌}
 use native.Mathlib.Omega.{arith}
-use Rattle.circuit.specs.Code.{verdict_was}
-use Rattle.circuit.proofs.Loops.{call_then, refused_then}
+use borrow.Author.Rules.{rules}
+use Rattle.circuit.proofs.Verdicts.{asked_on, asked_no}
 use Rattle.joint.proofs.Measures.{preps_few, sizes_few, ins_are, outs_are, words_are, words_few, coefficients_are, checks_are, checks_few}
 use Rattle.joint.proofs.Accepting.{lent_asked}
 use Rattle.joint.proofs.asking.ask_lent.Goals as goal
@@ -15,11 +15,6 @@ overflow_mul-f c =
 pub overflow_mul-f-2 : goal.overflow_mul-f-2
 overflow_mul-f-2 c =
     omega (arith, sizes_few c.requires.0 c.requires.2 c.requires.1)
-
-pub returns-in-Refused : goal.returns-in-Refused
-unfolding verdict_was
-returns-in-Refused c =
-    let a = c.args in refused_then _ _ c.ask_lists.ensures c.in-Refused.is ∙ lent_asked a.f.parties a.c.now a.preps.now a.inputs.now a.room a.coefficients.now a.nonces a.transcript a.outputs c.requires.2.prep (ins_are c.requires.0 c.requires.2 c.requires.3) c.requires.2.scratch (coefficients_are c.requires.0 c.requires.2 c.requires.3) (checks_are c.requires.0 c.requires.2 c.requires.3) (words_are c.requires.0 c.requires.2 c.requires.3) (outs_are c.requires.0 c.requires.2 c.requires.3)
 
 pub overflow_mul-f-3 : goal.overflow_mul-f-3
 overflow_mul-f-3 c =
@@ -33,7 +28,10 @@ pub overflow_mul-f-5 : goal.overflow_mul-f-5
 overflow_mul-f-5 c =
     omega (arith, words_few c.requires.0 c.requires.2 c.requires.3 c.requires.1)
 
+pub returns-in_err-ask_lists : goal.returns-in_err-ask_lists
+returns-in_err-ask_lists c =
+    let a = c.args in asked_no _ c.ask_lists.ensures c.in_err-ask_lists.was (search rules) ∙ lent_asked a.f.parties a.c.now a.preps.now a.inputs.now a.room a.coefficients.now a.nonces a.transcript a.outputs c.requires.2.prep (ins_are c.requires.0 c.requires.2 c.requires.3) c.requires.2.scratch (coefficients_are c.requires.0 c.requires.2 c.requires.3) (checks_are c.requires.0 c.requires.2 c.requires.3) (words_are c.requires.0 c.requires.2 c.requires.3) (outs_are c.requires.0 c.requires.2 c.requires.3)
+
 pub returns : goal.returns
-unfolding verdict_was
 returns c =
-    let a = c.args in call_then _ _ c.ask_lists.ensures c.in-Accepted.is c.ask_rooms.ensures ∙ lent_asked a.f.parties a.c.now a.preps.now a.inputs.now a.room a.coefficients.now a.nonces a.transcript a.outputs c.requires.2.prep (ins_are c.requires.0 c.requires.2 c.requires.3) c.requires.2.scratch (coefficients_are c.requires.0 c.requires.2 c.requires.3) (checks_are c.requires.0 c.requires.2 c.requires.3) (words_are c.requires.0 c.requires.2 c.requires.3) (outs_are c.requires.0 c.requires.2 c.requires.3)
+    let a = c.args in asked_on _ c.ask_lists.ensures c.in_ok-ask_lists.was c.ask_rooms.ensures ∙ lent_asked a.f.parties a.c.now a.preps.now a.inputs.now a.room a.coefficients.now a.nonces a.transcript a.outputs c.requires.2.prep (ins_are c.requires.0 c.requires.2 c.requires.3) c.requires.2.scratch (coefficients_are c.requires.0 c.requires.2 c.requires.3) (checks_are c.requires.0 c.requires.2 c.requires.3) (words_are c.requires.0 c.requires.2 c.requires.3) (outs_are c.requires.0 c.requires.2 c.requires.3)

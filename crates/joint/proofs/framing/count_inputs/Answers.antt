@@ -17,14 +17,6 @@ pub count_input-requires : goal.count_input-requires
 count_input-requires c =
     (c.requires.0, c.requires.2, omega (arith, c.loop-j-test.true, c.requires.1), counted_small c.loop-j.invariant.1 (omega (arith, c.loop-j-test.true, c.requires.1, c.requires.0.few)))
 
-pub overflow_add-j : goal.overflow_add-j
-overflow_add-j c =
-    omega (arith, c.loop-j-test.true, c.requires.1, c.requires.0.few)
-
-pub loop-j-smaller : goal.loop-j-smaller
-loop-j-smaller c =
-    omega (arith, c.loop-j-test.true)
-
 pub loop-j-preserved : goal.loop-j-preserved
 loop-j-preserved c =
     (omega (arith, c.loop-j-test.true), counted_on c.loop-j.invariant.1 c.count_input.ensures)

@@ -33,10 +33,6 @@ pub overflow_add-at : goal.overflow_add-at
 overflow_add-at c =
     omega (arith, starting_small _ _ c.requires.0 c.requires.1 c.count_inputs-counts.ensures c.loop-i.invariant c.loop-i-test.true)
 
-pub overflow_add-i : goal.overflow_add-i
-overflow_add-i c =
-    omega (arith, c.requires.2)
-
 pub loop-i-preserved : goal.loop-i-preserved
 loop-i-preserved c =
     starting_again _ _ c.requires.0 c.requires.1 c.count_inputs-counts.ensures c.loop-i.invariant c.loop-i-test.true c.requires.2

@@ -1,71 +1,28 @@
--- `joint::receiving::receive_openings` meets its contract. The loop's invariant: the bands of the parties before i are done, and the others are as they were. The measure is the number of parties left.
+-- `joint::receiving::receive_openings` meets its contract: each party is lent its band.
 -- Assumes nothing.
+use Prim.Native.Nat.{ℕ}
+use mathlib.Core.Path.{◌≡◌}
+use mathlib.Core.List.{List}
 use native.Mathlib.Omega.{arith}
-use Rattle.protocol.proofs.Filling.{filled_start, filled_length, filled_fits, filled_part, filled_again, filled_done}
-use Rattle.joint.proofs.Cutting.{prep_end, cut_is, key_there, key_is}
-use Rattle.joint.proofs.ReceiveTurns.{opening_each}
+use borrow.Author.Rules.{rules}
+use Rattle.protocol.specs.Scratch.{band}
+use Rattle.protocol.specs.Code.{layout_of}
+use Rattle.protocol.specs.Ready.{Opening}
+use Rattle.field.specs.Words.{size}
+use Rattle.joint.specs.Code.{key_in, prep_from}
+use Rattle.joint.proofs.Parting.{parts_joined}
+use Rattle.joint.proofs.Cutting.{with_key, from_there}
+use Rattle.joint.proofs.ReceiveTurns.{opening_left}
 use Rattle.joint.proofs.receiving.receive_openings.Goals as goal
 
-pub loop-i-init : goal.loop-i-init
-loop-i-init c =
-    filled_start _ _ _ _
-
-pub overflow_add-end : goal.overflow_add-end
-overflow_add-end c =
-    omega (arith, c.well_formed, filled_fits _ _ _ _ c.requires.1.room (opening_each c.requires.1 c.args.preps.now c.args.j c.args.x c.args.z c.args.at c.args.k c.args.u c.args.e c.args.d) c.loop-i.invariant c.loop-i-test.true, filled_length _ _ _ _ c.requires.1.room (opening_each c.requires.1 c.args.preps.now c.args.j c.args.x c.args.z c.args.at c.args.k c.args.u c.args.e c.args.d) c.loop-i.invariant)
-
-pub overflow_mul-key : goal.overflow_mul-key
-overflow_mul-key c =
-    omega (arith, c.well_formed, prep_end c.requires.0 c.loop-i.i c.loop-i-test.true)
-
-pub overflow_add-first : goal.overflow_add-first
-overflow_add-first c =
-    omega (arith, c.well_formed, prep_end c.requires.0 c.loop-i.i c.loop-i-test.true, c.requires.0.fits)
-
-pub overflow_add-last : goal.overflow_add-last
-overflow_add-last c =
-    omega (arith, c.well_formed, prep_end c.requires.0 c.loop-i.i c.loop-i-test.true)
-
-pub offset_bounds-preps-key : goal.offset_bounds-preps-key
-offset_bounds-preps-key c =
-    omega (arith, c.well_formed, prep_end c.requires.0 c.loop-i.i c.loop-i-test.true)
-
-pub bounds-preps-key : goal.bounds-preps-key
-bounds-preps-key c =
-    key_there c.requires.0 c.loop-i.i c.loop-i-test.true (omega arith)
-
-pub offset_bounds-scratch-start : goal.offset_bounds-scratch-start
-offset_bounds-scratch-start c =
-    omega (arith, c.well_formed, filled_fits _ _ _ _ c.requires.1.room (opening_each c.requires.1 c.args.preps.now c.args.j c.args.x c.args.z c.args.at c.args.k c.args.u c.args.e c.args.d) c.loop-i.invariant c.loop-i-test.true, filled_length _ _ _ _ c.requires.1.room (opening_each c.requires.1 c.args.preps.now c.args.j c.args.x c.args.z c.args.at c.args.k c.args.u c.args.e c.args.d) c.loop-i.invariant)
-
-pub slice_bounds-after_opening-end : goal.slice_bounds-after_opening-end
-slice_bounds-after_opening-end c =
-    filled_fits _ _ _ _ c.requires.1.room (opening_each c.requires.1 c.args.preps.now c.args.j c.args.x c.args.z c.args.at c.args.k c.args.u c.args.e c.args.d) c.loop-i.invariant c.loop-i-test.true
-
-pub offset_bounds-preps-first : goal.offset_bounds-preps-first
-offset_bounds-preps-first c =
-    omega (arith, c.well_formed, prep_end c.requires.0 c.loop-i.i c.loop-i-test.true, c.requires.0.fits)
-
-pub slice_bounds-after_opening-count-in-loop-i : goal.slice_bounds-after_opening-count-in-loop-i
-slice_bounds-after_opening-count-in-loop-i c =
-    omega (arith, c.requires.0.fits)
-
-pub after_opening-requires : goal.after_opening-requires
-after_opening-requires c =
-    rw (filled_part _ _ _ _ c.requires.1.room (opening_each c.requires.1 c.args.preps.now c.args.j c.args.x c.args.z c.args.at c.args.k c.args.u c.args.e c.args.d) c.loop-i.invariant c.loop-i-test.true, key_is c.requires.0 c.loop-i.i c.loop-i-test.true (omega arith), cut_is c.requires.0 c.loop-i.i c.loop-i-test.true) (c.requires.2 c.loop-i.i c.loop-i-test.true)
-
-pub overflow_add-i : goal.overflow_add-i
-overflow_add-i c =
-    omega (arith, c.loop-i-test.true, c.well_formed, c.requires.1.room, filled_fits _ _ _ _ c.requires.1.room (opening_each c.requires.1 c.args.preps.now c.args.j c.args.x c.args.z c.args.at c.args.k c.args.u c.args.e c.args.d) c.loop-i.invariant c.loop-i-test.true)
-
-pub loop-i-smaller : goal.loop-i-smaller
-loop-i-smaller c =
-    omega (arith, c.loop-i-test.true)
-
-pub loop-i-preserved : goal.loop-i-preserved
-loop-i-preserved c =
-    filled_again _ _ _ _ c.requires.1.room (opening_each c.requires.1 c.args.preps.now c.args.j c.args.x c.args.z c.args.at c.args.k c.args.u c.args.e c.args.d) c.loop-i.invariant c.loop-i-test.true (rw (filled_part _ _ _ _ c.requires.1.room (opening_each c.requires.1 c.args.preps.now c.args.j c.args.x c.args.z c.args.at c.args.k c.args.u c.args.e c.args.d) c.loop-i.invariant c.loop-i-test.true, key_is c.requires.0 c.loop-i.i c.loop-i-test.true (omega arith), cut_is c.requires.0 c.loop-i.i c.loop-i-test.true) at c.after_opening.ensures)
+pub each_part-requires-clause-each : goal.each_part-requires-clause-each
+each_part-requires-clause-each c = λ i h p e.
+    let keyed = with_key c.requires.0 (omega arith) in
+    let cut = from_there c.requires.0 in
+    let asks : (l : List ℕ) → l ≡ band c.args.f.scratch c.args.scratch.now i → (key : ℕ) → key ≡ key_in c.args.f c.args.preps.now i → (m : List ℕ) → m ≡ prep_from c.args.f c.args.preps.now c.args.at i
+    → Opening size key (layout_of c.args.f.layout) l c.args.j c.args.x c.args.z m c.args.k c.args.u c.args.e c.args.d = λ l a key b m d. rw (a, b, d) (c.requires.2 i h) in
+    (search rules, search rules, search (rules, asks))
 
 pub returns : goal.returns
 returns c =
-    filled_done _ _ _ _ c.requires.1.room (opening_each c.requires.1 c.args.preps.now c.args.j c.args.x c.args.z c.args.at c.args.k c.args.u c.args.e c.args.d) c.loop-i.invariant c.loop-i-test.false
+    parts_joined c.each_part.ensures c.requires.1.room (opening_left c.args.f c.args.preps.now c.args.scratch.now c.args.j c.args.x c.args.z c.args.at c.args.k c.args.u c.args.e c.args.d) (λ i h p q e w. search rules)

@@ -1,67 +1,28 @@
--- `joint::receiving::receive_outputs` meets its contract. The loop's invariant: the bands of the parties before i are done, and the others are as they were. The measure is the number of parties left.
+-- `joint::receiving::receive_outputs` meets its contract: each party is lent its band.
 -- Assumes nothing.
-use native.Mathlib.Omega.{arith}
-use Rattle.protocol.proofs.Filling.{filled_start, filled_length, filled_fits, filled_part, filled_again, filled_done}
-use Rattle.joint.proofs.Cutting.{prep_end, cut_is, cut_low, mask_cut, band_room}
-use Rattle.joint.proofs.ReceiveTurns.{output_each}
+use Prim.Native.Nat.{ℕ, ◌≤◌}
+use mathlib.Core.Path.{◌≡◌}
+use mathlib.Core.Bool.{true}
+use mathlib.Core.List.{List}
+use borrow.Author.Rules.{rules}
+use lib.ListN.{length}
+use Rattle.protocol.specs.Scratch.{band}
+use Rattle.circuit.specs.Kind.{mask_size}
+use Rattle.protocol.specs.Code.{layout_of}
+use Rattle.protocol.specs.Holding.{Held}
+use Rattle.field.specs.Words.{size}
+use Rattle.joint.specs.Code.{prep_from}
+use Rattle.joint.proofs.Parting.{parts_joined}
+use Rattle.joint.proofs.Cutting.{taken_low, taken_room, mask_cut}
+use Rattle.joint.proofs.ReceiveTurns.{output_left}
 use Rattle.joint.proofs.receiving.receive_outputs.Goals as goal
 
-pub loop-i-init : goal.loop-i-init
-loop-i-init c =
-    filled_start _ _ _ _
-
-pub overflow_add-end : goal.overflow_add-end
-overflow_add-end c =
-    omega (arith, c.well_formed, filled_fits _ _ _ _ c.requires.0.room (output_each c.requires.0 c.args.preps.now c.args.at c.args.x c.args.give c.args.e) c.loop-i.invariant c.loop-i-test.true, filled_length _ _ _ _ c.requires.0.room (output_each c.requires.0 c.args.preps.now c.args.at c.args.x c.args.give c.args.e) c.loop-i.invariant)
-
-pub overflow_mul-first : goal.overflow_mul-first
-overflow_mul-first c =
-    omega (arith, c.well_formed, prep_end c.requires.1 c.loop-i.i c.loop-i-test.true)
-
-pub overflow_add-first : goal.overflow_add-first
-overflow_add-first c =
-    omega (arith, c.well_formed, prep_end c.requires.1 c.loop-i.i c.loop-i-test.true, c.requires.1.fits)
-
-pub overflow_mul-last : goal.overflow_mul-last
-overflow_mul-last c =
-    omega (arith, c.well_formed, prep_end c.requires.1 c.loop-i.i c.loop-i-test.true)
-
-pub overflow_add-last : goal.overflow_add-last
-overflow_add-last c =
-    omega (arith, c.well_formed, prep_end c.requires.1 c.loop-i.i c.loop-i-test.true)
-
-pub offset_bounds-scratch-start : goal.offset_bounds-scratch-start
-offset_bounds-scratch-start c =
-    omega (arith, c.well_formed, filled_fits _ _ _ _ c.requires.0.room (output_each c.requires.0 c.args.preps.now c.args.at c.args.x c.args.give c.args.e) c.loop-i.invariant c.loop-i-test.true, filled_length _ _ _ _ c.requires.0.room (output_each c.requires.0 c.args.preps.now c.args.at c.args.x c.args.give c.args.e) c.loop-i.invariant)
-
-pub slice_bounds-after_open_output-end : goal.slice_bounds-after_open_output-end
-slice_bounds-after_open_output-end c =
-    filled_fits _ _ _ _ c.requires.0.room (output_each c.requires.0 c.args.preps.now c.args.at c.args.x c.args.give c.args.e) c.loop-i.invariant c.loop-i-test.true
-
-pub offset_bounds-preps-first : goal.offset_bounds-preps-first
-offset_bounds-preps-first c =
-    omega (arith, c.well_formed, prep_end c.requires.1 c.loop-i.i c.loop-i-test.true, c.requires.1.fits)
-
-pub slice_bounds-after_open_output-count-in-loop-i : goal.slice_bounds-after_open_output-count-in-loop-i
-slice_bounds-after_open_output-count-in-loop-i c =
-    omega (arith, c.requires.1.fits)
-
-pub after_open_output-requires : goal.after_open_output-requires
-after_open_output-requires c =
-    rw (filled_part _ _ _ _ c.requires.0.room (output_each c.requires.0 c.args.preps.now c.args.at c.args.x c.args.give c.args.e) c.loop-i.invariant c.loop-i-test.true, cut_is c.requires.1 c.loop-i.i c.loop-i-test.true) (band_room c.requires.0 c.loop-i.i c.loop-i-test.true, c.requires.3, c.requires.4 c.loop-i.i c.loop-i-test.true, (λ g. omega (arith, mask_cut c.requires.1 (c.requires.2 g) c.loop-i.i c.loop-i-test.true)), cut_low c.requires.1 c.loop-i.i c.loop-i-test.true)
-
-pub overflow_add-i : goal.overflow_add-i
-overflow_add-i c =
-    omega (arith, c.loop-i-test.true, c.well_formed, c.requires.0.room)
-
-pub loop-i-smaller : goal.loop-i-smaller
-loop-i-smaller c =
-    omega (arith, c.loop-i-test.true)
-
-pub loop-i-preserved : goal.loop-i-preserved
-loop-i-preserved c =
-    filled_again _ _ _ _ c.requires.0.room (output_each c.requires.0 c.args.preps.now c.args.at c.args.x c.args.give c.args.e) c.loop-i.invariant c.loop-i-test.true (rw (filled_part _ _ _ _ c.requires.0.room (output_each c.requires.0 c.args.preps.now c.args.at c.args.x c.args.give c.args.e) c.loop-i.invariant c.loop-i-test.true, cut_is c.requires.1 c.loop-i.i c.loop-i-test.true) at c.after_open_output.ensures)
+pub each_part-requires-clause-each : goal.each_part-requires-clause-each
+each_part-requires-clause-each c = λ i h p e.
+    let held : (l : List ℕ) → l ≡ band c.args.f.scratch c.args.scratch.now i → Held size (layout_of c.args.f.layout) l c.args.x = λ l a. rw a (c.requires.4 i h) in
+    let mask : (m : List ℕ) → m ≡ prep_from c.args.f c.args.preps.now c.args.at i → c.args.give ≡ true → mask_size ≤ length m = λ m a g. rw a (mask_cut c.requires.1 (c.requires.2 g) i h) in
+    search (rules, held, mask, taken_low c.requires.1 i h, taken_room c.requires.0 i h)
 
 pub returns : goal.returns
 returns c =
-    filled_done _ _ _ _ c.requires.0.room (output_each c.requires.0 c.args.preps.now c.args.at c.args.x c.args.give c.args.e) c.loop-i.invariant c.loop-i-test.false
+    parts_joined c.each_part.ensures c.requires.0.room (output_left c.args.f c.args.preps.now c.args.scratch.now c.args.at c.args.x c.args.give c.args.e) (λ i h p q e w. search rules)

@@ -6,7 +6,7 @@ use Rattle.circuit.specs.Kind.{Owned, Opens, is_class}
 use Rattle.circuit.proofs.KindLaws.{is_class_lem, owned_no_out, opens_no_out, shape_class, shape_prep, shape_gives}
 use Rattle.protocol.specs.Code.{blame_of}
 use Rattle.protocol.specs.JointEntry.{ended}
-use Rattle.joint.specs.Code.{joint_answer_of}
+use Rattle.joint.specs.Code.{ending_of}
 use Rattle.joint.proofs.Stops.{own_in, own_opens, must_output}
 use Rattle.joint.proofs.Passing.{stood, places_stay, own_waits, own_moving, own_passed}
 use Rattle.joint.proofs.Ends.{gates_same, in_common, opens_common, first_few, first_asked, first_stopped, first_passed, show_moving, second_asked, second_room, second_score, second_record, preps_long, second_stopped, second_passed, standing_over, standing_start}
@@ -21,7 +21,7 @@ settle-j-requires c =
     c.loop-f.invariant.settles
 
 pub returns-then-f-j : goal.returns-then-f-j
-unfolding joint_answer_of ended
+unfolding ending_of ended
 returns-then-f-j c =
     standing_over c.requires.0 (stood _ _ _ _ _ c.loop-f.invariant c.settle-j.ensures.0 c.settle-j.ensures.1) (omega (arith, gates_same c.requires.0, c.if-f-j.true)) refl
 
@@ -58,7 +58,7 @@ check-first-requires c =
     (first_asked c.requires.0 (stood _ _ _ _ _ c.loop-f.invariant c.settle-j.ensures.0 c.settle-j.ensures.1) (omega (arith, gates_same c.requires.0, c.if-f-j.false)) (must_output _ ((stood _ _ _ _ _ c.loop-f.invariant c.settle-j.ensures.0 c.settle-j.ensures.1).stands (omega (arith, gates_same c.requires.0, c.if-f-j.false))) (ap (is_class Owned) (sym (shape_class _ _ c.shape_at-g.ensures)) ∙ sym c.is_in.ensures ∙ c.if-is_in.false) (ap (is_class Opens) (sym (shape_class _ _ c.shape_at-g.ensures)) ∙ sym c.opens.ensures ∙ c.if-opens.false)) c.if-waiting-ne0.true, omega (arith, c.requires.0.lent.valid.few, first_few c.requires.0 (stood _ _ _ _ _ c.loop-f.invariant c.settle-j.ensures.0 c.settle-j.ensures.1) (omega (arith, gates_same c.requires.0, c.if-f-j.false)) (must_output _ ((stood _ _ _ _ _ c.loop-f.invariant c.settle-j.ensures.0 c.settle-j.ensures.1).stands (omega (arith, gates_same c.requires.0, c.if-f-j.false))) (ap (is_class Owned) (sym (shape_class _ _ c.shape_at-g.ensures)) ∙ sym c.is_in.ensures ∙ c.if-is_in.false) (ap (is_class Opens) (sym (shape_class _ _ c.shape_at-g.ensures)) ∙ sym c.opens.ensures ∙ c.if-opens.false)) c.if-waiting-ne0.true))
 
 pub returns-then-first-ne0 : goal.returns-then-first-ne0
-unfolding joint_answer_of ended blame_of
+unfolding ending_of ended blame_of
 returns-then-first-ne0 c =
     first_stopped c.requires.0 (stood _ _ _ _ _ c.loop-f.invariant c.settle-j.ensures.0 c.settle-j.ensures.1) (omega (arith, gates_same c.requires.0, c.if-f-j.false)) (must_output _ ((stood _ _ _ _ _ c.loop-f.invariant c.settle-j.ensures.0 c.settle-j.ensures.1).stands (omega (arith, gates_same c.requires.0, c.if-f-j.false))) (ap (is_class Owned) (sym (shape_class _ _ c.shape_at-g.ensures)) ∙ sym c.is_in.ensures ∙ c.if-is_in.false) (ap (is_class Opens) (sym (shape_class _ _ c.shape_at-g.ensures)) ∙ sym c.opens.ensures ∙ c.if-opens.false)) c.if-waiting-ne0.true c.check-first.ensures.0 c.if-first-ne0.true (rw c.check-first.ensures.1 refl)
 
@@ -79,7 +79,7 @@ check-second-requires c =
     (second_asked c.requires.0 (stood _ _ _ _ _ c.loop-f.invariant c.settle-j.ensures.0 c.settle-j.ensures.1) (omega (arith, gates_same c.requires.0, c.if-f-j.false)) (must_output _ ((stood _ _ _ _ _ c.loop-f.invariant c.settle-j.ensures.0 c.settle-j.ensures.1).stands (omega (arith, gates_same c.requires.0, c.if-f-j.false))) (ap (is_class Owned) (sym (shape_class _ _ c.shape_at-g.ensures)) ∙ sym c.is_in.ensures ∙ c.if-is_in.false) (ap (is_class Opens) (sym (shape_class _ _ c.shape_at-g.ensures)) ∙ sym c.opens.ensures ∙ c.if-opens.false)) c.if-waiting-ne0.false c.show_round-s.ensures.0 c.show_round-s.ensures.1, omega (arith, c.requires.0.lent.valid.few, (show_moving c.requires.0 (stood _ _ _ _ _ c.loop-f.invariant c.settle-j.ensures.0 c.settle-j.ensures.1) (omega (arith, gates_same c.requires.0, c.if-f-j.false)) (must_output _ ((stood _ _ _ _ _ c.loop-f.invariant c.settle-j.ensures.0 c.settle-j.ensures.1).stands (omega (arith, gates_same c.requires.0, c.if-f-j.false))) (ap (is_class Owned) (sym (shape_class _ _ c.shape_at-g.ensures)) ∙ sym c.is_in.ensures ∙ c.if-is_in.false) (ap (is_class Opens) (sym (shape_class _ _ c.shape_at-g.ensures)) ∙ sym c.opens.ensures ∙ c.if-opens.false)) c.if-waiting-ne0.false).rounds_few, c.show_round-s.ensures.0.rounds))
 
 pub returns-then-second-ne0 : goal.returns-then-second-ne0
-unfolding joint_answer_of ended blame_of
+unfolding ending_of ended blame_of
 returns-then-second-ne0 c =
     second_stopped c.requires.0 (stood _ _ _ _ _ c.loop-f.invariant c.settle-j.ensures.0 c.settle-j.ensures.1) (omega (arith, gates_same c.requires.0, c.if-f-j.false)) (must_output _ ((stood _ _ _ _ _ c.loop-f.invariant c.settle-j.ensures.0 c.settle-j.ensures.1).stands (omega (arith, gates_same c.requires.0, c.if-f-j.false))) (ap (is_class Owned) (sym (shape_class _ _ c.shape_at-g.ensures)) ∙ sym c.is_in.ensures ∙ c.if-is_in.false) (ap (is_class Opens) (sym (shape_class _ _ c.shape_at-g.ensures)) ∙ sym c.opens.ensures ∙ c.if-opens.false)) c.if-waiting-ne0.false c.show_round-s.ensures.0 c.show_round-s.ensures.1 c.check-second.ensures.0 c.if-second-ne0.true (rw c.check-second.ensures.1 refl)
 

@@ -1,82 +1,27 @@
--- `joint::sending::input_words` meets its contract. The loop's invariant: the words of the parties before i are put, and the others are as they were. The measure is the number of parties left.
+-- `joint::sending::input_words` meets its contract: each party gives its word.
 -- Assumes nothing.
-use Prim.Native.Nat.{ℕ}
-use mathlib.Core.Path.{refl, ap}
-use mathlib.Core.List.{[], ◌∷◌}
+use Prim.Native.Nat.{ℕ, ◌<◌}
+use mathlib.Core.Path.{◌≡◌}
+use mathlib.Core.List.{List}
 use native.Mathlib.Omega.{arith}
-use Rattle.joint.proofs.Cutting.{prep_end, cut_is, cut_long, cut_low}
-use Rattle.protocol.proofs.Filling.{filled_start}
-use Rattle.protocol.proofs.Gathering.{put_length, put_more, put_all}
+use borrow.Author.Rules.{rules}
+use lib.ListN.{length, get_or}
+use Rattle.protocol.specs.Holding.{Below}
+use Rattle.protocol.specs.Send.{input_word}
+use Rattle.field.specs.Words.{size, ops}
+use Rattle.joint.specs.Code.{prep_from}
+use Rattle.joint.proofs.Cutting.{from_there, taken_long, taken_low}
+use Rattle.joint.proofs.Parting.{words_joined}
 use Rattle.joint.proofs.sending.input_words.Goals as goal
 
-pub loop-i-init : goal.loop-i-init
-loop-i-init c =
-    filled_start _ _ _ _
-
-pub overflow_mul-start : goal.overflow_mul-start
-overflow_mul-start c =
-    omega (arith, c.well_formed, prep_end c.requires.1 c.loop-i.i c.loop-i-test.true)
-
-pub overflow_add-start : goal.overflow_add-start
-overflow_add-start c =
-    omega (arith, c.well_formed, prep_end c.requires.1 c.loop-i.i c.loop-i-test.true, c.requires.1.fits)
-
-pub overflow_mul-end : goal.overflow_mul-end
-overflow_mul-end c =
-    omega (arith, c.well_formed, prep_end c.requires.1 c.loop-i.i c.loop-i-test.true)
-
-pub overflow_add-end : goal.overflow_add-end
-overflow_add-end c =
-    omega (arith, c.well_formed, prep_end c.requires.1 c.loop-i.i c.loop-i-test.true)
-
-pub offset_bounds-preps-start : goal.offset_bounds-preps-start
-offset_bounds-preps-start c =
-    omega (arith, c.well_formed, prep_end c.requires.1 c.loop-i.i c.loop-i-test.true, c.requires.1.fits)
-
-pub slice_bounds-input_word-count : goal.slice_bounds-input_word-count
-slice_bounds-input_word-count c =
-    omega (arith, c.requires.1.fits)
-
-pub slice_bounds-input_word-start : goal.slice_bounds-input_word-start
-slice_bounds-input_word-start c =
-    omega (arith, c.requires.1.fits)
-
-pub slice_bounds-input_word-end : goal.slice_bounds-input_word-end
-slice_bounds-input_word-end c =
-    prep_end c.requires.1 c.loop-i.i c.loop-i-test.true
-
-pub offset_bounds-places-i : goal.offset_bounds-places-i
-offset_bounds-places-i c =
-    omega (arith, c.loop-i-test.true, c.requires.0)
-
-pub bounds-places-i : goal.bounds-places-i
-bounds-places-i c =
-    omega (arith, c.loop-i-test.true, c.requires.3)
-
-pub input_word-requires : goal.input_word-requires
-input_word-requires c =
-    rw (cut_is c.requires.1 c.loop-i.i c.loop-i-test.true) (cut_long c.requires.1 c.loop-i.i c.loop-i-test.true, cut_low c.requires.1 c.loop-i.i c.loop-i-test.true, c.requires.2)
-
-pub offset_bounds-out-i : goal.offset_bounds-out-i
-offset_bounds-out-i c =
-    omega (arith, c.loop-i-test.true, c.requires.0)
-
-pub bounds-out-i : goal.bounds-out-i
-bounds-out-i c =
-    omega (arith, c.loop-i-test.true, c.requires.4, put_length _ _ c.requires.4 (λ m h. refl) c.loop-i.invariant)
-
-pub overflow_add-i : goal.overflow_add-i
-overflow_add-i c =
-    omega (arith, c.loop-i-test.true, c.requires.0)
-
-pub loop-i-smaller : goal.loop-i-smaller
-loop-i-smaller c =
-    omega (arith, c.loop-i-test.true)
-
-pub loop-i-preserved : goal.loop-i-preserved
-loop-i-preserved c =
-    let k = (rw (cut_is c.requires.1 c.loop-i.i c.loop-i-test.true) at c.input_word.ensures) in put_more _ _ c.requires.4 (λ m h. refl) c.loop-i.invariant c.loop-i-test.true (ap (λ (z : ℕ). z ∷ []) k.is)
+pub each_word-requires : goal.each_word-requires
+each_word-requires c = λ i h.
+    let inside : i < c.args.f.parties = omega (arith, h, c.requires.4) in
+    let cut = from_there c.requires.1 in
+    let asks : (m : List ℕ) → m ≡ prep_from c.args.f c.args.preps.now c.args.at i → (2 < length m) × Below size m × Below size c.args.inputs.now = λ m d. (taken_long c.requires.1 i inside d, taken_low c.requires.1 i inside d, c.requires.2) in
+    let there : i < length c.args.places.now = omega (arith, inside, c.requires.3) in
+    (search rules, search rules, search rules, search (rules, asks))
 
 pub returns : goal.returns
 returns c =
-    put_all _ _ c.requires.4 (λ m h. refl) c.loop-i.invariant c.loop-i-test.false
+    words_joined c.each_word.ensures _ c.requires.4 (λ i. input_word ops i c.args.owner (prep_from c.args.f c.args.preps.now c.args.at i) (get_or c.args.inputs.now (get_or c.args.places.now i 0) 0)) (λ i h x w. search rules)

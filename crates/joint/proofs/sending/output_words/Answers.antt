@@ -1,83 +1,36 @@
--- `joint::sending::output_words` meets its contract. The loop's invariant: the words of the parties before i are put, and the others are as they were. The measure is the number of parties left.
+-- `joint::sending::output_words` meets its contract: each party gives its word.
 -- Assumes nothing.
-use Prim.Native.Nat.{ℕ}
-use mathlib.Core.Path.{refl, ap}
-use mathlib.Core.List.{[], ◌∷◌}
+use Prim.Native.Nat.{ℕ, ◌<◌, ◌≤◌}
+use mathlib.Core.Path.{◌≡◌}
+use mathlib.Core.Bool.{true}
+use mathlib.Core.List.{List}
 use native.Mathlib.Omega.{arith}
-use Rattle.protocol.proofs.Filling.{filled_start}
-use Rattle.protocol.proofs.Gathering.{put_length, put_more, put_all}
+use borrow.Author.Rules.{rules}
+use lib.ListN.{length}
+use Rattle.protocol.specs.Scratch.{band, slots_size}
+use Rattle.protocol.specs.Code.{layout_of}
+use Rattle.protocol.specs.Holding.{Below, Held}
+use Rattle.protocol.specs.Send.{shown}
+use Rattle.field.specs.Words.{size, ops}
+use Rattle.joint.specs.Code.{prep_from}
+use Rattle.joint.proofs.Cutting.{taken_low, taken_room, mask_cut}
 use Rattle.steps.proofs.Numbers.{share_of}
-use Rattle.joint.proofs.Cutting.{prep_end, cut_is, cut_low, mask_cut, band_fits, band_is, band_room}
+use Rattle.steps.specs.Code.{IsPart}
+use Rattle.steps.specs.declared.Part.{Part}
+use Rattle.joint.proofs.Parting.{words_joined}
 use Rattle.joint.proofs.sending.output_words.Goals as goal
 
-pub loop-i-init : goal.loop-i-init
-loop-i-init c =
-    filled_start _ _ _ _
-
-pub overflow_mul-first : goal.overflow_mul-first
-overflow_mul-first c =
-    omega (arith, c.well_formed, prep_end c.requires.1 c.loop-i.i c.loop-i-test.true)
-
-pub overflow_add-first : goal.overflow_add-first
-overflow_add-first c =
-    omega (arith, c.well_formed, prep_end c.requires.1 c.loop-i.i c.loop-i-test.true, c.requires.1.fits)
-
-pub overflow_mul-last : goal.overflow_mul-last
-overflow_mul-last c =
-    omega (arith, c.well_formed, prep_end c.requires.1 c.loop-i.i c.loop-i-test.true)
-
-pub overflow_add-last : goal.overflow_add-last
-overflow_add-last c =
-    omega (arith, c.well_formed, prep_end c.requires.1 c.loop-i.i c.loop-i-test.true)
-
-pub overflow_mul-start : goal.overflow_mul-start
-overflow_mul-start c =
-    omega (arith, c.well_formed, band_fits c.requires.3 c.loop-i.i c.loop-i-test.true)
-
-pub overflow_add-end : goal.overflow_add-end
-overflow_add-end c =
-    omega (arith, c.well_formed, band_fits c.requires.3 c.loop-i.i c.loop-i-test.true)
-
-pub offset_bounds-scratch-start : goal.offset_bounds-scratch-start
-offset_bounds-scratch-start c =
-    omega (arith, c.well_formed, band_fits c.requires.3 c.loop-i.i c.loop-i-test.true)
-
-pub slice_bounds-shown_part-end : goal.slice_bounds-shown_part-end
-slice_bounds-shown_part-end c =
-    band_fits c.requires.3 c.loop-i.i c.loop-i-test.true
-
-pub offset_bounds-preps-first : goal.offset_bounds-preps-first
-offset_bounds-preps-first c =
-    omega (arith, c.well_formed, prep_end c.requires.1 c.loop-i.i c.loop-i-test.true, c.requires.1.fits)
-
-pub slice_bounds-shown_part-count-in-loop-i : goal.slice_bounds-shown_part-count-in-loop-i
-slice_bounds-shown_part-count-in-loop-i c =
-    omega (arith, c.requires.1.fits)
-
-pub shown_part-shown-requires : goal.shown_part-shown-requires
-shown_part-shown-requires c =
-    rw (band_is c.requires.3 c.loop-i.i c.loop-i-test.true, cut_is c.requires.1 c.loop-i.i c.loop-i-test.true) (band_room c.requires.3 c.loop-i.i c.loop-i-test.true, c.requires.4 c.loop-i.i c.loop-i-test.true, (λ g. omega (arith, mask_cut c.requires.1 (c.requires.2 g) c.loop-i.i c.loop-i-test.true)), cut_low c.requires.1 c.loop-i.i c.loop-i-test.true)
-
-pub offset_bounds-out-i : goal.offset_bounds-out-i
-offset_bounds-out-i c =
-    omega (arith, c.loop-i-test.true, c.requires.0)
-
-pub bounds-out-i : goal.bounds-out-i
-bounds-out-i c =
-    omega (arith, c.loop-i-test.true, c.requires.5, put_length _ _ c.requires.5 (λ m h. refl) c.loop-i.invariant)
-
-pub overflow_add-i : goal.overflow_add-i
-overflow_add-i c =
-    omega (arith, c.loop-i-test.true, c.requires.0)
-
-pub loop-i-smaller : goal.loop-i-smaller
-loop-i-smaller c =
-    omega (arith, c.loop-i-test.true)
-
-pub loop-i-preserved : goal.loop-i-preserved
-loop-i-preserved c =
-    let k = share_of (rw (band_is c.requires.3 c.loop-i.i c.loop-i-test.true, cut_is c.requires.1 c.loop-i.i c.loop-i-test.true) at c.shown_part-shown.ensures) in put_more _ _ c.requires.5 (λ m h. refl) c.loop-i.invariant c.loop-i-test.true (ap (λ (z : ℕ). z ∷ []) k.is)
+pub each_word-requires : goal.each_word-requires
+each_word-requires c = λ i h.
+    let inside : i < c.args.f.parties = omega (arith, h, c.requires.5) in
+    let asks : (l : List ℕ) → l ≡ band c.args.f.scratch c.args.scratch.now i → (m : List ℕ) → m ≡ prep_from c.args.f c.args.preps.now c.args.at i
+    → (slots_size (layout_of c.args.f.layout) ≤ length l) × Held size (layout_of c.args.f.layout) l c.args.x × (c.args.give ≡ true → 1 < length m) × Below size m = λ l a m d. (taken_room c.requires.3 i inside a, rw a (c.requires.4 i inside), (λ g. rw d (omega (arith, mask_cut c.requires.1 (c.requires.2 g) i inside))), taken_low c.requires.1 i inside d) in
+    search (rules, asks)
 
 pub returns : goal.returns
 returns c =
-    put_all _ _ c.requires.5 (λ m h. refl) c.loop-i.invariant c.loop-i-test.false
+    words_joined c.each_word.ensures _ c.requires.5 (λ i. (shown ops (layout_of c.args.f.layout) (band c.args.f.scratch c.args.scratch.now i) c.args.give c.args.x (prep_from c.args.f c.args.preps.now c.args.at i)).share) (λ i h x w.
+    let gives : (l : List ℕ) → l ≡ band c.args.f.scratch c.args.scratch.now i → (m : List ℕ) → m ≡ prep_from c.args.f c.args.preps.now c.args.at i → (e : Part)
+    → IsPart (shown ops (layout_of c.args.f.layout) l c.args.give c.args.x m) e
+    → e.share ≡ (shown ops (layout_of c.args.f.layout) (band c.args.f.scratch c.args.scratch.now i) c.args.give c.args.x (prep_from c.args.f c.args.preps.now c.args.at i)).share = λ l a m d e z. rw (a, d) at (share_of z).is in
+    search (rules, gives))

@@ -1,54 +1,23 @@
--- `joint::sending::put_nonces` meets its contract. The loop's invariant: the bands of the parties before i are done, and the others are as they were. The measure is the number of parties left.
--- Assumes nothing.
-use Prim.Native.Nat.{◌*◌}
+use Prim.Native.Nat.{◌+◌, ◌*◌, ◌≤◌}
 use native.Mathlib.Omega.{arith}
-use Rattle.protocol.proofs.Filling.{filled_start, filled_length, filled_fits, filled_part, filled_again, filled_done}
+use borrow.Author.Rules.{rules}
+use lib.ListN.{length}
 use Rattle.circuit.specs.Round.{nonce_size}
-use Rattle.joint.proofs.Cutting.{nonce_part, band_tail}
-use Rattle.joint.proofs.ReceiveTurns.{nonce_each}
-use Rattle.joint.proofs.Rounding.{part_long}
+use Rattle.protocol.specs.Scratch.{band, marks_at}
+use Rattle.protocol.specs.Code.{layout_of}
+use Rattle.protocol.proofs.Bands.{band_end}
+use Rattle.joint.proofs.Cutting.{band_tail}
+use Rattle.joint.proofs.ReceiveTurns.{nonce_left}
+use Rattle.joint.proofs.Parting.{parts_joined}
 use Rattle.joint.proofs.sending.put_nonces.Goals as goal
 
-pub loop-i-init : goal.loop-i-init
-loop-i-init c =
-    filled_start _ _ _ _
-
-pub overflow_add-end : goal.overflow_add-end
-overflow_add-end c =
-    omega (arith, c.well_formed, filled_fits _ _ _ _ c.requires.0.room (nonce_each c.requires.0 c.args.nonces.now) c.loop-i.invariant c.loop-i-test.true, filled_length _ _ _ _ c.requires.0.room (nonce_each c.requires.0 c.args.nonces.now) c.loop-i.invariant)
-
-pub overflow_mul-first : goal.overflow_mul-first
-overflow_mul-first c =
-    omega (arith, c.well_formed, c.requires.1, c.loop-i-test.true)
-
-pub overflow_add-last : goal.overflow_add-last
-overflow_add-last c =
-    omega (arith, c.well_formed, c.requires.1, c.loop-i-test.true)
-
-pub offset_bounds-scratch-start : goal.offset_bounds-scratch-start
-offset_bounds-scratch-start c =
-    omega (arith, c.well_formed, filled_fits _ _ _ _ c.requires.0.room (nonce_each c.requires.0 c.args.nonces.now) c.loop-i.invariant c.loop-i-test.true, filled_length _ _ _ _ c.requires.0.room (nonce_each c.requires.0 c.args.nonces.now) c.loop-i.invariant)
-
-pub slice_bounds-put_nonce-end : goal.slice_bounds-put_nonce-end
-slice_bounds-put_nonce-end c =
-    filled_fits _ _ _ _ c.requires.0.room (nonce_each c.requires.0 c.args.nonces.now) c.loop-i.invariant c.loop-i-test.true
-
-pub put_nonce-requires : goal.put_nonce-requires
-put_nonce-requires c =
-    rw (filled_part _ _ _ _ c.requires.0.room (nonce_each c.requires.0 c.args.nonces.now) c.loop-i.invariant c.loop-i-test.true) (omega (arith, band_tail c.requires.0 c.loop-i.i c.loop-i-test.true), part_long (c.loop-i.i * nonce_size) nonce_size c.args.nonces.now (omega (arith, c.requires.1, c.loop-i-test.true)))
-
-pub overflow_add-i : goal.overflow_add-i
-overflow_add-i c =
-    omega (arith, c.loop-i-test.true, c.well_formed, c.requires.0.room)
-
-pub loop-i-smaller : goal.loop-i-smaller
-loop-i-smaller c =
-    omega (arith, c.loop-i-test.true)
-
-pub loop-i-preserved : goal.loop-i-preserved
-loop-i-preserved c =
-    filled_again _ _ _ _ c.requires.0.room (nonce_each c.requires.0 c.args.nonces.now) c.loop-i.invariant c.loop-i-test.true (rw (filled_part _ _ _ _ c.requires.0.room (nonce_each c.requires.0 c.args.nonces.now) c.loop-i.invariant c.loop-i-test.true, nonce_part c.loop-i.i c.args.nonces.now) at c.put_nonce.ensures)
+pub each_part-requires-clause-each : goal.each_part-requires-clause-each
+each_part-requires-clause-each c = λ i h p e.
+    let room : marks_at (layout_of c.args.f.layout) ≤ length p.now = rw e (omega (arith, band_tail c.requires.0 i h)) in
+    let fits : i * nonce_size + nonce_size ≤ length c.args.nonces.now = omega (arith, band_end c.args.f.parties nonce_size i h, c.requires.1) in
+    search rules
 
 pub returns : goal.returns
+unfolding band
 returns c =
-    filled_done _ _ _ _ c.requires.0.room (nonce_each c.requires.0 c.args.nonces.now) c.loop-i.invariant c.loop-i-test.false
+    parts_joined c.each_part.ensures c.requires.0.room (nonce_left c.args.f c.args.scratch.now c.args.nonces.now) (λ i h p q e w. search rules)
