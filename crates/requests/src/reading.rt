@@ -1,5 +1,5 @@
 // Reading a line of a request. An error is the writer's, where a complaint is printed, and leaves what is lent as it was.
-ghost use Rattle.std.specs.Prelude.{◌≤◌, ◌≡◌, ◌⊎◌, true, IfOk, OnErr};
+ghost use Rattle.std.specs.Prelude.{◌≡◌, ◌⊎◌, true, IfOk, OnErr};
 ghost use Rattle.requests.specs.Order.{placed, awaits, dropped as drops};
 ghost use Rattle.requests.specs.Lines as L;
 ghost use Rattle.requests.specs.Lines.{goes as skips, one_in, position_in, goes, take_number, take_position, take_wanted, take_field, take_line};
@@ -203,13 +203,6 @@ fn begin<W: Write>(
         return Ok(dropped(request));
     }
     Ok(started(Wanted::Field(entry, Field::Parties)))
-}
-
-// The lesser of two counts.
-pub fn shorter(n: usize, end: usize) -> usize
-    ensures { result ≤ end }
-{
-    n.min(end)
 }
 
 // A line of the input.

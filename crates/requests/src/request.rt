@@ -1,10 +1,9 @@
 // What is read of a request.
-ghost use Rattle.std.specs.Prelude.{◌≤◌, ◌≡◌, length, take};
+ghost use Rattle.std.specs.Prelude.{◌≤◌, ◌≡◌};
 ghost use Rattle.requests.specs.Order as O;
 
 use crate::naming::{Entry, FIELDS, Field, has};
 use circuit::Round;
-use field::Word;
 use party::Position;
 use protocol::Stage;
 
@@ -40,7 +39,7 @@ impl Request {
     pub fn count(self, field: Field) -> usize
         ensures { result ≤ 65536 }
     {
-        within(self.number(field))
+        self.number(field).min(ROOM)
     }
 }
 
@@ -106,18 +105,4 @@ pub fn with_position(request: Request, at: Position) -> Request
     ensures { result ≡ O.standing request at }
 {
     Request { at, ..request }
-}
-
-// A count of a list that is only read, or the most that there is room for.
-pub fn within(n: usize) -> usize
-    ensures { result ≤ 65536 }
-{
-    n.min(ROOM)
-}
-
-// A count, or the length of a list where the list is shorter.
-pub fn part(n: usize, list: &[Word]) -> usize
-    ensures { (result ≤ length list.now) × (result ≡ length (take result list.now)) }
-{
-    n.min(list.len())
 }

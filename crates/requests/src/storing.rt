@@ -3,8 +3,8 @@ ghost use Rattle.std.specs.Prelude.{◌≡◌, length};
 
 use crate::bytes::all_bytes;
 use crate::naming::{Field, field_name};
-use crate::reading::{complain, complain_numbers, shorter, take_line};
-use crate::request::{ROOM, Request, Wanted, dropped, moved_on, part, with_number, within};
+use crate::reading::{complain, complain_numbers, take_line};
+use crate::request::{ROOM, Request, Wanted, dropped, moved_on, with_number};
 use field::Word;
 use std::io;
 use std::io::Write;
@@ -64,15 +64,15 @@ fn take_list<W: Write>(
     request: Request,
     list: &mut [Word],
 ) -> io::Result<Request> {
-    let start = shorter(from, line.len());
+    let start = from.min(line.len());
     match text::read_numbers(&line[start..], list) {
         Ok(n) => {
-            let count = part(n, list);
+            let count = n.min(list.len());
             if wants_bytes(request.wanted) && !all_bytes(&list[..count]) {
                 complain(to, number, "a byte above 255")?;
                 return Ok(dropped(request));
             }
-            Ok(moved_on(with_number(request, within(n) as u32)))
+            Ok(moved_on(with_number(request, n.min(ROOM) as u32)))
         }
         Err(fault) => {
             complain_numbers(to, number, fault)?;
