@@ -5,10 +5,6 @@ use Rattle.protocol.specs.Receive.{after_open_output}
 use Rattle.steps.proofs.Numbers.{mac_is}
 use Rattle.steps.proofs.receiving.after_open_output.Goals as goal
 
-pub shown_part-shown-requires : goal.shown_part-shown-requires
-shown_part-shown-requires c =
-    (c.requires.0, c.requires.2, c.requires.3, c.requires.4)
-
 pub returns : goal.returns
 unfolding after_open_output
 returns c =

@@ -5,14 +5,6 @@ use Rattle.circuit.specs.Kind.{is_divisor}
 use Rattle.protocol.specs.Receive.{operand}
 use Rattle.steps.proofs.receiving.operand_at.Goals as goal
 
-pub constant_at-k-requires : goal.constant_at-k-requires
-constant_at-k-requires c =
-    c.requires.0
-
-pub inverse-requires : goal.inverse-requires
-inverse-requires c =
-    rw c.constant_at-k.ensures (c.requires.2 (sym (c.is_divisor.ensures ∙ ap is_divisor c.requires.1) ∙ c.if-is_divisor.true))
-
 pub returns-then-is_divisor : goal.returns-then-is_divisor
 unfolding operand
 returns-then-is_divisor c =

@@ -4,14 +4,6 @@ use mathlib.Core.Path.{◌∙◌}
 use Rattle.protocol.specs.Receive.{score}
 use Rattle.steps.proofs.receiving.score_of.Goals as goal
 
-pub read_slot-shown-requires : goal.read_slot-shown-requires
-read_slot-shown-requires c =
-    (c.requires.0, c.requires.1.within)
-
-pub add-requires : goal.add-requires
-add-requires c =
-    (rw c.read_slot-shown.ensures c.requires.1.value, c.requires.3 _)
-
 pub returns-then-give : goal.returns-then-give
 unfolding score
 returns-then-give c =

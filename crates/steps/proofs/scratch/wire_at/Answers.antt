@@ -4,14 +4,6 @@ use Rattle.protocol.specs.Scratch.{wire}
 use Rattle.steps.specs.Code.{part_of}
 use Rattle.steps.proofs.scratch.wire_at.Goals as goal
 
-pub read_slot-requires : goal.read_slot-requires
-read_slot-requires c =
-    (c.requires.0, c.requires.1.within)
-
-pub read_slot-requires-2 : goal.read_slot-requires-2
-read_slot-requires-2 c =
-    (c.requires.0, c.requires.1.within)
-
 pub returns : goal.returns
 unfolding part_of wire
 returns c =

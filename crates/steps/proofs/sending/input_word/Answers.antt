@@ -5,10 +5,6 @@ use borrow.Author.Tests.{eq-eqb, ne_eqb}
 use Rattle.protocol.specs.Send.{input_word}
 use Rattle.steps.proofs.sending.input_word.Goals as goal
 
-pub sub-requires : goal.sub-requires
-sub-requires c =
-    (c.number_at.ensures.below, c.requires.1 _)
-
 pub returns-then-me-owner : goal.returns-then-me-owner
 unfolding input_word
 returns-then-me-owner c =
