@@ -23,8 +23,9 @@ use Rattle.tokens.specs.Code.{is_at, known, gates_at, fits_as, Wanted, NumberIs,
 use Rattle.tokens.proofs.Tables.{length_known, named_low, gate_at}
 use Rattle.tokens.proofs.Numerals.{fits_at}
 use Rattle.tokens.proofs.Onward.{at_inside, expected, calm}
-use Rattle.reader.specs.declared.Outcome.{Outcome}
-use Rattle.reader.specs.declared.Outcome.TheVariants as O
+use Rattle.std.specs.Prelude.{Result, Ok, Err}
+use Rattle.circuit.specs.declared.questions.Refusal.{Refusal}
+use Rattle.reader.specs.declared.Operand.{Operand}
 use Rattle.reader.specs.Code.{Ready, Place, worded, gate, Made, Stopped, Told, Closes}
 use Rattle.reader.proofs.Pushing.{line_as}
 use Rattle.reader.proofs.Places.{calm_number, made_closed, made_open, too_many_lem, worded_leaf}
@@ -68,7 +69,7 @@ module _ (text table before : List ℕ) (from left count : ℕ) where
       → read largest (P rows stack) (drop from text) from ≡ read largest (S rows stack) (drop to text) to
 
   -- the bracket of a form with a gate, at a place from which it makes the form, behind the gates of the forms in it
-  pub closes : (P S : Place) (f : Form) (h : Head) (n to : ℕ) (x y v : ℕ) (inner mid later : List ℕ) (o : Outcome)
+  pub closes : (P S : Place) (f : Form) (h : Head) (n to : ℕ) (x y v : ℕ) (inner mid later : List ℕ) (o : Result Operand Refusal)
       → Comes P S to
       → ((rows : List Form) (stack : List Frame) → Ready table left count rows stack
       → step largest (S rows stack) closing ≡ some (at rows stack (made f)))
@@ -76,8 +77,7 @@ module _ (text table before : List ℕ) (from left count : ℕ) where
       → length mid ≡ length before → take (gate_size * n) mid ≡ take (gate_size * count) before ++ inner
       → flat (gates_at table) count f ≡ inner ++ line h x y v
       → Closes h (line h x y v) mid later to n o → Told P text table before later from left count o
-  unfolding Told Closes
-  closes P S f h n to x y v inner mid later (O.Done to' total wire mark) c s b q k e w z t g p = record {
+  closes P S f h n to x y v inner mid later (Ok o) c s b q k e w z t g p = record {
     form = f;
     reads = λ rows stack r. rw p.to_is
         (c rows stack r ∙ expected largest text to closing (S rows stack) (at rows stack (made f)) b (s rows stack r)
@@ -93,7 +93,7 @@ module _ (text table before : List ℕ) (from left count : ℕ) where
     sized = p.sized ∙ z;
     own = λ d. (omega (arith, p.total_is), omega (arith, p.total_is, p.wire_is));
   }
-  closes P S f h n to x y v inner mid later (O.Refused reason index) c s b q k e w z t g p = record {
+  closes P S f h n to x y v inner mid later (Err e') c s b q k e w z t g p = record {
     stops = λ rows stack r. rw (p.number_is, p.index_is)
         (c rows stack r
         ∙ too_many_lem text to (S rows stack) (at rows stack (made f)) b (s rows stack r) (made_open r f)
@@ -149,7 +149,7 @@ module _ (text table before : List ℕ) (from left count : ℕ) where
             own = λ e. absurd (name_inside h left i z e);
           }
 
-      pub leaf_closes : (later : List ℕ) (o : Outcome) → naming ≡ false → Closes h (gate h v 0 0) before later to count o
+      pub leaf_closes : (later : List ℕ) (o : Result Operand Refusal) → naming ≡ false → Closes h (gate h v 0 0) before later to count o
           → Told (worded h) text table before later from left count o
       leaf_closes later o t c =
           let z : names h ≡ false = sym q ∙ t in

@@ -1,6 +1,6 @@
 -- How the rows of a text grow, one after another: what is read so far, the table of rows, and the gates written.
 -- Assumes nothing.
-use Prim.Native.Nat.{ℕ, suc, ◌+◌, ◌-◌, ◌*◌, ◌/◌, ◌%◌, ◌^◌, ◌≤◌, ◌<◌}
+use Prim.Native.Nat.{ℕ, suc, ◌+◌, ◌*◌, ◌/◌, ◌%◌, ◌^◌, ◌≤◌, ◌<◌}
 use mathlib.Core.Path.{◌≡◌, refl, sym, ap, ◌∙◌}
 use mathlib.Core.Bool.{Bool, true, false}
 use mathlib.Core.List.{List, [], ◌∷◌, ◌++◌}
@@ -61,7 +61,7 @@ row_fed {end = end} a b = record { end = end; read = a; feeds = b; to_is = refl 
 
 -- the table of the first k rows, as it is lent
 abbrev pub lent : List ℕ → ℕ → List ℕ
-lent table k = take (k - 0) (drop 0 table)
+lent table k = take k table
 
 -- after k rows: text, table and gates are read so far
 pub record Grown (text table lines : List ℕ) (k from count : ℕ) : Type 0 where
@@ -138,10 +138,9 @@ module _ {text table lines : List ℕ} {k from count : ℕ} (g : Grown text tabl
     grown_more w ew em =
         let f : Form = a.read.form in
         let place : count ≡ 0 + gates_in_all g.rows = omega (arith, g.counted) in
-        let more : k + 1 - 0 ≡ suc k = omega arith in
-        let none : k - 0 ≡ k = omega arith in
+        let more : k + 1 ≡ suc k = omega arith in
         let table_is : lent (set table k w) (k + 1) ≡ lent table k ++ (w ∷ []) =
-        rw (more, none) (take-suc-set table k w (omega (arith, grown_room, g.sized))) in
+        rw more (take-suc-set table k w (omega (arith, grown_room, g.sized))) in
         let known_is : known (lent (set table k w) (k + 1)) ≡ known (lent table k) ++ (mark ∷ []) =
         ap known table_is ∙ (known_append (lent table k) (w ∷ []) ∙ unfold known in rw em) in
         let gates-is : gates_at (lent (set table k w) (k + 1)) ≡ gates_at (lent table k) ++ (wire ∷ []) =

@@ -11,7 +11,7 @@ pub mod AtOnce
 -- rows, one after another
 pub mod Growing
 -- what a callee promised, at its answer
-pub mod Answers
+pub mod Told
 -- a list copied
 -- the entry
 pub mod Entering

@@ -49,8 +49,9 @@ use Rattle.tokens.specs.Code.{is_at, Calm, known, gates_at, Wanted, NumberIs, Nu
 use Rattle.tokens.proofs.Numerals.{fits_at}
 use Rattle.tokens.proofs.Lettering.{standing_word}
 use Rattle.tokens.proofs.Onward.{dies, ends, expected, unexpected, is_at_lem}
-use Rattle.reader.specs.declared.Outcome.{Outcome}
-use Rattle.reader.specs.declared.Outcome.TheVariants as O
+use Rattle.std.specs.Prelude.{Result, Ok, Err}
+use Rattle.circuit.specs.declared.questions.Refusal.{Refusal}
+use Rattle.reader.specs.declared.Operand.{Operand}
 use Rattle.reader.specs.Code.{Ready, Place, fresh, worded, gate, Made, Stopped, Told, Closes}
 use Rattle.reader.proofs.Pushing.{line_as}
 use Rattle.reader.proofs.Places.{
@@ -77,11 +78,11 @@ unfolding may stands inner valued is_class kind_shape decode
 input_may any = refl
 
 -- the word of a leaf inside another form, at once
-pub leaf_stands : {r any : Bool} (text : List ℕ) (from left : ℕ) (h : Head) (to : ℕ) → left < deepest → from < length text → may any false h ≡ true
-    → to ≡ from + 1 + length (letters h) + 1 → r ≡ starts (letters h ++ (space ∷ [])) (drop (from + 1) text) → r ≡ true
+pub leaf_stands : {any : Bool} (text : List ℕ) (from left : ℕ) (h : Head) (to : ℕ) → left < deepest → from < length text → may any false h ≡ true
+    → to ≡ from + 1 + length (letters h) + 1 → starts (letters h ++ (space ∷ [])) (drop (from + 1) text) ≡ true
     → WordIs text any (eqb left deepest) (from + 1) h to
-leaf_stands {r} {any} text from left h to l i m e p t =
-    rw (ne_eqb left deepest (omega arith)) (standing_word text any false (from + 1) h to (omega arith) m e p t)
+leaf_stands {any} text from left h to l i m e p =
+    rw (ne_eqb left deepest (omega arith), e) (standing_word text any false (from + 1) h (omega arith) m p)
 
 module _ (text table before : List ℕ) (from left count : ℕ) where
   two_flat : (h : Head) (f g : Form) (x y n : ℕ) → n ≡ count + gates_in f → x ≡ wire_of (gates_at table) count f → y ≡ wire_of (gates_at table) n g
@@ -117,7 +118,7 @@ module _ (text table before : List ℕ) (from left count : ℕ) where
 
   module _ (h : Head) (l : 1 ≤ left) {mid : List ℕ} {to n x : ℕ} {m : Bool}
       (a : Made fresh text table before mid from (left - 1) count to n x m) where
-    pub one_closes : sort h ≡ One → (later : List ℕ) (o : Outcome) → is_at text to closing ≡ true → Closes h (gate h x 0 0) mid later to n o
+    pub one_closes : sort h ≡ One → (later : List ℕ) (o : Result Operand Refusal) → is_at text to closing ≡ true → Closes h (gate h x 0 0) mid later to n o
         → Told (worded h) text table before later from left count o
     one_closes s later o b c =
         closes text table before from left count (worded h) (λ rows stack. at rows (first h ∷ stack) (made a.form)) (one h a.form) h n to x 0 0
@@ -151,7 +152,7 @@ module _ (text table before : List ℕ) (from left count : ℕ) where
               (λ z q. unfold step handed when in rw (ne_eqb z closing q)) (unfold ended in refl);
         }
 
-        pub two_closes : (later : List ℕ) (o : Outcome) → is_at text to₂ closing ≡ true → Closes h (gate h x y 0) mid₂ later to₂ n₂ o
+        pub two_closes : (later : List ℕ) (o : Result Operand Refusal) → is_at text to₂ closing ≡ true → Closes h (gate h x y 0) mid₂ later to₂ n₂ o
             → Told (worded h) text table before later from left count o
         two_closes later o d p =
             closes text table before from left count (worded h) (λ rows stack. at rows (second h a.form ∷ stack) (made c.form))
@@ -186,7 +187,7 @@ module _ (text table before : List ℕ) (from left count : ℕ) where
         stops = λ rows stack r. scaled_comes rows stack r ∙ d.dies rows stack (after h a.form) (scaled_wanted rows stack r);
       }
 
-      pub scaled_closes : {v to₂ : ℕ} → NumberIs text table false (to + 1) v to₂ → (later : List ℕ) (o : Outcome)
+      pub scaled_closes : {v to₂ : ℕ} → NumberIs text table false (to + 1) v to₂ → (later : List ℕ) (o : Result Operand Refusal)
           → Closes h (line h x 0 v) mid later to₂ n o → Told (worded h) text table before later from left count o
       scaled_closes {v} {to₂} d later o p =
           closes text table before from left count (worded h) (λ rows stack. at rows stack (digit (after h a.form) v))
@@ -220,10 +221,9 @@ module _ (text table before : List ℕ) (from left count : ℕ) where
     pub form_dies : {index : ℕ} → WordDies text (any_named (known table)) o (from + 1) index → Stopped fresh text table from left count 22 index
     form_dies d = record { stops = λ rows stack r. form_comes rows stack r ∙ d.dies rows stack (form_wanted rows stack r) }
 
-    pub form_told : {h : Head} {to : ℕ} → WordIs text (any_named (known table)) o (from + 1) h to → (later : List ℕ) (r : Outcome)
+    pub form_told : {h : Head} {to : ℕ} → WordIs text (any_named (known table)) o (from + 1) h to → (later : List ℕ) (r : Result Operand Refusal)
         → Told (worded h) text table before later to left count r → Told fresh text table before later from left count r
-    unfolding Told
-    form_told d later (O.Done to₂ total wire mark) a = record {
+    form_told d later (Ok o) a = record {
       form = a.form;
       reads = λ rows stack r. form_comes rows stack r ∙ (d.reads rows stack (form_wanted rows stack r) ∙ a.reads rows stack r);
       inside = a.inside;
@@ -235,7 +235,7 @@ module _ (text table before : List ℕ) (from left count : ℕ) where
       sized = a.sized;
       own = a.own;
     }
-    form_told d later (O.Refused reason index) a = record {
+    form_told d later (Err e) a = record {
       stops = λ rows stack r. form_comes rows stack r ∙ (d.reads rows stack (form_wanted rows stack r) ∙ a.stops rows stack r);
     }
 

@@ -1,7 +1,10 @@
 -- What the code's readers of forms and of rows promise: reading on, as the readers of words and numbers do, and what is written on the way.
 -- Assumes nothing.
-use Rattle.std.specs.Prelude.{ℕ, ◌+◌, ◌*◌, ◌^◌, ◌<◌, ◌≤◌, ◌≡◌, Bool, true, List, [], ◌∷◌, ◌++◌, length, take, drop, leb}
+use Rattle.std.specs.Prelude.{ℕ, ◌+◌, ◌*◌, ◌^◌, ◌<◌, ◌≤◌, ◌≡◌, Bool, true, List, [], ◌∷◌, ◌++◌, length, take, drop, leb, Result, Ok, Err, MatchResult}
 use Rattle.circuit.specs.Verdict.{Verdict, ask, ◌then◌}
+use Rattle.circuit.specs.Question.{number_of}
+use Rattle.circuit.specs.declared.questions.Refusal.{Refusal}
+use Rattle.circuit.specs.declared.questions.Question.TheVariants as Q
 use Rattle.circuit.specs.Gate.{gate_size, gates}
 use Rattle.circuit.specs.Accept.{most_gates, ask_circuit}
 use Rattle.protocol.specs.Send.{overwrite}
@@ -14,12 +17,8 @@ use Rattle.forms.specs.Refusals.{deepest}
 use Rattle.forms.specs.Machine.{Frame, State, at, start, made, begun, closed_in, read, reading, Rows, No}
 use Rattle.forms.specs.Entry as E
 use Rattle.forms.specs.Code.{answer_of}
-use Rattle.forms.specs.declared.Answer.{Answer}
 use Rattle.tokens.specs.Code.{is_at, known, gates_at}
-use Rattle.reader.specs.declared.Outcome.{Outcome}
-use Rattle.reader.specs.declared.Outcome.TheVariants as O
-use Rattle.reader.specs.declared.Reading.{Reading}
-use Rattle.reader.specs.declared.Reading.TheVariants as R
+use Rattle.reader.specs.declared.Operand.{Operand}
 
 -- forms -----------------------------------------------------------------------------------------------------------------
 
@@ -58,9 +57,14 @@ pub record Stopped (place : Place) (text table : List ℕ) (from left count numb
   pub stops : (rows : List Form) (stack : List Frame) → Ready table left count rows stack →
       read largest (place rows stack) (drop from text) from ≡ No number index
 
-unfoldable pub Told : Place → List ℕ → List ℕ → List ℕ → List ℕ → ℕ → ℕ → ℕ → Outcome → Type 0
-Told place text table before later from left count (O.Done to total wire mark) = Made place text table before later from left count to total wire mark
-Told place text table before later from left count (O.Refused number index) = Stopped place text table from left count number index
+abbrev pub Told : Place → List ℕ → List ℕ → List ℕ → List ℕ → ℕ → ℕ → ℕ → Result Operand Refusal → Type 0
+Told place text table before later from left count r =
+    MatchResult r (λ o. Made place text table before later from left count o.to o.count o.wire o.valued)
+    (λ e. Stopped place text table from left count (number_of e.question) e.index)
+
+-- the byte at which a word or a number dies is refused by 22
+abbrev pub Placed : {T : Type 0} → Result T ℕ → Result T Refusal → Type 0
+Placed r s = MatchResult r (λ x. s ≡ Ok x) (λ index. s ≡ Err (record { question = Q.Form; index = index }))
 
 -- what a call is given: the table of the rows before, a place in the text, whose length is a number, and room for every gate
 pub record Given (text table lines : List ℕ) (from count : ℕ) : Type 0 where
@@ -89,9 +93,9 @@ pub record Full (at count number index : ℕ) : Type 0 where
   pub index_is : index ≡ at
   pub full : count ≡ most_gates
 
-unfoldable pub Closes : Head → List ℕ → List ℕ → List ℕ → ℕ → ℕ → Outcome → Type 0
-Closes h numbers before later at count (O.Done to total wire mark) = Pushed h numbers before later at count to total wire mark
-Closes h numbers before later at count (O.Refused number index) = Full at count number index
+abbrev pub Closes : Head → List ℕ → List ℕ → List ℕ → ℕ → ℕ → Result Operand Refusal → Type 0
+Closes h numbers before later at count r =
+    MatchResult r (λ o. Pushed h numbers before later at count o.to o.count o.wire o.valued) (λ e. Full at count (number_of e.question) e.index)
 
 -- rows ------------------------------------------------------------------------------------------------------------------
 
@@ -110,9 +114,8 @@ pub record RowsRead (text later : List ℕ) (count : ℕ) : Type 0 where
   pub written : take (gate_size * count) later ≡ circuit_of rows
   pub long : gate_size * most_gates ≤ length later
 
-unfoldable pub RowsTold : List ℕ → List ℕ → Reading → Type 0
-RowsTold text later (R.Done count) = RowsRead text later count
-RowsTold text later (R.Refused number index) = reading largest text ≡ No number index
+abbrev pub RowsTold : List ℕ → List ℕ → Result ℕ Refusal → Type 0
+RowsTold text later r = MatchResult r (λ count. RowsRead text later count) (λ e. reading largest text ≡ No (number_of e.question) e.index)
 
 -- a circuit that was read ----------------------------------------------------------------------------------------------
 
@@ -120,6 +123,6 @@ RowsTold text later (R.Refused number index) = reading largest text ≡ No numbe
 unfoldable pub ask_settled : ℕ → List ℕ → ℕ → Verdict
 ask_settled n c room = ask_circuit n size c then ask 18 0 (leb (length c) room)
 
-pub record Settled (n : ℕ) (c before later : List ℕ) (r : Answer) : Type 0 where
+pub record Settled (n : ℕ) (c before later : List ℕ) (r : Result ℕ Refusal) : Type 0 where
   pub answers : answer_of r ≡ E.answer (ask_settled n c (length before)) (gates c)
   pub leaves : later ≡ leave (ask_settled n c (length before)) (overwrite c before) before

@@ -1,27 +1,49 @@
 // Reading a form with all that is in it: document 01's cycle of form reader and operand reader, in which the remaining depth falls. The text and
 // the table of rows are lent by references to their slices, which a call passes on as they are.
-ghost use Rattle.std.specs.Prelude.{◌+◌, ◌*◌, ◌^◌, ◌<◌, ◌≤◌, ◌≡◌, true, eqb, length};
+ghost use Rattle.std.specs.Prelude.{◌+◌, ◌*◌, ◌^◌, ◌<◌, ◌≤◌, ◌≡◌, true, eqb, length, Result};
 ghost use Rattle.circuit.specs.Gate.{gate_size};
 ghost use Rattle.circuit.specs.Accept.{most_gates};
+ghost use Rattle.circuit.specs.Verdict.{ask};
+ghost use Rattle.circuit.specs.Question.{verdict_of};
 ghost use Rattle.forms.specs.declared.Sort.TheVariants.{Leaf, One, Two, Scaled};
 ghost use Rattle.forms.specs.Words.{sort, stands, line};
 ghost use Rattle.forms.specs.Form.{opening};
 ghost use Rattle.forms.specs.Refusals.{deepest};
 ghost use Rattle.tokens.specs.Code.{is_at};
-ghost use Rattle.reader.specs.Code.{Given, worded, fresh, gate, Told, Closes};
+ghost use Rattle.reader.specs.Code.{Given, worded, fresh, gate, Told, Closes, Placed};
 
-use crate::Outcome;
+use crate::Operand;
 use circuit::Role;
+use circuit::questions::{Question, Refusal, ask};
 use field::Word;
 use forms::{Head, Sort};
 use gates::reading;
-use tokens::{Digits, Name, Number, Spelt, numbers, table, words};
+use tokens::{numbers, table, words};
 
 // "at most 16 deep"
 pub const DEEPEST: usize = 16;
 
+// The byte that is wanted stands here, or it is refused.
+pub fn want(text: &[u8], at: usize, b: u8) -> Result<(), Refusal>
+    ensures { verdict_of result ≡ ask 22 at (is_at text.now at b) }
+{
+    ask(Question::Form, at, tokens::expect(text, at, b))
+}
+
+// What was read of words and numbers, or a refusal of the byte at which it dies.
+fn placed<T>(read: Result<T, usize>) -> Result<T, Refusal>
+    ensures { Placed read result }
+{
+    match read {
+        Ok(found) => Ok(found),
+        Err(index) => Err(Refusal {
+            question: Question::Form,
+            index,
+        }),
+    }
+}
+
 // Closes a form at its bracket: its gate is written, unless there are 256 before it.
-#[tactic(auto, unfolding(crate::specs::Code::Closes))]
 fn close_gate(
     lines: &mut [Word; crate::MOST_NUMBERS],
     at: usize,
@@ -30,28 +52,20 @@ fn close_gate(
     second: Word,
     constant: Word,
     count: usize,
-) -> Outcome
+) -> Result<Operand, Refusal>
     requires { (count ≤ most_gates) × (gate_size * most_gates ≤ length lines.old) × (at + 1 < 2 ^ 64) }
     ensures { Closes h (gate h first second constant) lines.old lines.new at count result }
 {
-    if crate::MOST_GATES <= count {
-        return Outcome::Refused {
-            number: crate::COUNT,
-            index: at,
-        };
-    }
+    ask(Question::GateCount, at, count < crate::MOST_GATES)?;
     let row = table::row(h);
     let i = reading::GATE_SIZE * count;
-    lines[i] = row.kind;
-    lines[i + 1] = first;
-    lines[i + 2] = second;
-    lines[i + 3] = constant;
-    Outcome::Done {
+    lines[i..i + reading::GATE_SIZE].copy_from_slice(&[row.kind, first, second, constant]);
+    Ok(Operand {
         to: at + 1,
         count: count + 1,
         wire: count as Word,
         valued: row.valued,
-    }
+    })
 }
 
 // The gate of a form with an operand and a number, which is its constant or its second number, as its word has it.
@@ -62,18 +76,13 @@ fn close_scaled(
     x: Word,
     n: Word,
     count: usize,
-) -> Outcome
+) -> Result<Operand, Refusal>
     requires { (count ≤ most_gates) × (gate_size * most_gates ≤ length lines.old) × (at + 1 < 2 ^ 64) × (sort h ≡ Scaled) }
     ensures { Closes h (line h x 0 n) lines.old lines.new at count result }
 {
-    let row = table::row(h);
-    let constant = row.constant;
-    match constant {
-        Role::Constant => close_gate(lines, at, h, x, 0, n, count),
-        Role::Divisor => close_gate(lines, at, h, x, 0, n, count),
-        Role::Unused => close_gate(lines, at, h, x, n, 0, count),
-        Role::Party => close_gate(lines, at, h, x, n, 0, count),
-        Role::Wire => close_gate(lines, at, h, x, n, 0, count),
+    match table::row(h).constant {
+        Role::Constant | Role::Divisor => close_gate(lines, at, h, x, 0, n, count),
+        Role::Unused | Role::Party | Role::Wire => close_gate(lines, at, h, x, n, 0, count),
     }
 }
 
@@ -86,31 +95,24 @@ fn read_leaf(
     h: Head,
     left: usize,
     count: usize,
-) -> Outcome
+) -> Result<Operand, Refusal>
     requires { Given text.now.now table.now.now lines.old from count × (sort h ≡ Leaf) × (1 ≤ left)
         × (stands (eqb left deepest) h ≡ true) }
     ensures { Told (worded h) text.now.now table.now.now lines.old lines.new
         from left count result }
 {
     let row = table::row(h);
-    match numbers::read_number(*text, *table, from, row.naming) {
-        Number::Dies { index } => Outcome::Refused {
-            number: crate::SHAPE,
-            index,
-        },
-        Number::Is { value, to } => {
-            if row.naming {
-                let j = field::index(value);
-                return Outcome::Done {
-                    to: to + 1,
-                    count,
-                    wire: table[j] / 2,
-                    valued: row.valued,
-                };
-            }
-            close_gate(lines, to, h, value, 0, 0, count)
-        }
+    let number = placed(numbers::read_number(*text, *table, from, row.naming))?;
+    if row.naming {
+        let j = field::index(number.value);
+        return Ok(Operand {
+            to: number.to + 1,
+            count,
+            wire: table[j] / 2,
+            valued: row.valued,
+        });
     }
+    close_gate(lines, number.to, h, number.value, 0, 0, count)
 }
 
 // (w F)
@@ -123,28 +125,14 @@ fn read_one(
     h: Head,
     left: usize,
     count: usize,
-) -> Outcome
+) -> Result<Operand, Refusal>
     requires { Given text.now.now table.now.now lines.old from count × (sort h ≡ One) × (1 ≤ left) × (left ≤ deepest) }
     ensures { Told (worded h) text.now.now table.now.now lines.old lines.new
         from left count result }
 {
-    match read_operand(text, table, lines, from, left - 1, count) {
-        Outcome::Refused { number, index } => Outcome::Refused { number, index },
-        Outcome::Done {
-            to,
-            count: n,
-            wire: x,
-            valued: _,
-        } => {
-            if !tokens::expect(*text, to, tokens::CLOSING) {
-                return Outcome::Refused {
-                    number: crate::SHAPE,
-                    index: to,
-                };
-            }
-            close_gate(lines, to, h, x, 0, 0, n)
-        }
-    }
+    let x = read_operand(text, table, lines, from, left - 1, count)?;
+    want(*text, x.to, tokens::CLOSING)?;
+    close_gate(lines, x.to, h, x.wire, 0, 0, x.count)
 }
 
 // (w F N)
@@ -157,34 +145,15 @@ fn read_scaled(
     h: Head,
     left: usize,
     count: usize,
-) -> Outcome
+) -> Result<Operand, Refusal>
     requires { Given text.now.now table.now.now lines.old from count × (sort h ≡ Scaled) × (1 ≤ left) × (left ≤ deepest) }
     ensures { Told (worded h) text.now.now table.now.now lines.old lines.new
         from left count result }
 {
-    match read_operand(text, table, lines, from, left - 1, count) {
-        Outcome::Refused { number, index } => Outcome::Refused { number, index },
-        Outcome::Done {
-            to,
-            count: n,
-            wire: x,
-            valued: _,
-        } => {
-            if !tokens::expect(*text, to, tokens::SPACE) {
-                return Outcome::Refused {
-                    number: crate::SHAPE,
-                    index: to,
-                };
-            }
-            match numbers::read_number(*text, *table, to + 1, false) {
-                Number::Dies { index } => Outcome::Refused {
-                    number: crate::SHAPE,
-                    index,
-                },
-                Number::Is { value, to: end } => close_scaled(lines, end, h, x, value, n),
-            }
-        }
-    }
+    let x = read_operand(text, table, lines, from, left - 1, count)?;
+    want(*text, x.to, tokens::SPACE)?;
+    let number = placed(numbers::read_number(*text, *table, x.to + 1, false))?;
+    close_scaled(lines, number.to, h, x.wire, number.value, x.count)
 }
 
 // (w F F)
@@ -197,44 +166,16 @@ fn read_two(
     h: Head,
     left: usize,
     count: usize,
-) -> Outcome
+) -> Result<Operand, Refusal>
     requires { Given text.now.now table.now.now lines.old from count × (sort h ≡ Two) × (1 ≤ left) × (left ≤ deepest) }
     ensures { Told (worded h) text.now.now table.now.now lines.old lines.new
         from left count result }
 {
-    match read_operand(text, table, lines, from, left - 1, count) {
-        Outcome::Refused { number, index } => Outcome::Refused { number, index },
-        Outcome::Done {
-            to,
-            count: n,
-            wire: x,
-            valued: _,
-        } => {
-            if !tokens::expect(*text, to, tokens::SPACE) {
-                return Outcome::Refused {
-                    number: crate::SHAPE,
-                    index: to,
-                };
-            }
-            match read_operand(text, table, lines, to + 1, left - 1, n) {
-                Outcome::Refused { number, index } => Outcome::Refused { number, index },
-                Outcome::Done {
-                    to: end,
-                    count: m,
-                    wire: y,
-                    valued: _,
-                } => {
-                    if !tokens::expect(*text, end, tokens::CLOSING) {
-                        return Outcome::Refused {
-                            number: crate::SHAPE,
-                            index: end,
-                        };
-                    }
-                    close_gate(lines, end, h, x, y, 0, m)
-                }
-            }
-        }
-    }
+    let x = read_operand(text, table, lines, from, left - 1, count)?;
+    want(*text, x.to, tokens::SPACE)?;
+    let y = read_operand(text, table, lines, x.to + 1, left - 1, x.count)?;
+    want(*text, y.to, tokens::CLOSING)?;
+    close_gate(lines, y.to, h, x.wire, y.wire, 0, y.count)
 }
 
 // A form, from its bracket on, which stands there. So many forms may be open, this one with them.
@@ -246,34 +187,18 @@ fn read_form(
     from: usize,
     left: usize,
     count: usize,
-) -> Outcome
+) -> Result<Operand, Refusal>
     requires { Given text.now.now table.now.now lines.old from count × (is_at text.now.now from opening ≡ true) × (1 ≤ left)
         × (left ≤ deepest) }
     ensures { Told fresh text.now.now table.now.now lines.old lines.new from left count result }
 {
-    match words::read_word(text, table, from + 1, left == DEEPEST) {
-        Spelt::Dies { index } => Outcome::Refused {
-            number: crate::SHAPE,
-            index,
-        },
-        Spelt::Is { head, to } => {
-            let row = table::row(head);
-            let sort = row.sort;
-            match sort {
-                Sort::Leaf => {
-                    return read_leaf(text, table, lines, to, head, left, count);
-                }
-                Sort::One => {
-                    return read_one(text, table, lines, to, head, left, count);
-                }
-                Sort::Two => {
-                    return read_two(text, table, lines, to, head, left, count);
-                }
-                Sort::Scaled => {
-                    return read_scaled(text, table, lines, to, head, left, count);
-                }
-            }
-        }
+    let word = placed(words::read_word(text, table, from + 1, left == DEEPEST))?;
+    let row = table::row(word.head);
+    match row.sort {
+        Sort::Leaf => read_leaf(text, table, lines, word.to, word.head, left, count),
+        Sort::One => read_one(text, table, lines, word.to, word.head, left, count),
+        Sort::Two => read_two(text, table, lines, word.to, word.head, left, count),
+        Sort::Scaled => read_scaled(text, table, lines, word.to, word.head, left, count),
     }
 }
 
@@ -287,40 +212,28 @@ pub fn read_operand(
     from: usize,
     left: usize,
     count: usize,
-) -> Outcome
+) -> Result<Operand, Refusal>
     requires { Given text.now.now table.now.now lines.old from count × (left ≤ deepest)
         × (left ≡ deepest → from < length text.now.now) }
     ensures { Told fresh text.now.now table.now.now lines.old lines.new from left count result }
 {
-    if !tokens::expect(*text, from, tokens::OPENING) {
-        return Outcome::Refused {
-            number: crate::SHAPE,
-            index: from,
-        };
-    }
-    if left == 0 {
-        return Outcome::Refused {
-            number: crate::DEPTH,
-            index: from,
-        };
-    }
+    ask(
+        Question::Form,
+        from,
+        tokens::expect(*text, from, tokens::OPENING),
+    )?;
+    ask(Question::Depth, from, left != 0)?;
     if left < DEEPEST {
-        match numbers::read_name(*text, *table, from) {
-            Name::Is { wire, to } => {
-                return Outcome::Done {
-                    to,
-                    count,
-                    wire,
-                    valued: false,
-                };
-            }
-            Name::Other => {}
+        if let Some(name) = numbers::read_name(*text, *table, from) {
+            return Ok(Operand {
+                to: name.to,
+                count,
+                wire: name.wire,
+                valued: false,
+            });
         }
-        match numbers::read_input(*text, from) {
-            Digits::Are { value, to } => {
-                return close_gate(lines, to, Head::In, value, 0, 0, count);
-            }
-            Digits::Unsure => {}
+        if let Some(number) = numbers::read_input(*text, from) {
+            return close_gate(lines, number.to, Head::In, number.value, 0, 0, count);
         }
     }
     read_form(text, table, lines, from, left, count)

@@ -4,7 +4,8 @@ ghost use Rattle.circuit.specs.Gate.{gate_size};
 ghost use Rattle.circuit.specs.Accept.{most_gates};
 ghost use Rattle.reader.specs.Code.{RowsTold};
 
-use crate::{Outcome, Reading, nesting};
+use crate::nesting;
+use circuit::questions::Refusal;
 use field::Word;
 
 // What the table of rows says of a row: twice the gate of its value, and one more if it has one.
@@ -12,45 +13,27 @@ fn entry_of(wire: Word, valued: bool) -> Word
     requires { wire < most_gates }
     ensures { (result / 2 ≡ wire) × (eqb (result % 2) 1 ≡ valued) }
 {
-    if valued {
-        return 2 * wire + 1;
-    }
-    2 * wire
+    if valued { 2 * wire + 1 } else { 2 * wire }
 }
 
-// All rows, each a form and its line feed. Every row makes a gate, so that the table has room for as many as there may be gates.
-pub fn read_rows(text: &[u8], lines: &mut [Word; crate::MOST_NUMBERS]) -> Reading
+// All rows, each a form and its line feed: how many gates they make. Every row makes a gate, so that the table has room for as many as there
+// may be gates.
+pub fn read_rows(text: &[u8], lines: &mut [Word; crate::MOST_NUMBERS]) -> Result<usize, Refusal>
     requires { gate_size * most_gates ≤ length lines.old }
     ensures { RowsTold text.now lines.new result }
 {
-    let mut table: [Word; crate::MOST_GATES] = [0; crate::MOST_GATES];
+    let mut table = [0; crate::MOST_GATES];
     let mut rows = 0;
     let mut at = 0;
     let mut count = 0;
     while at < text.len() {
-        let known = &table[0..rows];
-        match nesting::read_operand(&text, &known, lines, at, nesting::DEEPEST, count) {
-            Outcome::Refused { number, index } => {
-                return Reading::Refused { number, index };
-            }
-            Outcome::Done {
-                to,
-                count: total,
-                wire,
-                valued,
-            } => {
-                if !tokens::expect(text, to, tokens::FEED) {
-                    return Reading::Refused {
-                        number: crate::SHAPE,
-                        index: to,
-                    };
-                }
-                table[rows] = entry_of(wire, valued);
-                rows += 1;
-                at = to + 1;
-                count = total;
-            }
-        }
+        let known = &table[..rows];
+        let row = nesting::read_operand(&text, &known, lines, at, nesting::DEEPEST, count)?;
+        nesting::want(text, row.to, tokens::FEED)?;
+        table[rows] = entry_of(row.wire, row.valued);
+        rows += 1;
+        at = row.to + 1;
+        count = row.count;
     }
-    Reading::Done { count }
+    Ok(count)
 }

@@ -2,4 +2,3 @@
 pub mod Names
 pub mod Order
 pub mod Lines
-pub mod Passing

@@ -14,55 +14,36 @@ use protocol::Blame;
 use std::io;
 use std::io::Write;
 
-// A name and a number, with which a line of an answer begins.
-pub fn print_named<W: Write>(to: &mut W, name: &[u8], n: usize) -> io::Result<()> {
-    printing::print(to, name)?;
-    printing::print_number(to, n as u64)
-}
-
-// A gate, a stage and a check share.
-fn print_place<W: Write>(to: &mut W, at: Position) -> io::Result<()> {
-    printing::print_number(to, at.gate as u64)?;
-    printing::print(to, b" ")?;
-    printing::print(to, stage_name(at.stage))?;
-    printing::print_number(to, at.held as u64)
-}
-
+// A gate, a stage and a check share, and the end of the line.
 fn print_position<W: Write>(to: &mut W, at: Position) -> io::Result<()> {
-    print_place(to, at)?;
-    printing::print(to, b"\n")
+    writeln!(to, " {} {} {}", at.gate, stage_name(at.stage), at.held)
 }
 
 // Whom a stop names, if anybody, and the end of the line.
 pub fn print_blame<W: Write>(to: &mut W, blame: Blame) -> io::Result<()> {
     match blame {
-        None => printing::print(to, b"\n"),
-        Some(i) => {
-            print_named(to, b" party", i)?;
-            printing::print(to, b"\n")
-        }
+        Some(i) => writeln!(to, " party {i}"),
+        None => writeln!(to),
     }
 }
 
 pub fn print_refusal<W: Write>(to: &mut W, refusal: Refusal) -> io::Result<()> {
-    print_named(to, b"refusal", refusal.question.number() as usize)?;
-    printing::print_number(to, refusal.index as u64)?;
-    printing::print(to, b"\n")
+    let number = refusal.question.number();
+    writeln!(to, "refusal {number} {}", refusal.index)
 }
 
 fn print_outcome<W: Write>(to: &mut W, outcome: Outcome) -> io::Result<()> {
     match outcome {
         Outcome::Next(at) => {
-            printing::print(to, b"next")?;
+            write!(to, "next")?;
             print_position(to, at)
         }
         Outcome::Output(value, at) => {
-            print_named(to, b"output", value as usize)?;
+            write!(to, "output {value}")?;
             print_position(to, at)
         }
         Outcome::Abort(blame, at) => {
-            printing::print(to, b"abort")?;
-            print_place(to, at)?;
+            write!(to, "abort {} {} {}", at.gate, stage_name(at.stage), at.held)?;
             print_blame(to, blame)
         }
     }

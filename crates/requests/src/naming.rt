@@ -159,24 +159,24 @@ pub fn has(entry: Entry, field: Field) -> bool
 
 // A stage's name is that of its half, and then its round's.
 #[tactic(auto, unfolding(crate::specs::Names::bytes, crate::specs::Names::round_name, crate::specs::Names::stage_name))]
-pub fn stage_name(stage: Stage) -> &'static [u8]
+pub fn stage_name(stage: Stage) -> &'static str
     ensures { result.now ≡ stage_name stage }
 {
     match stage {
-        Stage::Send(Round::Own) => b"send-own",
-        Stage::Send(Round::Open) => b"send-show",
-        Stage::Send(Round::Commit(Check::First)) => b"send-seal",
-        Stage::Send(Round::Reveal(Check::First)) => b"send-reveal",
-        Stage::Send(Round::Commit(Check::Second)) => b"send-output-seal",
-        Stage::Send(Round::Reveal(Check::Second)) => b"send-output-reveal",
-        Stage::Receive(Round::Own) => b"receive-own",
-        Stage::Receive(Round::Open) => b"receive-show",
-        Stage::Receive(Round::Commit(Check::First)) => b"receive-seal",
-        Stage::Receive(Round::Reveal(Check::First)) => b"receive-reveal",
-        Stage::Receive(Round::Commit(Check::Second)) => b"receive-output-seal",
-        Stage::Receive(Round::Reveal(Check::Second)) => b"receive-output-reveal",
-        Stage::Finished => b"finished",
-        Stage::Aborted => b"aborted",
+        Stage::Send(Round::Own) => "send-own",
+        Stage::Send(Round::Open) => "send-show",
+        Stage::Send(Round::Commit(Check::First)) => "send-seal",
+        Stage::Send(Round::Reveal(Check::First)) => "send-reveal",
+        Stage::Send(Round::Commit(Check::Second)) => "send-output-seal",
+        Stage::Send(Round::Reveal(Check::Second)) => "send-output-reveal",
+        Stage::Receive(Round::Own) => "receive-own",
+        Stage::Receive(Round::Open) => "receive-show",
+        Stage::Receive(Round::Commit(Check::First)) => "receive-seal",
+        Stage::Receive(Round::Reveal(Check::First)) => "receive-reveal",
+        Stage::Receive(Round::Commit(Check::Second)) => "receive-output-seal",
+        Stage::Receive(Round::Reveal(Check::Second)) => "receive-output-reveal",
+        Stage::Finished => "finished",
+        Stage::Aborted => "aborted",
     }
 }
 
@@ -195,6 +195,6 @@ pub fn stage_named(word: &[u8]) -> Option<Stage>
 {
     STAGES
         .iter()
-        .find(|stage| word == stage_name(**stage))
+        .find(|stage| word == stage_name(**stage).as_bytes())
         .copied()
 }

@@ -1,5 +1,5 @@
 // Reading a line of a request. An error is the writer's, where a complaint is printed, and leaves what is lent as it was.
-ghost use Rattle.std.specs.Prelude.{◌≤◌, ◌≡◌, ◌⊎◌, true, IfOk, OnErr};
+ghost use Rattle.std.specs.Prelude.{◌≡◌, ◌⊎◌, true, IfOk, OnErr};
 ghost use Rattle.requests.specs.Order.{placed, awaits, dropped as drops};
 ghost use Rattle.requests.specs.Lines as L;
 ghost use Rattle.requests.specs.Lines.{goes as skips, one_in, position_in, goes, take_number, take_position, take_wanted, take_field, take_line};
@@ -21,34 +21,26 @@ pub struct Step {
     pub list: Option<usize>,
 }
 
-fn print_line<W: Write>(to: &mut W, number: u64) -> io::Result<()> {
-    printing::print(to, b"line")?;
-    printing::print_number(to, number)?;
-    printing::print(to, b": ")
-}
-
-pub fn complain<W: Write>(to: &mut W, number: u64, message: &[u8]) -> io::Result<()> {
-    print_line(to, number)?;
-    printing::print(to, message)?;
-    printing::print(to, b"\n")
+pub fn complain<W: Write>(to: &mut W, number: u64, message: &str) -> io::Result<()> {
+    writeln!(to, "line {number}: {message}")
 }
 
 // What was to come in a request, or outside of one.
 fn complain_wanted<W: Write>(to: &mut W, number: u64, wanted: Wanted) -> io::Result<()> {
-    print_line(to, number)?;
+    write!(to, "line {number}: ")?;
     match wanted {
-        Wanted::Field(entry, field) => printing::print(to, field_name(entry, field))?,
-        _ => printing::print(to, b"the name of an entry")?,
+        Wanted::Field(entry, field) => to.write_all(field_name(entry, field))?,
+        _ => write!(to, "the name of an entry")?,
     }
-    printing::print(to, b" is wanted\n")
+    writeln!(to, " is wanted")
 }
 
 // What is wrong with numbers.
 pub fn complain_numbers<W: Write>(to: &mut W, number: u64, fault: Fault) -> io::Result<()> {
     match fault {
-        Fault::Unlike => complain(to, number, b"not a number"),
-        Fault::TooLarge => complain(to, number, b"a number above 4294967295"),
-        Fault::TooMany => complain(to, number, b"more than 65536 numbers"),
+        Fault::Unlike => complain(to, number, "not a number"),
+        Fault::TooLarge => complain(to, number, "a number above 4294967295"),
+        Fault::TooMany => complain(to, number, "more than 65536 numbers"),
     }
 }
 
@@ -65,7 +57,7 @@ fn one_number(rest: &[u8]) -> Result<u32, Fault>
 
 fn complain_one<W: Write>(to: &mut W, number: u64, fault: Fault) -> io::Result<()> {
     match fault {
-        Fault::TooMany => complain(to, number, b"one number is wanted"),
+        Fault::TooMany => complain(to, number, "one number is wanted"),
         _ => complain_numbers(to, number, fault),
     }
 }
@@ -133,7 +125,7 @@ fn take_position<W: Write>(
     match position_in(rest) {
         Some(at) => Ok(moved_on(with_position(request, at))),
         None => {
-            complain(to, number, b"a gate, a stage and a check share are wanted")?;
+            complain(to, number, "a gate, a stage and a check share are wanted")?;
             Ok(dropped(request))
         }
     }
@@ -207,17 +199,10 @@ fn begin<W: Write>(
 {
     take_end(to, number, request)?;
     if !bare {
-        complain(to, number, b"nothing may follow the name of an entry")?;
+        complain(to, number, "nothing may follow the name of an entry")?;
         return Ok(dropped(request));
     }
     Ok(started(Wanted::Field(entry, Field::Parties)))
-}
-
-// The lesser of two counts.
-pub fn shorter(n: usize, end: usize) -> usize
-    ensures { result ≤ end }
-{
-    n.min(end)
 }
 
 // A line of the input.

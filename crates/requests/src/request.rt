@@ -1,26 +1,14 @@
 // What is read of a request.
-ghost use Rattle.std.specs.Prelude.{◌≤◌, ◌≡◌, length, take};
+ghost use Rattle.std.specs.Prelude.{◌≤◌, ◌≡◌};
 ghost use Rattle.requests.specs.Order as O;
 
 use crate::naming::{Entry, FIELDS, Field, has};
 use circuit::Round;
-use field::Word;
 use party::Position;
 use protocol::Stage;
 
 // The most numbers of a list.
 pub const ROOM: usize = 65536;
-
-// The lists that are only read share one room, in which each has its place.
-pub const CIRCUIT_ROOM: usize = 0;
-
-pub const PREP_ROOM: usize = 65536;
-
-pub const INPUTS_ROOM: usize = 131072;
-
-pub const WORDS_ROOM: usize = 196608;
-
-pub const NONCES_ROOM: usize = 262144;
 
 // What the next line is to have: a field of an entry; or none, for the request is complete, has not begun, or is dropped.
 #[derive(Clone, Copy)]
@@ -45,6 +33,13 @@ impl Request {
         ensures { result ≡ O.number_of self field }
     {
         self.read[field.place()] as usize
+    }
+
+    // The length of the list of a field, no more than there is room for.
+    pub fn count(self, field: Field) -> usize
+        ensures { result ≤ 65536 }
+    {
+        self.number(field).min(ROOM)
     }
 }
 
@@ -110,18 +105,4 @@ pub fn with_position(request: Request, at: Position) -> Request
     ensures { result ≡ O.standing request at }
 {
     Request { at, ..request }
-}
-
-// A count of a list that is only read, or the most that there is room for.
-pub fn within(n: usize) -> usize
-    ensures { result ≤ 65536 }
-{
-    n.min(ROOM)
-}
-
-// A count, or the length of a list where the list is shorter.
-pub fn part(n: usize, list: &[Word]) -> usize
-    ensures { (result ≤ length list.now) × (result ≡ length (take result list.now)) }
-{
-    n.min(list.len())
 }

@@ -1,16 +1,49 @@
 // Reading a line of a request, and storing its list. An error is the writer's, where a complaint is printed; the lists then have what was stored before it.
-ghost use Rattle.std.specs.Prelude.{◌+◌, ◌≤◌, length};
+ghost use Rattle.std.specs.Prelude.{◌≡◌, length};
 
 use crate::bytes::all_bytes;
 use crate::naming::{Field, field_name};
-use crate::reading::{complain, complain_numbers, shorter, take_line};
-use crate::request::{
-    CIRCUIT_ROOM, INPUTS_ROOM, NONCES_ROOM, PREP_ROOM, ROOM, Request, WORDS_ROOM, Wanted, dropped,
-    moved_on, part, with_number, within,
-};
+use crate::reading::{complain, complain_numbers, take_line};
+use crate::request::{ROOM, Request, Wanted, dropped, moved_on, with_number};
 use field::Word;
 use std::io;
 use std::io::Write;
+
+// Room for a list of each field that is one.
+#[derive(Drop)]
+pub struct Lists {
+    pub circuit: [Word; ROOM],
+    pub prep: [Word; ROOM],
+    pub inputs: [Word; ROOM],
+    pub scratch: [Word; ROOM],
+    pub words: [Word; ROOM],
+    pub nonces: [Word; ROOM],
+    pub out: [Word; ROOM],
+    pub outputs: [Word; ROOM],
+}
+
+impl Lists {
+    fn room(&mut self, field: Field) -> Option<&mut [Word]> {
+        match field {
+            Field::Circuit => Some(&mut self.circuit),
+            Field::Prep => Some(&mut self.prep),
+            Field::Inputs => Some(&mut self.inputs),
+            Field::Scratch => Some(&mut self.scratch),
+            Field::Words => Some(&mut self.words),
+            Field::Nonces => Some(&mut self.nonces),
+            Field::Out => Some(&mut self.out),
+            Field::Outputs => Some(&mut self.outputs),
+            Field::Parties | Field::Party | Field::Position => None,
+        }
+    }
+}
+
+// Room of a size, in which nothing is yet.
+pub fn room<T: Copy, const N: usize>(zero: T) -> [T; N]
+    ensures { length result ≡ N }
+{
+    [zero; N]
+}
 
 // Is what is wanted bytes? A text is, and so are nonces.
 fn wants_bytes(wanted: Wanted) -> bool {
@@ -31,15 +64,15 @@ fn take_list<W: Write>(
     request: Request,
     list: &mut [Word],
 ) -> io::Result<Request> {
-    let start = shorter(from, line.len());
+    let start = from.min(line.len());
     match text::read_numbers(&line[start..], list) {
         Ok(n) => {
-            let count = part(n, list);
+            let count = n.min(list.len());
             if wants_bytes(request.wanted) && !all_bytes(&list[..count]) {
-                complain(to, number, b"a byte above 255")?;
+                complain(to, number, "a byte above 255")?;
                 return Ok(dropped(request));
             }
-            Ok(moved_on(with_number(request, within(n) as u32)))
+            Ok(moved_on(with_number(request, n.min(ROOM) as u32)))
         }
         Err(fault) => {
             complain_numbers(to, number, fault)?;
@@ -48,49 +81,21 @@ fn take_list<W: Write>(
     }
 }
 
-// Reads a list that an entry only reads into its room, which begins at a place.
-fn take_given<W: Write>(
-    to: &mut W,
-    number: u64,
-    line: &[u8],
-    from: usize,
-    request: Request,
-    given: &mut [Word],
-    place: usize,
-) -> io::Result<Request>
-    requires { place + 65536 ≤ length given.old }
-{
-    let end = place + ROOM;
-    take_list(to, number, line, from, request, &mut given[place..end])
-}
-
 // Reads a line. The list that it has is stored in its room.
 pub fn read_line<W: Write>(
     to: &mut W,
     number: u64,
     line: &[u8],
     request: Request,
-    given: &mut [Word],
-    scratch: &mut [Word],
-    out: &mut [Word],
-    outputs: &mut [Word],
-) -> io::Result<Request>
-    requires { 327680 ≤ length given.old }
-{
+    lists: &mut Lists,
+) -> io::Result<Request> {
     let step = take_line(to, number, line, request)?;
     let next = step.request;
     let (Some(from), Wanted::Field(_, field)) = (step.list, next.wanted) else {
         return Ok(next);
     };
-    match field {
-        Field::Circuit => take_given(to, number, line, from, next, given, CIRCUIT_ROOM),
-        Field::Prep => take_given(to, number, line, from, next, given, PREP_ROOM),
-        Field::Inputs => take_given(to, number, line, from, next, given, INPUTS_ROOM),
-        Field::Words => take_given(to, number, line, from, next, given, WORDS_ROOM),
-        Field::Nonces => take_given(to, number, line, from, next, given, NONCES_ROOM),
-        Field::Scratch => take_list(to, number, line, from, next, scratch),
-        Field::Out => take_list(to, number, line, from, next, out),
-        Field::Outputs => take_list(to, number, line, from, next, outputs),
-        _ => Ok(next),
+    match lists.room(field) {
+        Some(list) => take_list(to, number, line, from, next, list),
+        None => Ok(next),
     }
 }

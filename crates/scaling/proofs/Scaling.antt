@@ -9,9 +9,10 @@ use lib.ListN.{length, get_or, set, length-set}
 use Rattle.field.specs.Words.{size}
 use Rattle.field.specs.Prime.{mul}
 use Rattle.field.specs.Prime.Laws.{mul_lt}
-use borrow.Author.Tests.{lt-ltb, le-ltb}
-use Rattle.circuit.specs.Verdict.{Accepted, Refused, elements}
-use Rattle.circuit.proofs.Verdicts.{ask_yes, ask_no, then_refused, then_passed}
+use lib.Dec.{ltb}
+use borrow.Author.Tests.{ltb-true}
+use Rattle.circuit.specs.Verdict.{Accepted, ask, elements}
+use Rattle.circuit.proofs.Verdicts.{ask_true, then_left, then_right, elements_below}
 use Rattle.protocol.specs.Holding.{Below}
 use Rattle.scaling.specs.Scale.{scaled, ask_scale}
 
@@ -66,17 +67,12 @@ module _ (by : ℕ) (xs₀ : List ℕ) where
     pub scaling_ends : length xs ≤ i → xs ≡ scaled by xs₀
     scaling_ends h = sym (from_end by i xs h) ∙ inv.rest
 
--- what the questions come to
-module _ (by : ℕ) (xs : List ℕ) where
-  pub factor_refused : size ≤ by → ask_scale by xs ≡ Refused 1 0
+-- what the questions tell
+module _ (by : ℕ) (xs : List ℕ) (e : Accepted ≡ ask_scale by xs) where
+  pub factor_small : by < size
   unfolding ask_scale
-  factor_refused h = then_refused _ (ask_no 1 0 (le-ltb by size h))
+  factor_small = ltb-true by size (ask_true 1 0 _ (then_left _ (elements 2 size xs) (sym e)))
 
-  module _ (h : by < size) where
-    pub numbers_refused : {number index : ℕ} → elements 2 size xs ≡ Refused number index → ask_scale by xs ≡ Refused number index
-    unfolding ask_scale
-    numbers_refused e = then_passed _ (ask_yes 1 0 (lt-ltb by size h)) ∙ e
-
-    pub numbers_accepted : elements 2 size xs ≡ Accepted → ask_scale by xs ≡ Accepted
-    unfolding ask_scale
-    numbers_accepted e = then_passed _ (ask_yes 1 0 (lt-ltb by size h)) ∙ e
+  pub values_small : Below size xs
+  unfolding ask_scale
+  values_small = elements_below 2 size xs (omega arith) (then_right (ask 1 0 (ltb by size)) _ (sym e))

@@ -3,36 +3,44 @@
 
 ghost use Rattle.std.specs.Prelude.{◌≡◌, ◌<◌};
 ghost use Rattle.field.specs.Words.{size};
+ghost use Rattle.circuit.specs.Question.{verdict_of};
 ghost use Rattle.protocol.specs.Holding.{Below};
 ghost use Rattle.protocol.specs.Entry.{leave};
 ghost use Rattle.scaling.specs.Scale.{scaled, ask_scale, refusal_number};
 
-use circuit::Verdict;
+use circuit::questions::{Question, Refusal, ask};
 use field::Word;
 
-// What scaling returns: done, or the number of the question that refuses.
+// What scaling returns where nothing refuses; else the number of the question that does.
 const SCALED: u32 = 0;
 
-const FACTOR_QUESTION: u32 = 1;
+// The questions of scaling are its own, and are asked under the names that have their numbers, 1 and 2.
+const FACTOR: Question = Question::Parties;
 
-const VALUES_QUESTION: u32 = 2;
+const VALUES: Question = Question::Party;
 
 // Each number of a list times a factor, in place; nothing is written where one of them is no element.
+#[tactic(auto, unfolding(crate::specs::Scale::refusal_number, protocol::specs::Entry::leave))]
 pub fn spdz_scale(values: &mut [Word], by: Word) -> u32
     ensures returned { result ≡ refusal_number (ask_scale by values.old) }
     ensures values { values.new ≡ leave (ask_scale by values.old) (scaled by values.old) values.old }
 {
-    if field::SIZE <= by {
-        return FACTOR_QUESTION;
-    }
-    match party::asking::ask_elements(VALUES_QUESTION, values) {
-        Verdict::Refused { number, index: _ } => {
-            return number;
+    match ask_all(values, by) {
+        Ok(()) => {
+            scale(values, by);
+            SCALED
         }
-        Verdict::Accepted => {}
+        Err(refusal) => refusal.question.number(),
     }
-    scale(values, by);
-    SCALED
+}
+
+// Both questions.
+#[tactic(auto, using(circuit::proofs::Verdicts::asked), unfolding(crate::specs::Scale::ask_scale))]
+fn ask_all(values: &[Word], by: Word) -> Result<(), Refusal>
+    ensures { verdict_of result ≡ ask_scale by values.now }
+{
+    ask(FACTOR, 0, by < field::SIZE)?;
+    party::asking::ask_elements(VALUES, values)
 }
 
 fn scale(values: &mut [Word], by: Word)
@@ -40,9 +48,7 @@ fn scale(values: &mut [Word], by: Word)
     ensures { values.new ≡ scaled by values.old }
 {
     let twice = by + by;
-    let mut i = 0;
-    while i < values.len() {
-        values[i] = field::mul_twice(values[i], twice);
-        i += 1;
+    for x in values.iter_mut() {
+        *x = field::mul_twice(*x, twice);
     }
 }

@@ -11,10 +11,13 @@ use lib.Dec.{eqb}
 use borrow.Rule.Slice.PartMut.{mid_len}
 use Rattle.algebra.specs.Element.{Is}
 use Rattle.field.specs.Words.{size, ops}
-use Rattle.circuit.specs.Gate.{gate}
-use Rattle.circuit.specs.Kind.{is_give}
+use Rattle.circuit.specs.Gate.{Kind, In, Add, Sub, Plus, Times, Mul, Out, Sq, Give, Over, gate, gate_of}
+use Rattle.circuit.specs.Kind.{Local, kind_shape, is_class, is_give}
+use Rattle.circuit.proofs.Tests.{false_no}
 use Rattle.circuit.specs.Round.{Check, Round, Open, Commit, Reveal, is_reveal, commit_words, reveal_words, shape_words, words, rounds, among}
+use Rattle.protocol.specs.Scratch as S
 use Rattle.protocol.specs.Scratch.{marks_at, marks_of}
+use Rattle.protocol.specs.Holding.{Held, Reads}
 use Rattle.protocol.specs.Position.{aborted}
 use Rattle.protocol.specs.Party.{Party}
 use Rattle.protocol.specs.Send.{shown}
@@ -95,3 +98,17 @@ module _ (P : Party) (l : List ℕ) (j : ℕ) (r : Round) (heard : List ℕ) {x 
   concludes_stopped p f =
       let v : passed (finds ops P l r heard) ≡ false = sym (ap passed e) ∙ rw p in
       record { ruling = e; point = next_stops P.circuit j _ r v f; scratch = left_stopped ops P l j heard _ r v }
+
+-- a gate of a local kind reads the gate that it names first
+pub local_first : {y : S.Layout} {l : List ℕ} {x z n : ℕ} (k : Kind) → is_class Local (kind_shape k).class ≡ true → Reads size y l (gate_of k x z n) → Held size y l x
+unfolding kind_shape is_class
+local_first In h r = false_no h
+local_first Add h r = r.first
+local_first Sub h r = r.first
+local_first Plus h r = r.first
+local_first Times h r = r.first
+local_first Mul h r = false_no h
+local_first Out h r = false_no h
+local_first Sq h r = false_no h
+local_first Give h r = false_no h
+local_first Over h r = r.first

@@ -8,11 +8,11 @@ ghost use Rattle.circuit.specs.Count.{unchecked};
 ghost use Rattle.circuit.specs.Round.{Second, Own, Open, Reveal, commit_words, reveal_words};
 ghost use Rattle.circuit.specs.Code.{kind_of, class_of, role_of, check_of, round_of};
 ghost use Rattle.protocol.specs.Part.{part_at, product};
-ghost use Rattle.protocol.specs.Scratch.{slots_size};
+ghost use Rattle.protocol.specs.Scratch.{slots_size, wire};
 ghost use Rattle.protocol.specs.Party.{party_of, a_at, b_at, c_at};
 ghost use Rattle.protocol.specs.Position.{reach, enter, resume};
 ghost use Rattle.protocol.specs.Send.{shown};
-ghost use Rattle.protocol.specs.Receive.{heard_sum, after_input, put_differences, after_opening, after_open_output, score, operand_of, put_linear, settle, onward, received, fits, misfit, weighs};
+ghost use Rattle.protocol.specs.Receive.{heard_sum, after_input, put_differences, after_opening, after_open_output, score, operand_of, linear, put_linear, settle, onward, received, fits, misfit, weighs};
 ghost use Rattle.protocol.specs.Holding.{Below, Held, Opened, Reads};
 ghost use Rattle.protocol.specs.Code.{layout_of, point_of, blame_of, ruling_of};
 ghost use Rattle.protocol.specs.Ready.{Opening, Settles, Stands, Ready, Receives, Named, Summed};
@@ -219,7 +219,36 @@ pub fn operand_at(c: &[Word], j: usize, role: Role) -> Word
     k
 }
 
+// What a gate of a local kind comes to, which names x and z and is worked out with k. No other kind is local.
+fn linear(
+    me: usize,
+    key: Word,
+    y: Layout,
+    l: &[Word],
+    kind: Kind,
+    x: usize,
+    z: usize,
+    k: Word,
+) -> Part
+    requires { (key < size)
+        × (slots_size (layout_of y) ≤ length l.now)
+        × (is_class Local (kind_shape (kind_of kind)).class ≡ true)
+        × Reads size (layout_of y) l.now (gate_of (kind_of kind) x z k) }
+    ensures { IsPart (linear ops me key (kind_of kind) (wire (layout_of y) l.now x) (wire (layout_of y) l.now z) k) result }
+{
+    let first = scratch::wire_at(l, y, x);
+    match kind {
+        Kind::Add => first + scratch::wire_at(l, y, z),
+        Kind::Sub => first - scratch::wire_at(l, y, z),
+        Kind::Plus => first.shifted(me, key, k),
+        Kind::Times => first.times(k),
+        Kind::Over => first.times(k),
+        Kind::In | Kind::Mul | Kind::Out | Kind::Sq | Kind::Give => unreachable!(),
+    }
+}
+
 // Gate j, of a local kind, which names x and z and is worked out with k.
+#[tactic(auto, unfolding(protocol::specs::Receive::put_linear))]
 pub fn after_linear(
     me: usize,
     key: Word,
@@ -238,33 +267,8 @@ pub fn after_linear(
         × Reads size (layout_of y) l.old (gate_of (kind_of kind) x z k) }
     ensures { l.new ≡ put_linear ops me key (layout_of y) l.old j (kind_of kind) x z k }
 {
-    match kind {
-        Kind::In => {}
-        Kind::Add => {
-            let w = scratch::wire_at(l, y, x) + scratch::wire_at(l, y, z);
-            scratch::put_wire(l, y, j, w);
-        }
-        Kind::Sub => {
-            let w = scratch::wire_at(l, y, x) - scratch::wire_at(l, y, z);
-            scratch::put_wire(l, y, j, w);
-        }
-        Kind::Plus => {
-            let w = scratch::wire_at(l, y, x).shifted(me, key, k);
-            scratch::put_wire(l, y, j, w);
-        }
-        Kind::Times => {
-            let w = scratch::wire_at(l, y, x).times(k);
-            scratch::put_wire(l, y, j, w);
-        }
-        Kind::Mul => {}
-        Kind::Out => {}
-        Kind::Sq => {}
-        Kind::Give => {}
-        Kind::Over => {
-            let quotient = scratch::wire_at(l, y, x).times(k);
-            scratch::put_wire(l, y, j, quotient);
-        }
-    }
+    let w = linear(me, key, y, l, kind, x, z, k);
+    scratch::put_wire(l, y, j, w);
 }
 
 // The first gate from gate from on that needs a round, or the number of gates.

@@ -5,7 +5,7 @@ use mathlib.Core.Path.{◌≡◌, refl, ap, ◌∙◌}
 use mathlib.Core.Bool.{cond}
 use mathlib.Core.List.{List, [], ◌∷◌}
 use lib.ListN.{set, replicate}
-use Rattle.sha256.specs.Sha256.{◌⊞◌, ◌⊕◌, ∁, shr, rotr, ch, maj, Σ₀, Σ₁, σ₀, σ₁, K, bytes_of, padding, pad, word_of, words_of, H₀, next, extend, schedule, T₁, T₂, round, rounds, sums, compress, blocks, sha256}
+use Rattle.sha256.specs.Sha256.{K, bytes_of, padding, pad, word_of, words_of, H₀, next, extend, schedule, T₁, T₂, round, rounds, sums, compress, blocks, sha256}
 use Rattle.sha256.specs.Digest.{bytes, digest, same}
 use Rattle.sha256.specs.Digest.Laws.{digest_is}
 use Rattle.sha256.proofs.Alike.{same_true}
@@ -48,7 +48,7 @@ pub record Computed : Type 0 where
   pub all_ones : sha256 (bytes (1 ∷ replicate 8 4294967295)) ≡ 626753204 ∷ 3281315467 ∷ 3136857751 ∷ 3795497233 ∷ 2890968502 ∷ 1829833067 ∷ 1082063537 ∷ 3216551885 ∷ []
 
 pub computed : Computed
-unfolding ◌⊞◌ ◌⊕◌ ∁ shr rotr ch maj Σ₀ Σ₁ σ₀ σ₁ K bytes_of padding pad word_of words_of H₀ next extend schedule T₁ T₂ round rounds sums compress blocks sha256 bytes
+unfolding K bytes_of padding pad word_of words_of H₀ next extend schedule T₁ T₂ round rounds sums compress blocks sha256 bytes
 computed =
     record {
       ten = refl;

@@ -1,39 +1,16 @@
 -- `reader::read_sheet` meets its contract: the parties are asked, then the text, and the rest of the circuit that was read.
 -- Assumes nothing.
-use mathlib.Core.Path.{sym, ap, ◌∙◌}
-use native.Mathlib.Omega.{arith}
-use Rattle.circuit.specs.Code.{verdict_was}
-use Rattle.reader.proofs.Answers.{rows_done, rows_refused}
 use Rattle.reader.proofs.Entering.{entered_refused, entered_no, entered_settled}
 use Rattle.reader.proofs.read_sheet.Goals as goal
 
-pub returns-in-Refused : goal.returns-in-Refused
-unfolding verdict_was
-returns-in-Refused c =
-    entered_refused _ _ _ (sym c.ask_parties.ensures ∙ ap verdict_was c.in-Refused.is)
+pub returns-in_err-ask_parties : goal.returns-in_err-ask_parties
+returns-in_err-ask_parties c =
+    entered_refused _ _ _ _ _ c.from_residual.ensures.1 c.in_err-ask_parties.ensures
 
-pub overflow_mul-end : goal.overflow_mul-end
-overflow_mul-end c =
-    let d = rows_done c.read_rows.ensures c.in-Done.is in omega (arith, d.few)
+pub returns-in_err-count : goal.returns-in_err-count
+returns-in_err-count c =
+    entered_no _ _ _ c.in_ok-ask_parties.ensures _ _ c.from_residual-in_err-count.ensures.1 c.in_err-count.ensures
 
-pub slice_bounds-settle-end : goal.slice_bounds-settle-end
-slice_bounds-settle-end c =
-    let d = rows_done c.read_rows.ensures c.in-Done.is in omega
-    (arith, d.few, d.long)
-
-pub returns-in-Refused-read_rows : goal.returns-in-Refused-read_rows
-unfolding verdict_was
-returns-in-Refused-read_rows c =
-    let k = sym c.ask_parties.ensures ∙ ap verdict_was
-    c.in-Accepted.is in
-    entered_no _ _ _ k (rows_refused _ _ c.read_rows.ensures c.in-Refused-read_rows.is)
-
-pub returns-in-Done : goal.returns-in-Done
-unfolding verdict_was
-returns-in-Done c =
-    let d = rows_done c.read_rows.ensures
-    c.in-Done.is in
-    let k = sym
-    c.ask_parties.ensures ∙ ap
-    verdict_was c.in-Accepted.is in
-    entered_settled _ _ _ k d c.settle.ensures
+pub returns : goal.returns
+returns c =
+    entered_settled _ _ _ c.in_ok-ask_parties.ensures _ c.in_ok-count.ensures c.settle.ensures

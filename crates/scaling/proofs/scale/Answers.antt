@@ -3,7 +3,6 @@
 use Prim.Native.Nat.{ℕ, ◌+◌, ◌/◌}
 use mathlib.Core.Path.{◌≡◌, ap, ◌∙◌}
 use native.Mathlib.Omega.{arith}
-use lib.ListN.{length-set}
 use Rattle.field.specs.Prime.{mul}
 use Rattle.scaling.proofs.Scaling.{scaling_starts, scaling_again, scaling_ends}
 use Rattle.scaling.proofs.scale.Goals as goal
@@ -16,22 +15,18 @@ pub overflow_add-twice : goal.overflow_add-twice
 overflow_add-twice c =
     record { fits = omega (arith, c.requires.0) }
 
-pub loop-i-init : goal.loop-i-init
-loop-i-init c =
+pub loop-x-init : goal.loop-x-init
+loop-x-init c =
     scaling_starts _ _ c.requires.1
 
 pub mul_twice-requires : goal.mul_twice-requires
 mul_twice-requires c =
-    (c.loop-i.invariant.low _, omega arith, omega (arith, c.requires.0))
+    (c.loop-x.invariant.low _, omega arith, omega (arith, c.requires.0))
 
-pub loop-i-smaller : goal.loop-i-smaller
-loop-i-smaller c =
-    simp length-set (omega arith)
-
-pub loop-i-preserved : goal.loop-i-preserved
-loop-i-preserved c =
-    scaling_again _ _ c.loop-i.invariant (omega arith) (c.mul_twice.ensures.is ∙ half c.args.by _)
+pub loop-x-preserved : goal.loop-x-preserved
+loop-x-preserved c =
+    scaling_again _ _ c.loop-x.invariant (omega arith) (c.mul_twice.ensures.is ∙ half c.args.by _)
 
 pub returns : goal.returns
 returns c =
-    scaling_ends _ _ c.loop-i.invariant (omega arith)
+    scaling_ends _ _ c.loop-x.invariant (omega arith)

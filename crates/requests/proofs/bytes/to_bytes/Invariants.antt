@@ -1,6 +1,6 @@
+use Rattle.std.proofs.Common.{◌≡◌, length, take}
 use Rattle.requests.specs.Texts.{lows}
-use Rattle.requests.proofs.Passing.{Front}
 use Rattle.requests.proofs.bytes.to_bytes.Given as goal
 
 abbrev pub invariant-loop-i : goal.invariant-loop-i
-invariant-loop-i l = Front (lows l.list) l.bytes l.i
+invariant-loop-i l = (length l.bytes ≡ length l.list) × (take l.i l.bytes ≡ lows (take l.i l.list))
