@@ -30,6 +30,16 @@ pub struct Interval {
     pub highest: Word,
 }
 
+// What is worked out of the gates gone past: of each its interval, and where a change is given its move; and of the outputs among them the moves of
+// their scores, so many.
+#[derive(Drop)]
+pub struct Worked {
+    pub ends: [Word; INTERVAL_ROOM],
+    pub moves: [Word; MOVE_ROOM],
+    pub scores: [Word; MOVE_ROOM],
+    pub outs: usize,
+}
+
 // Numbers of an interval.
 pub const INTERVAL_SIZE: usize = 2;
 
@@ -63,14 +73,17 @@ pub fn will_fit(
         ≡ fit_moves size (query_of parties c.now ranges.now (change_of change)) (length intervals.old) moves.old }
 {
     asking::ask(parties, c, ranges, change, intervals.len(), moves.len())?;
-    let mut ends: [Word; INTERVAL_ROOM] = [0; INTERVAL_ROOM];
-    let mut each: [Word; MOVE_ROOM] = [0; MOVE_ROOM];
-    let mut scores: [Word; MOVE_ROOM] = [0; MOVE_ROOM];
-    match working::walk(c, ranges, change, &mut ends, &mut each, &mut scores) {
-        Ok(outs) => {
+    let mut worked = Worked {
+        ends: [0; INTERVAL_ROOM],
+        moves: [0; MOVE_ROOM],
+        scores: [0; MOVE_ROOM],
+        outs: 0,
+    };
+    match worked.walk(c, ranges, change) {
+        Ok(()) => {
             let numbers = INTERVAL_SIZE * gates_of(c);
-            sha256::copy(&ends[..numbers], intervals);
-            sha256::copy(&scores[..outs], moves);
+            sha256::copy(&worked.ends[..numbers], intervals);
+            sha256::copy(&worked.scores[..worked.outs], moves);
             Ok(None)
         }
         Err(gate) => Ok(Some(gate)),
