@@ -35,8 +35,7 @@ pub operand_at-k-requires : goal.operand_at-k-requires
 unfolding layout_of
 operand_at-k-requires c =
     let s = c.requires.0 in
-    let k = settling_there _ _ _ _ _ _ _ _ c.loop-j.invariant.0 s c.requires.1 c.loop-j.invariant.1 c.loop-j-test.true in
-    (
+    let k = settling_there _ _ _ _ _ _ _ _ c.loop-j.invariant.0 s c.requires.1 c.loop-j.invariant.1 c.loop-j-test.true in (
       k.0,
       shape_constant _ _ c.shape_of.ensures ∙ ap (λ z. (kind_shape z).constant) c.kind_at-kind.ensures,
       divisor_low (s.valid.each _ (omega (arith, k.1, s.count))),
@@ -56,8 +55,7 @@ unfolding layout_of
 loop-j-preserved c =
     let s = c.requires.0 in
     let k = settling_there _ _ _ _ _ _ _ _ c.loop-j.invariant.0 s c.requires.1 c.loop-j.invariant.1 c.loop-j-test.true in
-    let g = gate_from c.kind_at-kind.ensures c.first_at-x.ensures c.second_at-z.ensures c.operand_at-k.ensures in
-    (
+    let g = gate_from c.kind_at-kind.ensures c.first_at-x.ensures c.second_at-z.ensures c.operand_at-k.ensures in (
       settling_again _ _ _ _ _ _ _ _ c.loop-j.invariant.0 laws s.room k.1 k.2 (c.after_linear.ensures ∙ put_operated ops _ _ _ _ _ _ g),
       reaching_again _ _ _ _ c.loop-j.invariant.1 k.1 k.2,
     )
