@@ -32,7 +32,7 @@ use Rattle.ranges.proofs.Reaching.{intervals_length}
 use Rattle.ranges.proofs.Listed.{listed_length}
 use Rattle.ranges.proofs.Moves.{score_moves_listed}
 use Rattle.fit.specs.Code.{Fair, Held, interval_room, move_room, Tame, Kept}
-use Rattle.fit.specs.declared.Worked.{Worked}
+use Rattle.fit.specs.declared.working.Worked.{Worked}
 use Rattle.fit.proofs.Holding.{held_front}
 use Rattle.fit.proofs.Walks.{fair_none}
 

@@ -30,7 +30,7 @@ use Rattle.ranges.proofs.Asked.{finding_all, finding_first}
 use Rattle.ranges.proofs.Listed.{listed_length, listed_out, listed_other, count_out, count_other}
 use Rattle.ranges.proofs.Moves.{moves_more, moves_length, move_kept, score_moves_listed}
 use Rattle.fit.specs.Code.{Fair, Named, Held, interval_room, move_room, Tame, Blank, Tracked, Kept, Stepped}
-use Rattle.fit.specs.declared.Worked.{Worked}
+use Rattle.fit.specs.declared.working.Worked.{Worked}
 use Rattle.fit.proofs.Holding.{held_push, held_pair, held_interval}
 
 -- an output is what has no value

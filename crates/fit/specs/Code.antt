@@ -13,7 +13,7 @@ use Rattle.ranges.specs.Move as M
 use Rattle.ranges.specs.Entry as E
 use Rattle.fit.specs.declared.Interval.{Interval}
 use Rattle.fit.specs.declared.Change.{Change}
-use Rattle.fit.specs.declared.Worked.{Worked}
+use Rattle.fit.specs.declared.working.Worked.{Worked}
 
 -- a refusal, the gate that leaves, or that every gate fits
 unfoldable pub answer_of : Result (Option ℕ) Refusal → E.Answer

@@ -30,23 +30,8 @@ pub struct Interval {
     pub highest: Word,
 }
 
-// What is worked out of the gates gone past: of each its interval, and where a change is given its move; and of the outputs among them the moves of
-// their scores, so many.
-#[derive(Drop)]
-pub struct Worked {
-    pub ends: [Word; INTERVAL_ROOM],
-    pub moves: [Word; MOVE_ROOM],
-    pub scores: [Word; MOVE_ROOM],
-    pub outs: usize,
-}
-
 // Numbers of an interval.
 pub const INTERVAL_SIZE: usize = 2;
-
-// Room for the intervals of as many gates as there may be, and for their moves.
-const INTERVAL_ROOM: usize = INTERVAL_SIZE * gates::asking::MOST_GATES;
-
-const MOVE_ROOM: usize = gates::asking::MOST_GATES;
 
 // How many gates a circuit has.
 #[tactic(auto, unfolding(circuit::specs::Gate::gates))]
@@ -73,12 +58,7 @@ pub fn will_fit(
         ≡ fit_moves size (query_of parties c.now ranges.now (change_of change)) (length intervals.old) moves.old }
 {
     asking::ask(parties, c, ranges, change, intervals.len(), moves.len())?;
-    let mut worked = Worked {
-        ends: [0; INTERVAL_ROOM],
-        moves: [0; MOVE_ROOM],
-        scores: [0; MOVE_ROOM],
-        outs: 0,
-    };
+    let mut worked = working::blank();
     match worked.walk(c, ranges, change) {
         Ok(()) => {
             let numbers = INTERVAL_SIZE * gates_of(c);

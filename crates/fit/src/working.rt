@@ -9,10 +9,37 @@ ghost use Rattle.ranges.specs.Move.{Of};
 ghost use Rattle.ranges.specs.Entry.{finding};
 ghost use Rattle.fit.specs.Code.{change_of, Fair, interval_room, Tame, Blank, Apt, Stepped, found_of, Walked};
 
-use crate::{Change, INTERVAL_SIZE, Interval, Worked, moving, reaching};
+use crate::{Change, INTERVAL_SIZE, Interval, moving, reaching};
 use circuit::counting;
 use field::Word;
 use gates::reading;
+
+// Room for the intervals of as many gates as there may be, and for their moves.
+const INTERVAL_ROOM: usize = INTERVAL_SIZE * gates::asking::MOST_GATES;
+
+const MOVE_ROOM: usize = gates::asking::MOST_GATES;
+
+// What is worked out of the gates gone past: of each its interval, and where a change is given its move; and of the outputs among them the moves of
+// their scores, so many.
+#[derive(Drop)]
+pub struct Worked {
+    pub ends: [Word; INTERVAL_ROOM],
+    pub moves: [Word; MOVE_ROOM],
+    pub scores: [Word; MOVE_ROOM],
+    pub outs: usize,
+}
+
+// Nothing is worked out yet.
+pub fn blank() -> Worked
+    ensures { Blank result }
+{
+    Worked {
+        ends: [0; INTERVAL_ROOM],
+        moves: [0; MOVE_ROOM],
+        scores: [0; MOVE_ROOM],
+        outs: 0,
+    }
+}
 
 impl Worked {
     // The interval of gate j.

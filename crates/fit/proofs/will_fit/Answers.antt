@@ -1,11 +1,10 @@
 -- `fit::will_fit` meets its contract: a refusal is told; else the walk is made, and only where nothing leaves its lists are handed over.
 -- Assumes nothing.
-use mathlib.Core.Path.{refl, sym}
+use mathlib.Core.Path.{sym}
 use lib.Seq.{length-take-le}
 use Rattle.std.proofs.Common.{rules, arith}
 use Rattle.circuit.proofs.Verdicts.{asked_last}
 use Rattle.fit.specs.Code.{answer_of, found_of}
-use Rattle.fit.proofs.Holding.{held_blank}
 use Rattle.fit.proofs.Told.{refused_told, told_few, told_tame, told_long, told_fair, leaves_told, ends_long, front_fits, scores_long, scores_fit, fits_told}
 use Rattle.fit.proofs.will_fit.Goals as goal
 
@@ -18,7 +17,7 @@ returns-in_err-ask c =
 pub walk-requires : goal.walk-requires
 walk-requires c =
     let e = asked_last c.ask.ensures c.in_ok-ask.was in
-    (told_few _ _ _ _ _ _ e, told_tame _ _ _ _ _ _ e, told_long _ _ _ _ _ _ e, told_fair _ _ _ _ _ _ e, record { ends = held_blank _; moves = held_blank _; scores = held_blank _; none = refl })
+    (told_few _ _ _ _ _ _ e, told_tame _ _ _ _ _ _ e, told_long _ _ _ _ _ _ e, told_fair _ _ _ _ _ _ e, c.blank-worked.ensures)
 
 pub overflow_mul-numbers : goal.overflow_mul-numbers
 overflow_mul-numbers c =

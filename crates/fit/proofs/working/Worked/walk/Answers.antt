@@ -1,4 +1,4 @@
--- `fit::Worked::walk` meets its contract: the gates before j stay, and their intervals and moves stand in the lists.
+-- `fit::working::Worked::walk` meets its contract: the gates before j stay, and their intervals and moves stand in the lists.
 -- Assumes nothing.
 use Rattle.std.proofs.Common.{◌<◌, ◌≤◌, arith}
 use Rattle.circuit.specs.Gate.{gates}
@@ -8,7 +8,7 @@ use Rattle.fit.specs.Code.{found_of}
 use Rattle.fit.proofs.Walks.{gates_there, course_starts, course_gate, course_range, course_named, course_leaves, course_more, course_ends, course_lists}
 use mathlib.Core.Path.{ap, ◌∙◌}
 use mathlib.Core.Bool.{Bool, cond}
-use Rattle.fit.proofs.Worked.walk.Goals as goal
+use Rattle.fit.proofs.working.Worked.walk.Goals as goal
 
 pub loop-j-init : goal.loop-j-init
 loop-j-init c =

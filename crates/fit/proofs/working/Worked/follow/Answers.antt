@@ -1,9 +1,9 @@
--- `fit::Worked::follow` meets its contract: the move of the gate is put, and an output's score has that of the gate that it names.
+-- `fit::working::Worked::follow` meets its contract: the move of the gate is put, and an output's score has that of the gate that it names.
 -- Assumes nothing.
 use mathlib.Core.Path.{refl}
 use Rattle.std.proofs.Common.{rules}
 use Rattle.fit.proofs.Walks.{out_said, gates_within, stepped_out, stepped_other}
-use Rattle.fit.proofs.Worked.follow.Goals as goal
+use Rattle.fit.proofs.working.Worked.follow.Goals as goal
 
 pub returns-then-not-has_value_at : goal.returns-then-not-has_value_at
 returns-then-not-has_value_at c =
