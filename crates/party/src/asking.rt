@@ -418,7 +418,7 @@ pub fn ask_send(
     })
 }
 
-// All questions of receiving, likewise.
+// All questions of receiving, likewise. One function for both would be told the half and the questions of its round, which are all that differs.
 pub fn ask_receive(
     parties: usize,
     me: usize,

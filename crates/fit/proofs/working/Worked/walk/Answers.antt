@@ -1,4 +1,4 @@
--- `fit::working::walk` meets its contract: the gates before j stay, and their intervals and moves stand in the lists.
+-- `fit::working::Worked::walk` meets its contract: the gates before j stay, and their intervals and moves stand in the lists.
 -- Assumes nothing.
 use Rattle.std.proofs.Common.{◌<◌, ◌≤◌, arith}
 use Rattle.circuit.specs.Gate.{gates}
@@ -8,11 +8,11 @@ use Rattle.fit.specs.Code.{found_of}
 use Rattle.fit.proofs.Walks.{gates_there, course_starts, course_gate, course_range, course_named, course_leaves, course_more, course_ends, course_lists}
 use mathlib.Core.Path.{ap, ◌∙◌}
 use mathlib.Core.Bool.{Bool, cond}
-use Rattle.fit.proofs.working.walk.Goals as goal
+use Rattle.fit.proofs.working.Worked.walk.Goals as goal
 
 pub loop-j-init : goal.loop-j-init
 loop-j-init c =
-    course_starts _ _ _ c.requires.4 c.requires.5 c.requires.6
+    course_starts _ _ _ c.requires.4
 
 pub reach_at-requires : goal.reach_at-requires
 reach_at-requires c =
@@ -25,8 +25,8 @@ returns-in_default c =
     let h : c.loop-j.j < gates c.args.c.now = omega arith in
     record { found = course_leaves _ _ _ c.loop-j.invariant h (rw c.in_default.is at c.reach_at.ensures.0); lists = tt }
 
-pub step-outs-requires : goal.step-outs-requires
-step-outs-requires c =
+pub step-requires : goal.step-requires
+step-requires c =
     let h : c.loop-j.j < gates c.args.c.now = omega arith in
     record { there = course_gate _ _ _ c.loop-j.invariant h; few = omega (arith, c.requires.0); tame = c.requires.1 _ h; ends_long = c.loop-j.invariant.held.long; fair = c.loop-j.invariant.fair; moves_long = c.loop-j.invariant.moves_long; scores_long = c.loop-j.invariant.scores_long; low = c.loop-j.invariant.low; scored = c.loop-j.invariant.few }
 
@@ -41,7 +41,7 @@ overflow_add-ins c =
 pub loop-j-preserved : goal.loop-j-preserved
 loop-j-preserved c =
     let h : c.loop-j.j < gates c.args.c.now = omega arith in
-    course_more _ _ _ c.loop-j.invariant h (rw c.in-Some.is at c.reach_at.ensures.0) c.requires.0 (rw c.in-Some.is at c.reach_at.ensures.1) c.step-outs.auto.moves c.step-outs.auto.scores c.step-outs.ensures (c.one_if-ins.ensures ∙ ap (λ (b : Bool). cond b 1 0) c.is_input_at.ensures) c.put_interval.ensures
+    course_more _ _ _ c.loop-j.invariant h (rw c.in-Some.is at c.reach_at.ensures.0) c.requires.0 (rw c.in-Some.is at c.reach_at.ensures.1) c.step.ensures (c.one_if-ins.ensures ∙ ap (λ (b : Bool). cond b 1 0) c.is_input_at.ensures) c.put_interval.ensures.ends c.put_interval.ensures.others
 
 pub returns : goal.returns
 unfolding found_of
