@@ -8,6 +8,7 @@ use native.Mathlib.Omega.{arith}
 use lib.ListN.{length}
 use lib.Dec.{leb, eqb}
 use borrow.Author.Tests.{le-leb, lt-leb}
+use Rattle.std.specs.Prelude.{Result, Ok, Err}
 use Rattle.algebra.specs.Ops.{Ops}
 use Rattle.field.specs.Words.{size, ops}
 use Rattle.circuit.specs.Verdict.{Verdict, Accepted, Refused, ask, ◌then◌, elements}
@@ -16,6 +17,8 @@ use Rattle.circuit.specs.Kind.{is_out, seen_by, alone}
 use Rattle.circuit.specs.Count.{total, count, out_count, prep_size, in_count}
 use Rattle.circuit.specs.Round.{Round, nonce_size, word_count, coefficient_count, check_count}
 use Rattle.circuit.specs.Accept.{ask_circuit}
+use Rattle.circuit.specs.Question.{verdict_of}
+use Rattle.circuit.specs.declared.questions.Refusal as code
 use Rattle.circuit.proofs.Valid.{valid}
 use Rattle.circuit.proofs.Verdicts.{ask_yes, ask_no, then_left, then_right}
 use Rattle.circuit.proofs.Loops.{then_assoc}
@@ -31,6 +34,12 @@ use Rattle.protocol.specs.Joint.{Joint}
 use Rattle.protocol.specs.JointAsk.{ask_joint}
 use Rattle.protocol.specs.JointEntry as Whole
 use Rattle.protocol.specs.JointEntry.{joint_answer, joint_scratch, joint_transcript, joint_outputs}
+use Rattle.party.specs.Code.{outcome_is, answer_of}
+use Rattle.party.specs.declared.Outcome.{Outcome}
+use Rattle.party.specs.declared.Outcome.TheVariants as party
+use Rattle.joint.specs.Code.{ending_of, joint_answer_of}
+use Rattle.joint.specs.declared.Ending.{Ending}
+use Rattle.joint.specs.declared.Ending.TheVariants as joint
 use Rattle.capi.specs.Numbers.{places, answer_numbers, joint_numbers}
 use Rattle.capi.specs.Calls.{room_question, called, returned, answer_verdict, joint_verdict}
 use Rattle.capi.specs.declared.Refusal.{Refusal}
@@ -93,6 +102,26 @@ unfolding leave joint_verdict joint_numbers overwrite
 joint_left (Whole.Refusal number index) xs = refl
 joint_left (Whole.Done rounds) xs = refl
 joint_left (Whole.Aborted gate b rounds) xs = refl
+
+-- what is asked of the code's answer is asked of what it stands for
+answer_said : (a : Result Outcome code.Refusal) → verdict_of a ≡ answer_verdict (answer_of a)
+unfolding answer_of outcome_is answer_verdict
+answer_said (Ok (party.Next at)) = refl
+answer_said (Ok (party.Output v at)) = refl
+answer_said (Ok (party.Abort b at)) = refl
+answer_said (Err r) = refl
+
+pub answer_told : (a : Result Outcome code.Refusal) {b : E.Answer} {v : Verdict} → answer_of a ≡ b → answer_verdict b ≡ v → verdict_of a ≡ v
+answer_told a e h = answer_said a ∙ rw e h
+
+joint_said : (a : Result Ending code.Refusal) → verdict_of a ≡ joint_verdict (joint_answer_of a)
+unfolding joint_answer_of ending_of joint_verdict
+joint_said (Ok (joint.Done rounds)) = refl
+joint_said (Ok (joint.Aborted j b rounds)) = refl
+joint_said (Err r) = refl
+
+pub joint_told : (a : Result Ending code.Refusal) {b : Whole.JointAnswer} {v : Verdict} → joint_answer_of a ≡ b → joint_verdict b ≡ v → verdict_of a ≡ v
+joint_told a e h = joint_said a ∙ rw e h
 
 -- the verdict of an answer is that of its entry's questions
 answered : (v : Verdict) (a : E.Answer) → answer_verdict a ≡ Accepted → answer_verdict (E.answer v a) ≡ v

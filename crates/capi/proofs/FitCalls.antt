@@ -2,18 +2,21 @@
 -- as a call whose answer has no room.
 -- Assumes nothing.
 use Prim.Native.Nat.{ℕ, zero, suc, ◌*◌, ◌<◌}
-use mathlib.Core.Path.{◌≡◌, refl}
+use mathlib.Core.Path.{◌≡◌, refl, ◌∙◌}
 use mathlib.Core.Bool.{Bool, true, false, cond, ◌&&◌}
 use mathlib.Core.List.{List, []}
 use native.Mathlib.Omega.{arith}
 use lib.ListN.{length}
 use lib.Dec.{leb}
 use borrow.Author.Tests.{lt-leb}
+use Rattle.std.specs.Prelude.{Option, None, Some, Result, Ok, Err}
 use Rattle.field.specs.Words.{size}
 use Rattle.circuit.specs.Verdict.{Verdict, Accepted, Refused, ◌then◌}
 use Rattle.circuit.specs.Gate.{gates}
 use Rattle.circuit.specs.Count.{out_count}
 use Rattle.circuit.specs.Accept.{ask_circuit}
+use Rattle.circuit.specs.Question.{verdict_of}
+use Rattle.circuit.specs.declared.questions.Refusal as code
 use Rattle.circuit.proofs.Valid.{valid}
 use Rattle.circuit.proofs.Verdicts.{then_left, then_right}
 use Rattle.circuit.proofs.Loops.{then_assoc}
@@ -40,6 +43,7 @@ use Rattle.ranges.specs.Entry.{
   fit_intervals,
   fit_moves,
 }
+use Rattle.fit.specs.Code.{answer_of}
 use Rattle.capi.specs.Calls.{room_question}
 use Rattle.capi.specs.Fits.{fit_numbers, fit_verdict}
 use Rattle.capi.proofs.Calling.{last_refused}
@@ -50,6 +54,16 @@ unfolding leave fit_verdict fit_numbers overwrite
 answer_left (Refusal number index) xs = refl
 answer_left (Leaves gate) xs = refl
 answer_left Fits xs = refl
+
+-- what is asked of the code's answer is asked of what it stands for
+fit_said : (a : Result (Option ℕ) code.Refusal) → verdict_of a ≡ fit_verdict (answer_of a)
+unfolding answer_of fit_verdict
+fit_said (Ok None) = refl
+fit_said (Ok (Some gate)) = refl
+fit_said (Err r) = refl
+
+pub fit_told : (a : Result (Option ℕ) code.Refusal) {b : Answer} {v : Verdict} → answer_of a ≡ b → fit_verdict b ≡ v → verdict_of a ≡ v
+fit_told a e h = fit_said a ∙ rw e h
 
 -- the verdict of an answer is that of its entry's questions
 told : (v : Verdict) (a : Answer) → fit_verdict a ≡ Accepted → fit_verdict (answer v a) ≡ v

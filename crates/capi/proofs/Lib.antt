@@ -1,5 +1,4 @@
 -- What is proved of the numbers that callers in C give and get.
-pub mod Writing
 pub mod Calling
 pub mod Naming
 pub mod Stages

@@ -2,16 +2,19 @@
 -- as a call whose answer has no room.
 -- Assumes nothing.
 use Prim.Native.Nat.{ℕ, suc, ◌-◌, ◌<◌}
-use mathlib.Core.Path.{◌≡◌, refl}
+use mathlib.Core.Path.{◌≡◌, refl, ◌∙◌}
 use mathlib.Core.List.{List, []}
 use native.Mathlib.Omega.{arith}
 use lib.ListN.{length, length-append}
 use lib.Dec.{leb}
 use borrow.Author.Tests.{lt-leb}
+use Rattle.std.specs.Prelude.{Result, Ok, Err}
 use Rattle.field.specs.Words.{size, largest}
 use Rattle.circuit.specs.Verdict.{Verdict, Accepted, Refused, ◌then◌}
 use Rattle.circuit.specs.Gate.{gates}
 use Rattle.circuit.specs.Accept.{ask_circuit}
+use Rattle.circuit.specs.Question.{verdict_of}
+use Rattle.circuit.specs.declared.questions.Refusal as code
 use Rattle.circuit.proofs.Valid.{valid}
 use Rattle.circuit.proofs.Verdicts.{then_right}
 use Rattle.circuit.proofs.Loops.{then_assoc}
@@ -38,6 +41,7 @@ use Rattle.forms.specs.Entry.{
   write_answer,
   write_text,
 }
+use Rattle.forms.specs.Code.{answer_of}
 use Rattle.forms.proofs.Lengths.{print_more}
 use Rattle.capi.specs.Calls.{room_question}
 use Rattle.capi.specs.Sheets.{sheet_read, sheet_written, sheet_numbers, sheet_verdict}
@@ -49,6 +53,15 @@ sheet_left : (kind : ℕ) (a : Answer) (xs : List ℕ)
 unfolding leave sheet_verdict sheet_numbers overwrite
 sheet_left kind (Refusal number index) xs = refl
 sheet_left kind (Done count) xs = refl
+
+-- what is asked of the code's answer is asked of what it stands for
+sheet_said : (a : Result ℕ code.Refusal) → verdict_of a ≡ sheet_verdict (answer_of a)
+unfolding sheet_verdict
+sheet_said (Ok count) = refl
+sheet_said (Err r) = refl
+
+pub sheet_told : (a : Result ℕ code.Refusal) {b : Answer} {v : Verdict} → answer_of a ≡ b → sheet_verdict b ≡ v → verdict_of a ≡ v
+sheet_told a e h = sheet_said a ∙ rw e h
 
 -- the verdict of an answer is that of its entry's questions
 told : (v : Verdict) (count : ℕ) → sheet_verdict (answer v count) ≡ v

@@ -1,19 +1,18 @@
 // The entry for callers in C that asks whether a circuit fits.
 ghost use Rattle.std.specs.Prelude.{◌≡◌, ◌≤◌, length};
 ghost use Rattle.field.specs.Words.{size};
-ghost use Rattle.circuit.specs.Code.{verdict_was};
 ghost use Rattle.protocol.specs.Send.{overwrite};
 ghost use Rattle.protocol.specs.Entry.{leave};
 ghost use Rattle.ranges.specs.Entry.{query_of, fit_answer, fit_intervals, fit_moves};
 ghost use Rattle.fit.specs.Code.{change_of, answer_of};
 ghost use Rattle.capi.specs.Numbers.{places};
 ghost use Rattle.capi.specs.Calls.{returned};
-ghost use Rattle.capi.specs.Fits.{change_at, fit_numbers, fit_verdict, fit_call};
+ghost use Rattle.capi.specs.Fits.{change_at, fit_numbers, fit_call};
 
 use crate::Refusal;
-use circuit::Verdict;
+use circuit::questions;
 use field::Word;
-use fit::{Answer, Change};
+use fit::Change;
 
 // The first number of the answer where every gate fits, and where one leaves.
 const FITS: u64 = 6;
@@ -23,41 +22,27 @@ const LEAVES: u64 = 7;
 // The number that says that no change is given.
 const NO_CHANGE: u32 = 0;
 
-fn change_at(changes: u32, gate: usize, amount: Word) -> Change
+#[tactic(auto, unfolding(crate::specs::Fits::change_at))]
+fn change_at(changes: u32, gate: usize, amount: Word) -> Option<Change>
     ensures { change_of result ≡ change_at changes gate amount }
 {
     if changes == NO_CHANGE {
-        return Change::Nothing;
-    }
-    Change::Of { gate, amount }
-}
-
-fn fit_verdict(a: Answer) -> Verdict
-    ensures { verdict_was result ≡ fit_verdict (answer_of a) }
-{
-    match a {
-        Answer::Refusal { number, index } => Verdict::Refused { number, index },
-        Answer::Leaves { gate: _ } => Verdict::Accepted,
-        Answer::Fits => Verdict::Accepted,
+        None
+    } else {
+        Some(Change { gate, amount })
     }
 }
 
 // Nothing is written of a refusal.
-fn put_fit(answer: &mut [u64], a: Answer)
+#[tactic(auto, unfolding(fit::specs::Code::answer_of, crate::specs::Fits::fit_numbers, protocol::specs::Send::overwrite))]
+fn put_fit(answer: &mut [u64], a: Result<Option<usize>, questions::Refusal>)
     requires { places ≤ length answer.old }
     ensures { answer.new ≡ overwrite (fit_numbers (answer_of a)) answer.old }
 {
     match a {
-        Answer::Refusal {
-            number: _,
-            index: _,
-        } => {}
-        Answer::Leaves { gate } => {
-            crate::put(answer, LEAVES, gate as u64, 0, 0, 0, 0);
-        }
-        Answer::Fits => {
-            crate::put(answer, FITS, 0, 0, 0, 0, 0);
-        }
+        Ok(Some(gate)) => crate::put(answer, &[LEAVES, gate as u64, 0, 0, 0, 0]),
+        Ok(None) => crate::put(answer, &[FITS, 0, 0, 0, 0, 0]),
+        Err(_) => {}
     }
 }
 
@@ -97,16 +82,16 @@ pub fn spdz_will_fit(
 {
     let change = change_at(changes, gate, amount);
     if answer.len() < crate::PLACES {
-        return crate::returned_of(fit_verdict(fit::will_fit(
+        return crate::returned_of(&fit::will_fit(
             parties,
             c,
             ranges,
             change,
             &mut intervals[..0],
             moves,
-        )));
+        ));
     }
     let a = fit::will_fit(parties, c, ranges, change, intervals, moves);
     put_fit(answer, a);
-    crate::returned_of(fit_verdict(a))
+    crate::returned_of(&a)
 }

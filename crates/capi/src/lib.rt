@@ -8,22 +8,24 @@ ghost use Rattle.std.specs.Prelude.{◌≡◌, [], ◌∷◌, ◌<◌, ◌≤◌
 ghost use Rattle.field.specs.Words.{ops};
 ghost use Rattle.circuit.specs.Verdict.{Refused, ◌then◌};
 ghost use Rattle.circuit.specs.Round.{round_number};
-ghost use Rattle.circuit.specs.Code.{round_of, verdict_was};
+ghost use Rattle.circuit.specs.Question.{number_of, verdict_of};
+ghost use Rattle.circuit.specs.Code.{round_of};
 ghost use Rattle.protocol.specs.Party.{party_of};
 ghost use Rattle.protocol.specs.Code.{stage_of, blame_of};
 ghost use Rattle.protocol.specs.Send.{overwrite};
 ghost use Rattle.protocol.specs.Entry.{leave, open_answer, send_answer, send_out, send_scratch, receive_answer, receive_scratch};
-ghost use Rattle.party.specs.Code.{position_of, answer_of, asked_of};
+ghost use Rattle.party.specs.Code.{position_of, answer_of};
 ghost use Rattle.protocol.specs.JointEntry.{joint_answer, joint_scratch, joint_transcript, joint_outputs};
 ghost use Rattle.joint.specs.Code.{joint_answer_of, joint_of};
 ghost use Rattle.capi.specs.Stages.{half_number, stage_round, round_at, half_at, nowhere, position_at};
 ghost use Rattle.capi.specs.Numbers.{places, number_size, blame_number, answer_numbers, joint_numbers, position_numbers, Tellable, JointTellable};
-ghost use Rattle.capi.specs.Calls.{room_question, answer_verdict, joint_verdict, returned, open_call, send_call, receive_call, joint_call};
+ghost use Rattle.capi.specs.Calls.{room_question, returned, open_call, send_call, receive_call, joint_call};
 
-use circuit::{Check, Round, Verdict};
+use circuit::questions::{self, Question};
+use circuit::{Check, Round};
 use field::Word;
-use joint::JointAnswer;
-use party::{Answer, Asked, Position};
+use joint::Ending;
+use party::{Outcome, Position};
 use protocol::{Blame, Stage};
 
 // What a call returns: a refusal's number and index, or 0 and 0 where it is accepted.
@@ -34,11 +36,19 @@ pub struct Refusal {
     pub index: usize,
 }
 
+impl From<questions::Refusal> for Refusal {
+    ghost from_gives = { λ r e. e ≡ record { number = number_of r.question; index = r.index } };
+
+    fn from(refusal: questions::Refusal) -> Refusal {
+        Refusal {
+            number: refusal.question.number(),
+            index: refusal.index,
+        }
+    }
+}
+
 // How many numbers an answer takes.
 pub const PLACES: usize = 6;
-
-// The question that is asked last, of the list for the answer.
-const ROOM_QUESTION: u32 = 18;
 
 // The first number of a party's answer, and of a joint run's.
 const NEXT: u64 = 1;
@@ -81,38 +91,34 @@ const NO_ROUND: u32 = 0;
 const NEVER_HELD: Word = 1;
 
 // The round of a number below ROUND_NUMBERS.
+#[tactic(auto, unfolding(crate::specs::Stages::round_at))]
 fn round_at(k: u32) -> Round
     ensures { round_of result ≡ round_at k }
 {
-    if k == OWN {
-        return Round::Own;
+    match k {
+        OWN => Round::Own,
+        OPEN => Round::Open,
+        COMMIT_FIRST => Round::Commit(Check::First),
+        REVEAL_FIRST => Round::Reveal(Check::First),
+        COMMIT_SECOND => Round::Commit(Check::Second),
+        _ => Round::Reveal(Check::Second),
     }
-    if k == OPEN {
-        return Round::Open;
-    }
-    if k == COMMIT_FIRST {
-        return Round::Commit(Check::First);
-    }
-    if k == REVEAL_FIRST {
-        return Round::Reveal(Check::First);
-    }
-    if k == COMMIT_SECOND {
-        return Round::Commit(Check::Second);
-    }
-    Round::Reveal(Check::Second)
 }
 
 // A half of a round.
+#[tactic(auto, unfolding(crate::specs::Stages::half_at))]
 fn half_at(half: u32, r: Round) -> Stage
     ensures { stage_of result ≡ half_at half (round_of r) }
 {
     if half == SEND {
-        return Stage::Send(r);
+        Stage::Send(r)
+    } else {
+        Stage::Receive(r)
     }
-    Stage::Receive(r)
 }
 
 // A position that cannot occur, which question 13 refuses.
+#[tactic(auto, unfolding(crate::specs::Stages::nowhere, crate::specs::Stages::position, party::specs::Code::position_of))]
 fn nowhere(gate: usize) -> Position
     ensures { position_of result ≡ nowhere gate }
 {
@@ -124,56 +130,48 @@ fn nowhere(gate: usize) -> Position
 }
 
 // The position that four numbers name. Numbers that name no half, no round, or a round where there is none give one that cannot occur.
+#[tactic(auto, unfolding(crate::specs::Stages::position_at, crate::specs::Stages::position, party::specs::Code::position_of))]
 fn position_at(gate: usize, half: u32, round: u32, held: Word) -> Position
     ensures { position_of result ≡ position_at gate half round held }
 {
-    if half < FINISHED {
-        if round < ROUND_NUMBERS {
-            return Position {
-                gate,
-                stage: half_at(half, round_at(round)),
-                held,
-            };
+    if half < FINISHED && round < ROUND_NUMBERS {
+        Position {
+            gate,
+            stage: half_at(half, round_at(round)),
+            held,
         }
-        return nowhere(gate);
-    }
-    if NO_ROUND < round {
-        return nowhere(gate);
-    }
-    if half == FINISHED {
-        return Position {
+    } else if half == FINISHED && round == NO_ROUND {
+        Position {
             gate,
             stage: Stage::Finished,
             held,
-        };
-    }
-    if half == ABORTED_HALF {
-        return Position {
+        }
+    } else if half == ABORTED_HALF && round == NO_ROUND {
+        Position {
             gate,
             stage: Stage::Aborted,
             held,
-        };
+        }
+    } else {
+        nowhere(gate)
     }
-    nowhere(gate)
 }
 
+#[tactic(auto, unfolding(circuit::specs::Round::round_number))]
 fn round_number(r: Round) -> u32
     ensures { result ≡ round_number (round_of r) }
 {
     match r {
         Round::Own => OWN,
         Round::Open => OPEN,
-        Round::Commit(check) => match check {
-            Check::First => COMMIT_FIRST,
-            Check::Second => COMMIT_SECOND,
-        },
-        Round::Reveal(check) => match check {
-            Check::First => REVEAL_FIRST,
-            Check::Second => REVEAL_SECOND,
-        },
+        Round::Commit(Check::First) => COMMIT_FIRST,
+        Round::Commit(Check::Second) => COMMIT_SECOND,
+        Round::Reveal(Check::First) => REVEAL_FIRST,
+        Round::Reveal(Check::Second) => REVEAL_SECOND,
     }
 }
 
+#[tactic(auto, unfolding(crate::specs::Stages::half_number))]
 fn half_number(s: Stage) -> u32
     ensures { result ≡ half_number (stage_of s) }
 {
@@ -185,167 +183,112 @@ fn half_number(s: Stage) -> u32
     }
 }
 
+#[tactic(auto, unfolding(crate::specs::Stages::stage_round))]
 fn stage_round(s: Stage) -> u32
     ensures { result ≡ stage_round (stage_of s) }
 {
     match s {
-        Stage::Send(r) => round_number(r),
-        Stage::Receive(r) => round_number(r),
-        Stage::Finished => NO_ROUND,
-        Stage::Aborted => NO_ROUND,
+        Stage::Send(r) | Stage::Receive(r) => round_number(r),
+        Stage::Finished | Stage::Aborted => NO_ROUND,
     }
 }
 
-pub fn put(answer: &mut [u64], kind: u64, value: u64, gate: u64, half: u64, round: u64, held: u64)
-    requires { places ≤ length answer.old }
-    ensures { answer.new ≡ overwrite (kind ∷ value ∷ gate ∷ half ∷ round ∷ held ∷ []) answer.old }
+// Numbers are written at the start of an answer's list.
+#[tactic(auto, unfolding(protocol::specs::Send::overwrite))]
+pub fn put(answer: &mut [u64], numbers: &[u64])
+    requires { length numbers.now ≤ length answer.old }
+    ensures { answer.new ≡ overwrite numbers.now answer.old }
 {
-    answer[0] = kind;
-    answer[1] = value;
-    answer[2] = gate;
-    answer[3] = half;
-    answer[4] = round;
-    answer[5] = held;
+    answer[..numbers.len()].copy_from_slice(numbers);
 }
 
+#[tactic(auto, unfolding(crate::specs::Numbers::position_numbers, party::specs::Code::position_of))]
 fn put_position(answer: &mut [u64], kind: u64, value: u64, at: Position)
     requires { places ≤ length answer.old }
     ensures { answer.new ≡ overwrite (position_numbers kind value (position_of at)) answer.old }
 {
-    let gate = at.gate;
-    let stage = at.stage;
-    let held = at.held;
+    let half = u64::from(half_number(at.stage));
+    let round = u64::from(stage_round(at.stage));
     put(
         answer,
-        kind,
-        value,
-        gate as u64,
-        half_number(stage) as u64,
-        stage_round(stage) as u64,
-        held as u64,
+        &[kind, value, at.gate as u64, half, round, u64::from(at.held)],
     );
 }
 
 // Nobody is 0, and a party one more than its number.
+#[tactic(auto, unfolding(protocol::specs::Code::blame_of, crate::specs::Numbers::blame_number))]
 fn blame_number(b: Blame) -> u64
     requires { blame_number (blame_of b) < number_size }
     ensures { result ≡ blame_number (blame_of b) }
 {
     match b {
-        Blame::Nobody => 0,
-        Blame::Blames(i) => i as u64 + 1,
+        None => 0,
+        Some(i) => i as u64 + 1,
     }
 }
 
 // Nothing is written of a refusal.
-fn put_answer(answer: &mut [u64], a: Answer)
+#[tactic(auto, unfolding(party::specs::Code::answer_of, party::specs::Code::outcome_is, crate::specs::Numbers::answer_numbers, protocol::specs::Send::overwrite))]
+fn put_answer(answer: &mut [u64], a: Result<Outcome, questions::Refusal>)
     requires { (places ≤ length answer.old) × Tellable (answer_of a) }
     ensures { answer.new ≡ overwrite (answer_numbers (answer_of a)) answer.old }
 {
     match a {
-        Answer::Refusal {
-            number: _,
-            index: _,
-        } => {}
-        Answer::Next(at) => {
-            put_position(answer, NEXT, 0, at);
-        }
-        Answer::Output(value, at) => {
-            put_position(answer, OUTPUT, value as u64, at);
-        }
-        Answer::Abort(blame, at) => {
-            put_position(answer, ABORTED, blame_number(blame), at);
-        }
+        Ok(Outcome::Next(at)) => put_position(answer, NEXT, 0, at),
+        Ok(Outcome::Output(value, at)) => put_position(answer, OUTPUT, u64::from(value), at),
+        Ok(Outcome::Abort(blame, at)) => put_position(answer, ABORTED, blame_number(blame), at),
+        Err(_) => {}
     }
 }
 
-fn put_joint(answer: &mut [u64], a: JointAnswer)
+#[tactic(auto, unfolding(joint::specs::Code::joint_answer_of, joint::specs::Code::ending_of, crate::specs::Numbers::joint_numbers, protocol::specs::Send::overwrite))]
+fn put_joint(answer: &mut [u64], a: Result<Ending, questions::Refusal>)
     requires { (places ≤ length answer.old) × JointTellable (joint_answer_of a) }
     ensures { answer.new ≡ overwrite (joint_numbers (joint_answer_of a)) answer.old }
 {
     match a {
-        JointAnswer::Refusal {
-            number: _,
-            index: _,
-        } => {}
-        JointAnswer::Done(rounds) => {
-            put(answer, DONE, rounds as u64, 0, 0, 0, 0);
-        }
-        JointAnswer::Aborted {
-            gate,
-            blame,
-            rounds,
-        } => {
+        Ok(Ending::Done(rounds)) => put(answer, &[DONE, rounds as u64, 0, 0, 0, 0]),
+        Ok(
+            Ending::Aborted {
+                gate,
+                blame,
+                rounds,
+            },
+        ) => {
+            let named = blame_number(blame);
             put(
                 answer,
-                ABORTED_RUN,
-                rounds as u64,
-                gate as u64,
-                blame_number(blame),
-                0,
-                0,
+                &[ABORTED_RUN, rounds as u64, gate as u64, named, 0, 0],
             );
         }
-    }
-}
-
-fn answer_verdict(a: Answer) -> Verdict
-    ensures { verdict_was result ≡ answer_verdict (answer_of a) }
-{
-    match a {
-        Answer::Refusal { number, index } => Verdict::Refused { number, index },
-        Answer::Next(_) => Verdict::Accepted,
-        Answer::Output(_, _) => Verdict::Accepted,
-        Answer::Abort(_, _) => Verdict::Accepted,
-    }
-}
-
-fn joint_verdict(a: JointAnswer) -> Verdict
-    ensures { verdict_was result ≡ joint_verdict (joint_answer_of a) }
-{
-    match a {
-        JointAnswer::Refusal { number, index } => Verdict::Refused { number, index },
-        JointAnswer::Done(_) => Verdict::Accepted,
-        JointAnswer::Aborted {
-            gate: _,
-            blame: _,
-            rounds: _,
-        } => Verdict::Accepted,
-    }
-}
-
-fn asked_verdict(a: Asked) -> Verdict
-    ensures { verdict_was result ≡ asked_of a }
-{
-    match a {
-        Asked::Refused { number, index } => Verdict::Refused { number, index },
-        Asked::Accepted(_, _, _) => Verdict::Accepted,
+        Err(_) => {}
     }
 }
 
 // What a call returns whose answer has room.
-pub fn returned_of(v: Verdict) -> Refusal
-    ensures { result ≡ returned (verdict_was v) }
+#[tactic(auto, unfolding(crate::specs::Calls::returned))]
+pub fn returned_of<T>(asked: &Result<T, questions::Refusal>) -> Refusal
+    ensures { result ≡ returned (verdict_of asked.now) }
 {
-    match v {
-        Verdict::Refused { number, index } => Refusal { number, index },
-        Verdict::Accepted => Refusal {
+    match asked {
+        Ok(_) => Refusal {
             number: 0,
             index: 0,
         },
+        Err(refusal) => Refusal::from(*refusal),
     }
 }
 
 // What a call returns whose answer has none: the first question that refuses, or that of the room.
-fn without_room(v: Verdict) -> Refusal
-    ensures { result ≡ returned (verdict_was v then Refused room_question 0) }
+fn without_room<T>(asked: &Result<T, questions::Refusal>) -> Refusal
+    ensures { result ≡ returned (verdict_of asked.now then Refused room_question 0) }
 {
-    match v {
-        Verdict::Refused { number, index } => Refusal { number, index },
-        Verdict::Accepted => Refusal {
-            number: ROOM_QUESTION,
+    match asked {
+        Ok(_) => Refusal {
+            number: Question::Room.number(),
             index: 0,
         },
+        Err(refusal) => Refusal::from(*refusal),
     }
 }
 
@@ -370,10 +313,10 @@ pub fn spdz_open_run(
 {
     let a = party::open_run(parties, me, c, prep, inputs, l);
     if answer.len() < PLACES {
-        return without_room(answer_verdict(a));
+        return without_room(&a);
     }
     put_answer(answer, a);
-    returned_of(answer_verdict(a))
+    returned_of(&a)
 }
 
 // Sending: the words of the position's round, and the nonce that a commitment notes.
@@ -417,8 +360,7 @@ pub fn spdz_send(
 {
     let at = position_at(gate, half, round, held);
     if answer.len() < PLACES {
-        let room = out.len();
-        return without_room(asked_verdict(party::asking::ask_send(
+        return without_room(&party::asking::ask_send(
             parties,
             me,
             c,
@@ -428,8 +370,8 @@ pub fn spdz_send(
             at,
             coefficients,
             nonce,
-            room,
-        )));
+            out.len(),
+        ));
     }
     let a = party::send(
         parties,
@@ -444,7 +386,7 @@ pub fn spdz_send(
         out,
     );
     put_answer(answer, a);
-    returned_of(answer_verdict(a))
+    returned_of(&a)
 }
 
 // Receiving: what the words of all lead to.
@@ -480,13 +422,13 @@ pub fn spdz_receive(
 {
     let at = position_at(gate, half, round, held);
     if answer.len() < PLACES {
-        return without_room(asked_verdict(party::asking::ask_receive(
+        return without_room(&party::asking::ask_receive(
             parties, me, c, prep, inputs, l, at, heard,
-        )));
+        ));
     }
     let a = party::receive(parties, me, c, prep, inputs, l, at, heard);
     put_answer(answer, a);
-    returned_of(answer_verdict(a))
+    returned_of(&a)
 }
 
 // The joint run of all parties. Where its answer has no room, none of the outputs has: every circuit has one, so that nothing is run.
@@ -531,7 +473,7 @@ pub fn spdz_joint_run(
         outputs.old }
 {
     if answer.len() < PLACES {
-        return returned_of(joint_verdict(joint::joint_run(
+        return returned_of(&joint::joint_run(
             parties,
             c,
             preps,
@@ -541,7 +483,7 @@ pub fn spdz_joint_run(
             nonces,
             transcript,
             &mut outputs[..0],
-        )));
+        ));
     }
     let a = joint::joint_run(
         parties,
@@ -555,5 +497,5 @@ pub fn spdz_joint_run(
         outputs,
     );
     put_joint(answer, a);
-    returned_of(joint_verdict(a))
+    returned_of(&a)
 }

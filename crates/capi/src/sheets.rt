@@ -1,47 +1,31 @@
 // The entries for callers in C that read and write sheets.
 ghost use Rattle.std.specs.Prelude.{◌≡◌, ℕ, ◌≤◌, length};
 ghost use Rattle.field.specs.Words.{size, largest};
-ghost use Rattle.circuit.specs.Code.{verdict_was};
 ghost use Rattle.protocol.specs.Send.{overwrite};
 ghost use Rattle.protocol.specs.Entry.{leave};
 ghost use Rattle.forms.specs.Entry.{read_answer, read_circuit, write_answer, write_text};
 ghost use Rattle.forms.specs.Code.{answer_of};
 ghost use Rattle.capi.specs.Numbers.{places};
 ghost use Rattle.capi.specs.Calls.{returned};
-ghost use Rattle.capi.specs.Sheets.{sheet_read, sheet_written, sheet_numbers, sheet_verdict, read_call, write_call};
+ghost use Rattle.capi.specs.Sheets.{sheet_read, sheet_written, sheet_numbers, read_call, write_call};
 
 use crate::Refusal;
-use circuit::Verdict;
+use circuit::questions;
 use field::Word;
-use forms::Answer;
 
 // The first number of the reader's answer, and of the writer's.
 const READ: u64 = 4;
 
 const WRITTEN: u64 = 5;
 
-fn sheet_verdict(a: Answer) -> Verdict
-    ensures { verdict_was result ≡ sheet_verdict (answer_of a) }
-{
-    match a {
-        Answer::Refusal { number, index } => Verdict::Refused { number, index },
-        Answer::Done { count: _ } => Verdict::Accepted,
-    }
-}
-
 // Nothing is written of a refusal.
-fn put_sheet(answer: &mut [u64], kind: u64, a: Answer)
+#[tactic(auto, unfolding(crate::specs::Sheets::sheet_numbers, protocol::specs::Send::overwrite))]
+fn put_sheet(answer: &mut [u64], kind: u64, a: Result<usize, questions::Refusal>)
     requires { places ≤ length answer.old }
     ensures { answer.new ≡ overwrite (sheet_numbers kind (answer_of a)) answer.old }
 {
-    match a {
-        Answer::Refusal {
-            number: _,
-            index: _,
-        } => {}
-        Answer::Done { count } => {
-            crate::put(answer, kind, count as u64, 0, 0, 0, 0);
-        }
+    if let Ok(count) = a {
+        crate::put(answer, &[kind, count as u64, 0, 0, 0, 0]);
     }
 }
 
@@ -63,15 +47,11 @@ pub fn spdz_read_sheet(
         circuit.old }
 {
     if answer.len() < crate::PLACES {
-        return crate::returned_of(sheet_verdict(reader::read_sheet(
-            parties,
-            text,
-            &mut circuit[..0],
-        )));
+        return crate::returned_of(&reader::read_sheet(parties, text, &mut circuit[..0]));
     }
-    let a = reader::read_sheet(parties, text, circuit);
-    put_sheet(answer, READ, a);
-    crate::returned_of(sheet_verdict(a))
+    let read = reader::read_sheet(parties, text, circuit);
+    put_sheet(answer, READ, read);
+    crate::returned_of(&read)
 }
 
 // Writing a sheet. Where its answer has no room, its text has none: no sheet of an accepted circuit is empty, so that nothing is written.
@@ -87,9 +67,9 @@ pub fn spdz_write_sheet(parties: usize, c: &[Word], text: &mut [u8], answer: &mu
         text.old }
 {
     if answer.len() < crate::PLACES {
-        return crate::returned_of(sheet_verdict(writer::write_sheet(parties, c, &mut text[..0])));
+        return crate::returned_of(&writer::write_sheet(parties, c, &mut text[..0]));
     }
-    let a = writer::write_sheet(parties, c, text);
-    put_sheet(answer, WRITTEN, a);
-    crate::returned_of(sheet_verdict(a))
+    let written = writer::write_sheet(parties, c, text);
+    put_sheet(answer, WRITTEN, written);
+    crate::returned_of(&written)
 }

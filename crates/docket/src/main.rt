@@ -2,7 +2,7 @@
 #![tactic(auto)]
 
 use field::Word;
-use joint::JointAnswer;
+use joint::Ending;
 use std::io;
 
 const PARTIES: u32 = 2;
@@ -19,7 +19,7 @@ fn main(rt: HostRuntime) -> io::Result<()> {
     let mut scratch: [Word; 76] = [0; 76];
     let mut transcript: [Word; 78] = [0; 78];
     let mut outputs: [Word; 1] = [0; 1];
-    match joint::joint_run(
+    let answer = joint::joint_run(
         PARTIES as usize,
         &circuit,
         &preps,
@@ -29,20 +29,10 @@ fn main(rt: HostRuntime) -> io::Result<()> {
         &nonces,
         &mut transcript,
         &mut outputs,
-    ) {
-        JointAnswer::Refusal {
-            number: _,
-            index: _,
-        } => {}
-        JointAnswer::Aborted {
-            gate: _,
-            blame: _,
-            rounds: _,
-        } => {}
-        JointAnswer::Done(rounds) => {
-            printing::print_rounds(&mut to, PARTIES, &circuit, rounds, &transcript)?;
-            printing::print_list(&mut to, b"out", &outputs)?;
-        }
+    );
+    if let Ok(Ending::Done(rounds)) = answer {
+        printing::print_rounds(&mut to, PARTIES, &circuit, rounds, &transcript)?;
+        printing::print_list(&mut to, b"out", &outputs)?;
     }
     Ok(())
 }

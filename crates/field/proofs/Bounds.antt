@@ -35,3 +35,6 @@ module _ {c e b d a : ℕ} (hc : c < p) (he : e < p) (hb : b < p) (hd : d < p) (
   -- An element and three products fit 64 bits.
   pub three_fit : {k m : ℕ} → k < p → m < p → Fits w64 (c + e * b + d * a + k * m)
   three_fit hk hm = record { fits = omega (arith, product_le he hb, product_le hd ha, product_le hk hm) }
+
+-- what bounds a product, or a sum of them
+pub ruleset fits = (product_lt, product_fits, one_fits, two_fit, three_fit)

@@ -106,3 +106,9 @@ module _ {w z : ℕ} (e : w ≡ 2 * z) (h : z < p * p) where
     twice_element =
         let d : bit_and (s + (s + 1) / 2 ^ 31) p ≡ s % p = one_off s twice_few in
         record { is = omega (arith, d, es, halves, norm_fold z, norm_eq (fold z)); below = omega (arith, d) }
+
+-- what a fold of a number is
+pub ruleset folds = (fold_fits, fold_lt, norm_fold, fold_small)
+
+-- what a fold of a product is, and what is taken off it
+pub ruleset elements = (low_fits, fold_fits_word, element_small, element_large)

@@ -4,7 +4,7 @@ use Prim.Native.Nat.{ℕ, ◌+◌, ◌*◌, ◌/◌, ◌%◌}
 use native.Mathlib.Omega.{arith}
 use mathlib.Core.Path.{◌≡◌, ap, sym, ◌∙◌}
 use Rattle.field.specs.Prime.{norm, add, mul}
-use Rattle.field.specs.Prime.Laws.{norm_eq, add_eq, mul_eq, add_norm}
+use Rattle.field.specs.Prime.Laws.{norm_eq, norm_of_lt, add_eq, mul_eq, add_norm}
 use Rattle.field.proofs.Laws.{laws}
 use Rattle.algebra.proofs.Ring.{add_norm_r}
 
@@ -29,3 +29,6 @@ norm_three c e b d a k m = rw (norm_more _ k m, norm_more _ d a, norm_more c e b
 -- A product with an even factor is twice that with half of it.
 pub product_twice : (x w : ℕ) → w % 2 ≡ 0 → x * w ≡ 2 * (x * (w / 2))
 product_twice x w e = let d : w ≡ 2 * (w / 2) = omega arith in omega (arith, ap (λ (n : ℕ). x * n) d)
+
+-- what a product, or a sum of them, stands for
+pub ruleset sums = (norm_product, norm_sum, norm_three, norm_of_lt)

@@ -78,3 +78,6 @@ quotient_fits x y t top low =
       fits =
           omega (arith, mul-le-mul {n₁ = x / y} {m₁ = t} {n₂ = p} {m₂ = p} (omega (arith, div-le_self x y)) (omega arith));
     }
+
+-- what the loop of the inverse keeps
+pub ruleset turning = (turning_start, turning_again, quotient_fits, mod-lt, div-le_self)

@@ -16,9 +16,10 @@ pub type Sum = u64;
 pub const SIZE: Word = 2147483647;
 
 // The largest number that a word can be.
-pub const LARGEST: Word = 4294967295;
+pub const LARGEST: Word = Word::MAX;
 
 // The sum. It is below 2 * SIZE, so that at most one SIZE is taken off.
+#[tactic(auto, using(crate::specs::Prime::Laws::add_eq))]
 pub fn add(x: Word, y: Word) -> Word
     requires { (x < size) × (y < size) }
     ensures { Is size (add x y) result }
@@ -28,6 +29,7 @@ pub fn add(x: Word, y: Word) -> Word
 }
 
 // The difference. Where it would be negative, one SIZE is put on first.
+#[tactic(auto, using(crate::specs::Prime::Laws::sub_eq))]
 pub fn sub(x: Word, y: Word) -> Word
     requires { (x < size) × (y < size) }
     ensures { Is size (sub x y) result }
@@ -42,6 +44,7 @@ const LOW: Sum = SIZE as u64;
 const WORD_BITS: Sum = LARGEST as u64;
 
 // One fold: the bits from bit 31 on are added to the bits below it.
+#[tactic(auto, using(crate::proofs::Folding::folds))]
 pub fn fold(x: Sum) -> Sum
     ensures { (result < sum_size) × (norm result ≡ norm x) × (x < sum_size → result < term_size) }
 {
@@ -50,6 +53,7 @@ pub fn fold(x: Sum) -> Sum
 
 // The element that a number below SIZE * SIZE stands for: one fold comes below 2 * SIZE, so that at most one SIZE is taken off,
 // and without a branch.
+#[tactic(auto, using(crate::proofs::Folding::elements))]
 pub fn element(x: Sum) -> Word
     requires { x < sum_size }
     ensures { Is size (norm x) result }
@@ -59,6 +63,7 @@ pub fn element(x: Sum) -> Word
 }
 
 // The product. It is below SIZE * SIZE, which fits 64 bits.
+#[tactic(auto, using(crate::proofs::Bounds::fits, crate::proofs::Products::sums))]
 pub fn mul(x: Word, y: Word) -> Word
     requires { (x < size) × (y < size) }
     ensures { Is size (mul x y) result }
@@ -85,6 +90,7 @@ pub fn reduce(x: Sum) -> Word
 }
 
 // The inverse, by Euclid's rule: s * k stands for x and t * k for y throughout. Each turn halves x * y, so that there are at most 62.
+#[tactic(auto, using(crate::proofs::Turns::turning))]
 pub fn inverse(k: Word) -> Word
     requires { k < size }
     ensures { Is size (inv k) result }
@@ -106,6 +112,7 @@ pub fn inverse(k: Word) -> Word
 }
 
 // A running sum with an element added.
+#[tactic(auto, using(crate::proofs::Bounds::fits, crate::proofs::Products::sums))]
 pub fn add_element(sum: Sum, x: Word) -> Sum
     requires { (sum < sum_room) × (x < size) }
     ensures { (result < sum + term_size) × (norm result ≡ add (norm sum) x) }
@@ -115,6 +122,7 @@ pub fn add_element(sum: Sum, x: Word) -> Sum
 
 // A running sum of products with x * y added. The product is folded first, and the sum is not, so that nothing of one product waits for
 // another: several are made at a time.
+#[tactic(auto, using(crate::proofs::Bounds::fits, crate::proofs::Products::sums))]
 pub fn add_product(sum: Sum, x: Word, y: Word) -> Sum
     requires { (sum < sum_room) × (x < size) × (y < size) }
     ensures { (result < sum + term_size) × (norm result ≡ add (norm sum) (mul x y)) }
@@ -123,6 +131,7 @@ pub fn add_product(sum: Sum, x: Word, y: Word) -> Sum
 }
 
 // c + e * b + d * a + k * m, reduced once: an element and three products fit 64 bits.
+#[tactic(auto, using(crate::proofs::Bounds::fits, crate::proofs::Products::sums))]
 pub fn add_products(c: Word, e: Word, b: Word, d: Word, a: Word, k: Word, m: Word) -> Word
     requires { (c < size) × (e < size) × (b < size) × (d < size) × (a < size) × (k < size) × (m < size) }
     ensures { Is size (add (add (add c (mul e b)) (mul d a)) (mul k m)) result }

@@ -32,6 +32,7 @@ use Rattle.ranges.proofs.Reaching.{intervals_length}
 use Rattle.ranges.proofs.Listed.{listed_length}
 use Rattle.ranges.proofs.Moves.{score_moves_listed}
 use Rattle.fit.specs.Code.{Fair, Held, interval_room, move_room, Tame, Kept}
+use Rattle.fit.specs.declared.working.Worked.{Worked}
 use Rattle.fit.proofs.Holding.{held_front}
 use Rattle.fit.proofs.Walks.{fair_none}
 
@@ -74,24 +75,22 @@ fair_range r e =
     }
 
 -- the moves of the scores, as many as there are
-module _ (c ranges scores : List ℕ) (few : gates c ≤ most_gates) (long : length scores ≡ move_room) where
-  kept_few : (change : M.Change) (moves : List ℕ) (outs : ℕ) → Kept change c ranges moves scores (gates c) outs → outs ≤ length scores
-  kept_few M.Nothing moves outs e = omega arith
-  kept_few (M.Of line amount) moves outs t =
+module _ (c ranges : List ℕ) (w : Worked) (few : gates c ≤ most_gates) (long : length w.scores ≡ move_room) where
+  kept_few : (change : M.Change) → Kept change c ranges w (gates c) → w.outs ≤ length w.scores
+  kept_few M.Nothing e = omega arith
+  kept_few (M.Of line amount) t =
       omega (arith, t.counted, listed_length (score_moves_listed size c ranges (M.Of line amount)) (gates c), count_le is_out c (gates c))
 
-  kept_room : (change : M.Change) (moves : List ℕ) (outs places : ℕ) → Kept change c ranges moves scores (gates c) outs
-      → move_room_ok change (out_count c) places ≡ true → outs ≤ places
+  kept_room : (change : M.Change) (places : ℕ) → Kept change c ranges w (gates c) → move_room_ok change (out_count c) places ≡ true → w.outs ≤ places
   unfolding out_count
-  kept_room M.Nothing moves outs places e h = omega arith
-  kept_room (M.Of line amount) moves outs places t h = rw t.counted (leb-true (count is_out c (gates c)) places h)
+  kept_room M.Nothing places e h = omega arith
+  kept_room (M.Of line amount) places t h = rw t.counted (leb-true (count is_out c (gates c)) places h)
 
-  kept_front : (change : M.Change) (moves : List ℕ) (outs : ℕ) → Kept change c ranges moves scores (gates c) outs
-      → take outs scores ≡ moves_told size c ranges change
+  kept_front : (change : M.Change) → Kept change c ranges w (gates c) → take w.outs w.scores ≡ moves_told size c ranges change
   unfolding moves_told
-  kept_front M.Nothing moves outs e = rw e
-  kept_front (M.Of line amount) moves outs t =
-      held_front t.listed outs (listed_length (score_moves_listed size c ranges (M.Of line amount)) (gates c) ∙ sym t.counted) (omega (arith, kept_few (M.Of line amount) moves outs t))
+  kept_front M.Nothing e = rw e
+  kept_front (M.Of line amount) t =
+      held_front t.listed w.outs (listed_length (score_moves_listed size c ranges (M.Of line amount)) (gates c) ∙ sym t.counted) (omega (arith, kept_few (M.Of line amount) t))
 
 -- what the entry answers, and the two lists afterwards
 abbrev pub Told : ℕ → List ℕ → List ℕ → M.Change → List ℕ → List ℕ → E.Answer → List ℕ → List ℕ → Type 0
@@ -168,26 +167,26 @@ module _ (n : ℕ) (c ranges : List ℕ) (change : M.Change) (is ms : List ℕ) 
     leaves_told f = (rw (found_is, sym f), (rw (found_is, sym f), rw (found_is, sym f)))
 
     -- the fronts of the tool's own lists are written
-    module _ {ends : List ℕ} (scores moves : List ℕ) (outs own : ℕ) (counted : own ≡ gates c) (f : E.Fits ≡ finding size c ranges (gates c))
-        (w : Held interval_room ends (intervals size c ranges (gates c)) × Kept change c ranges moves scores (gates c) outs × (length scores ≡ move_room)) where
-      ends_front : take (interval_size * own) ends ≡ intervals size c ranges (gates c)
-      ends_front = rw counted (held_front w.0 (interval_size * gates c) (intervals_length size c ranges (gates c)) (omega (arith, told_few)))
+    module _ (w : Worked) (own : ℕ) (counted : own ≡ gates c) (f : E.Fits ≡ finding size c ranges (gates c))
+        (l : Held interval_room w.ends (intervals size c ranges (gates c)) × Kept change c ranges w (gates c) × (length w.scores ≡ move_room)) where
+      ends_front : take (interval_size * own) w.ends ≡ intervals size c ranges (gates c)
+      ends_front = rw counted (held_front l.0 (interval_size * gates c) (intervals_length size c ranges (gates c)) (omega (arith, told_few)))
 
-      pub ends_long : interval_size * own ≤ length ends
-      ends_long = omega (arith, told_few, w.0.long)
+      pub ends_long : interval_size * own ≤ length w.ends
+      ends_long = omega (arith, told_few, l.0.long)
 
-      pub front_fits : length (take (interval_size * own) ends) ≤ length is
+      pub front_fits : length (take (interval_size * own) w.ends) ≤ length is
       front_fits = rw ends_front (omega (arith, intervals_length size c ranges (gates c), told_room))
 
-      pub scores_long : outs ≤ length scores
-      scores_long = kept_few c ranges scores told_few w.2 change moves outs w.1
+      pub scores_long : w.outs ≤ length w.scores
+      scores_long = kept_few c ranges w told_few l.2 change l.1
 
-      pub scores_fit : length (take outs scores) ≤ length ms
-      scores_fit = rw (length-take-le outs scores scores_long) (kept_room c ranges scores told_few w.2 change moves outs (length ms) w.1 told_places)
+      pub scores_fit : length (take w.outs w.scores) ≤ length ms
+      scores_fit = rw (length-take-le w.outs w.scores scores_long) (kept_room c ranges w told_few l.2 change (length ms) l.1 told_places)
 
-      pub fits_told : {is' ms' : List ℕ} → is' ≡ take (interval_size * own) ends ++ drop (length (take (interval_size * own) ends)) is
-          → ms' ≡ take outs scores ++ drop (length (take outs scores)) ms
+      pub fits_told : {is' ms' : List ℕ} → is' ≡ take (interval_size * own) w.ends ++ drop (length (take (interval_size * own) w.ends)) is
+          → ms' ≡ take w.outs w.scores ++ drop (length (take w.outs w.scores)) ms
           → Told n c ranges change is ms E.Fits is' ms'
       unfolding fit_intervals fit_moves overwrite
       fits_told ei em =
-          (rw (found_is, sym f), (rw (found_is, sym f) (ei ∙ rw ends_front), rw (found_is, sym f) (em ∙ rw (kept_front c ranges scores told_few w.2 change moves outs w.1))))
+          (rw (found_is, sym f), (rw (found_is, sym f) (ei ∙ rw ends_front), rw (found_is, sym f) (em ∙ rw (kept_front c ranges w told_few l.2 change l.1))))

@@ -29,7 +29,8 @@ use Rattle.ranges.proofs.Reaching.{intervals_length}
 use Rattle.ranges.proofs.Asked.{finding_all, finding_first}
 use Rattle.ranges.proofs.Listed.{listed_length, listed_out, listed_other, count_out, count_other}
 use Rattle.ranges.proofs.Moves.{moves_more, moves_length, move_kept, score_moves_listed}
-use Rattle.fit.specs.Code.{Fair, Named, Held, interval_room, move_room, Tame, Tracked, Kept, Stepped}
+use Rattle.fit.specs.Code.{Fair, Named, Held, interval_room, move_room, Tame, Blank, Tracked, Kept, Stepped}
+use Rattle.fit.specs.declared.working.Worked.{Worked}
 use Rattle.fit.proofs.Holding.{held_push, held_pair, held_interval}
 
 -- an output is what has no value
@@ -51,83 +52,98 @@ gates_there c = omega arith
 
 -- one gate --------------------------------------------------------------------------------------------------------------
 
-module _ (c : List ℕ) (line amount : ℕ) (ends : List ℕ) (j : ℕ) (some : j < gates c) (few : j < most_gates) (tame : Tame c j) {m : ℕ} (before : List ℕ)
-    (made : (ranges : List ℕ) → Is size (gate_move size c ranges (Of line amount) ends before j) m) where
+module _ (c : List ℕ) (line amount : ℕ) (j : ℕ) (some : j < gates c) (few : j < most_gates) (tame : Tame c j) {m : ℕ} (w w' : Worked)
+    (made : (ranges : List ℕ) → Is size (gate_move size c ranges (Of line amount) w.ends w.moves j) m) (put : w'.moves ≡ set w.moves j m) where
   -- moves stay elements
-  pub set_low : ((x : ℕ) → get_or before x 0 < size) → (x : ℕ) → get_or (set before j m) x 0 < size
+  set_low : ((x : ℕ) → get_or w.moves x 0 < size) → (x : ℕ) → get_or w'.moves x 0 < size
   set_low low x =
-      by_cases (eqb x j)
-      (λ e. by_cases (ltb j (length before)) (λ h. rw (eqb-true x j e) (rw (get_or-set_same before j m 0 (ltb-true j (length before) h)) (made []).below))
-      (λ h. rw (eqb-true x j e) (rw (get_or-eq_default (set before j m) 0 {n = j} (rw (length-set before j m) (ltb-false j (length before) h))) (omega arith))))
-      (λ e. rw (get_or-set_other before j x m 0 (eqb-false x j e)) (low x))
+      rw put
+      (by_cases (eqb x j)
+      (λ e. by_cases (ltb j (length w.moves)) (λ h. rw (eqb-true x j e) (rw (get_or-set_same w.moves j m 0 (ltb-true j (length w.moves) h)) (made []).below))
+      (λ h. rw (eqb-true x j e) (rw (get_or-eq_default (set w.moves j m) 0 {n = j} (rw (length-set w.moves j m) (ltb-false j (length w.moves) h))) (omega arith))))
+      (λ e. rw (get_or-set_other w.moves j x m 0 (eqb-false x j e)) (low x)))
 
-  module _ (ranges : List ℕ) (h : Held interval_room ends (intervals size c ranges j)) where
+  module _ (ranges : List ℕ) (h : Held interval_room w.ends (intervals size c ranges j)) where
     -- the move that is worked out of the lists is that of the definition
-    move_is : Held move_room before (moves size c ranges (Of line amount) j)
+    move_is : Held move_room w.moves (moves size c ranges (Of line amount) j)
         → m ≡ gate_move size c ranges (Of line amount) (intervals size c ranges j) (moves size c ranges (Of line amount) j) j
     unfolding gate_move
     move_is t =
         (made ranges).is
         ∙ rw (held_interval h (gate c j).first, held_interval h (gate c j).second, t.at (gate c j).first, t.at (gate c j).second)
 
-    moves_pushed : Held move_room before (moves size c ranges (Of line amount) j) → Held move_room (set before j m) (moves size c ranges (Of line amount) (j + 1))
+    moves_pushed : Held move_room w.moves (moves size c ranges (Of line amount) j) → Held move_room w'.moves (moves size c ranges (Of line amount) (j + 1))
     moves_pushed t =
-        rw (add-one, moves_more size c ranges (Of line amount) j, sym (move_is t)) (held_push t j m (moves_length size c ranges (Of line amount) j) few)
+        rw (put, add-one, moves_more size c ranges (Of line amount) j, sym (move_is t)) (held_push t j m (moves_length size c ranges (Of line amount) j) few)
 
     -- an output has a score, whose move is that of the gate that it names
-    pub tracked_out : {scores : List ℕ} {outs : ℕ} → is_out (gate c j) ≡ true → outs ≤ j
-        → Tracked c ranges line amount before scores j outs
-        → Tracked c ranges line amount (set before j m) (set scores outs (get_or before (gate c j).first 0)) (j + 1) (outs + 1)
-    tracked_out {scores} {outs} e low t =
+    tracked_out : is_out (gate c j) ≡ true → w.outs ≤ j → w'.scores ≡ set w.scores w.outs (get_or w.moves (gate c j).first 0) → w'.outs ≡ w.outs + 1
+        → Tracked c ranges line amount w j → Tracked c ranges line amount w' (j + 1)
+    tracked_out e low es eo t =
         let listing = score_moves_listed size c ranges (Of line amount) in
-        let same : get_or before (gate c j).first 0 ≡ get_or (moves size c ranges (Of line amount) (gates c)) (gate c j).first 0 =
+        let same : get_or w.moves (gate c j).first 0 ≡ get_or (moves size c ranges (Of line amount) (gates c)) (gate c j).first 0 =
         t.moved.at (gate c j).first ∙ sym (move_kept size c ranges (Of line amount) (gates c) j (gate c j).first (tame.output e) (omega arith)) in
         record {
           moved = moves_pushed t.moved;
           listed =
-              rw (add-one, listed_out listing j e, same)
-              (held_push t.listed outs _ (listed_length listing j ∙ sym t.counted) (omega arith));
-          counted = rw (add-one j, count_out c j e) (omega (arith, t.counted));
+              rw (es, add-one, listed_out listing j e, same)
+              (held_push t.listed w.outs _ (listed_length listing j ∙ sym t.counted) (omega arith));
+          counted = rw (eo, add-one j, count_out c j e) (omega (arith, t.counted));
         }
 
     -- and no other gate
-    pub tracked_other : {scores : List ℕ} {outs : ℕ} → is_out (gate c j) ≡ false → Tracked c ranges line amount before scores j outs
-        → Tracked c ranges line amount (set before j m) scores (j + 1) outs
-    tracked_other e t =
+    tracked_other : is_out (gate c j) ≡ false → w'.scores ≡ w.scores → w'.outs ≡ w.outs
+        → Tracked c ranges line amount w j → Tracked c ranges line amount w' (j + 1)
+    tracked_other e es eo t =
         record {
           moved = moves_pushed t.moved;
-          listed = rw (add-one, listed_other (score_moves_listed size c ranges (Of line amount)) j e) t.listed;
-          counted = rw (add-one j, count_other c j e) t.counted;
+          listed = rw (es, add-one, listed_other (score_moves_listed size c ranges (Of line amount)) j e) t.listed;
+          counted = rw (eo, add-one j, count_other c j e) t.counted;
         }
 
-  pub stepped_out : {first outs : ℕ} {scores : List ℕ} → first ≡ (gate c j).first → is_out (gate c j) ≡ true → outs ≤ j → ((x : ℕ) → get_or before x 0 < size)
-      → Stepped c (Of line amount) ends j before scores outs (set before j m) (set scores outs (get_or before first 0)) (outs + 1)
-  stepped_out f e h low =
-      record { low = set_low low; few = omega arith; kept = λ ranges held t. rw f (tracked_out ranges held e h t) }
+  module _ (same : w'.ends ≡ w.ends) (h : w.outs ≤ j) (low : (x : ℕ) → get_or w.moves x 0 < size) where
+    pub stepped_out : {first : ℕ} → first ≡ (gate c j).first → is_out (gate c j) ≡ true → w'.scores ≡ set w.scores w.outs (get_or w.moves first 0) → w'.outs ≡ w.outs + 1
+        → Stepped c (Of line amount) j w w'
+    stepped_out f e es eo =
+        record {
+          ends = same;
+          moves_long = rw put (length-set w.moves j m);
+          scores_long = rw es (length-set w.scores w.outs _);
+          low = set_low low;
+          few = omega (arith, eo);
+          kept = λ ranges held t. tracked_out ranges held e h (es ∙ rw f) eo t;
+        }
 
-  pub stepped_other : {outs : ℕ} {scores : List ℕ} → is_out (gate c j) ≡ false → outs ≤ j → ((x : ℕ) → get_or before x 0 < size)
-      → Stepped c (Of line amount) ends j before scores outs (set before j m) scores outs
-  stepped_other e h low = record { low = set_low low; few = omega arith; kept = λ ranges held t. tracked_other ranges held e t }
+    pub stepped_other : is_out (gate c j) ≡ false → w'.scores ≡ w.scores → w'.outs ≡ w.outs → Stepped c (Of line amount) j w w'
+    stepped_other e es eo =
+        record {
+          ends = same;
+          moves_long = rw put (length-set w.moves j m);
+          scores_long = rw es;
+          low = set_low low;
+          few = omega (arith, eo);
+          kept = λ ranges held t. tracked_other ranges held e es eo t;
+        }
 
 -- without a change nothing is kept
-pub stepped_nothing : (c ends : List ℕ) (j : ℕ) {outs : ℕ} {before scores : List ℕ} → outs ≤ j → ((x : ℕ) → get_or before x 0 < size)
-    → Stepped c M.Nothing ends j before scores outs before scores outs
-stepped_nothing c ends j h low = record { low = low; few = omega arith; kept = λ ranges held e. e }
+pub stepped_nothing : (c : List ℕ) (j : ℕ) (w : Worked) → w.outs ≤ j → ((x : ℕ) → get_or w.moves x 0 < size) → Stepped c M.Nothing j w w
+stepped_nothing c j w h low =
+    record { ends = refl; moves_long = refl; scores_long = refl; low = low; few = omega arith; kept = λ ranges held e. e }
 
 -- all gates -------------------------------------------------------------------------------------------------------------
 
 -- the first j gates are gone past
-pub record Course (change : M.Change) (c ranges ends moves scores : List ℕ) (ins outs j : ℕ) : Type 0 where
+pub record Course (change : M.Change) (c ranges : List ℕ) (w : Worked) (ins j : ℕ) : Type 0 where
   pub upto : j ≤ gates c
   pub counted : ins ≡ count is_in c j
   pub stayed : (i : ℕ) → i < j → gate_stays size c ranges i ≡ true
-  pub held : Held interval_room ends (intervals size c ranges j)
-  pub fair : (x : ℕ) → Fair (interval_at ends x)
-  pub moves_long : length moves ≡ move_room
-  pub scores_long : length scores ≡ move_room
-  pub low : (x : ℕ) → get_or moves x 0 < size
-  pub few : outs ≤ j
-  pub kept : Kept change c ranges moves scores j outs
+  pub held : Held interval_room w.ends (intervals size c ranges j)
+  pub fair : (x : ℕ) → Fair (interval_at w.ends x)
+  pub moves_long : length w.moves ≡ move_room
+  pub scores_long : length w.scores ≡ move_room
+  pub low : (x : ℕ) → get_or w.moves x 0 < size
+  pub few : w.outs ≤ j
+  pub kept : Kept change c ranges w j
 
 pub fair_none : (l : List ℕ) (x : ℕ) → length l ≤ interval_size * x → Fair (interval_at l x)
 unfolding interval_at
@@ -137,30 +153,35 @@ fair_none l x h =
       low = rw (get_or-eq_default l 0 {n = interval_size * x + 1} (omega arith)) (omega arith);
     }
 
-kept_none : (change : M.Change) (c ranges : List ℕ) {moves scores : List ℕ} → Held move_room moves [] → Held move_room scores [] → Kept change c ranges moves scores 0 0
+kept_none : (change : M.Change) (c ranges : List ℕ) {w : Worked} → Blank w → Kept change c ranges w 0
 unfolding M.moves M.score_moves count total
-kept_none M.Nothing c ranges m s = refl
-kept_none (M.Of line amount) c ranges m s = record { moved = m; listed = s; counted = refl }
+kept_none M.Nothing c ranges b = b.none
+kept_none (M.Of line amount) c ranges b = record { moved = b.moves; listed = b.scores; counted = b.none }
+
+-- what is kept is not in the intervals
+kept_same : (change : M.Change) (c ranges : List ℕ) (w w' : Worked) (j : ℕ) → w'.moves ≡ w.moves → w'.scores ≡ w.scores → w'.outs ≡ w.outs
+    → Kept change c ranges w j → Kept change c ranges w' j
+kept_same M.Nothing c ranges w w' j m s o k = o ∙ k
+kept_same (M.Of line amount) c ranges w w' j m s o k = record { moved = rw m k.moved; listed = rw s k.listed; counted = o ∙ k.counted }
 
 module _ (change : M.Change) (c ranges : List ℕ) where
-  pub course_starts : {ends moves scores : List ℕ} → Held interval_room ends [] → Held move_room moves [] → Held move_room scores []
-      → Course change c ranges ends moves scores 0 0 0
+  pub course_starts : {w : Worked} → Blank w → Course change c ranges w 0 0
   unfolding intervals count total
-  course_starts e m s =
+  course_starts b =
       record {
         upto = omega arith;
         counted = refl;
         stayed = λ i h. absurd (omega arith);
-        held = e;
-        fair = λ x. rw (held_interval e x) (fair_none [] x (omega arith));
-        moves_long = m.long;
-        scores_long = s.long;
-        low = λ x. rw (m.at x) (omega arith);
-        few = omega arith;
-        kept = kept_none change c ranges m s;
+        held = b.ends;
+        fair = λ x. rw (held_interval b.ends x) (fair_none [] x (omega arith));
+        moves_long = b.moves.long;
+        scores_long = b.scores.long;
+        low = λ x. rw (b.moves.at x) (omega arith);
+        few = omega (arith, b.none);
+        kept = kept_none change c ranges b;
       }
 
-  module _ {ends moves scores : List ℕ} {ins outs j : ℕ} (s : Course change c ranges ends moves scores ins outs j) (h : j < gates c) where
+  module _ {w : Worked} {ins j : ℕ} (s : Course change c ranges w ins j) (h : j < gates c) where
     -- the numbers of gate j are there, and those of its range
     pub course_gate : gate_size * j + gate_size ≤ length c
     unfolding gates
@@ -170,19 +191,19 @@ module _ (change : M.Change) (c ranges : List ℕ) where
     unfolding in_count count
     course_range e = omega (arith, s.counted, total_mono (λ g. cond (is_in g) 1 0) c j (gates c) (omega arith))
 
-    pub course_named : Tame c j → Named c j ends
+    pub course_named : Tame c j → Named c j w.ends
     course_named t = record { first = omega (arith, t.first, s.held.long); second = omega (arith, t.second, s.held.long) }
 
     -- what gate j comes to is worked out of the intervals before it
-    reach_held : reach size c ranges ends j ≡ reach size c ranges (intervals size c ranges j) j
+    reach_held : reach size c ranges w.ends j ≡ reach size c ranges (intervals size c ranges j) j
     unfolding reach
     reach_held = rw (held_interval s.held (gate c j).first, held_interval s.held (gate c j).second)
 
-    pub course_leaves : Leaves ≡ reach size c ranges ends j → E.Leaves j ≡ finding size c ranges (gates c)
+    pub course_leaves : Leaves ≡ reach size c ranges w.ends j → E.Leaves j ≡ finding size c ranges (gates c)
     unfolding gate_stays
     course_leaves e = sym (finding_first size c ranges j (gates c) s.stayed (ap stays (sym (e ∙ reach_held))) h)
 
-    module _ {lowest highest : ℕ} (e : Stays lowest highest ≡ reach size c ranges ends j) where
+    module _ {lowest highest : ℕ} (e : Stays lowest highest ≡ reach size c ranges w.ends j) where
       stays_here : gate_stays size c ranges j ≡ true
       unfolding gate_stays
       stays_here = ap stays (sym (e ∙ reach_held))
@@ -191,7 +212,7 @@ module _ (change : M.Change) (c ranges : List ℕ) where
       unfolding intervals
       intervals_here = rw add-one (ap (λ (r : Reach). intervals size c ranges j ++ ends_of r) (sym (e ∙ reach_held)))
 
-      held_here : gates c ≤ most_gates → Held interval_room (set (set ends (interval_size * j) lowest) (interval_size * j + 1) highest) (intervals size c ranges (j + 1))
+      held_here : gates c ≤ most_gates → Held interval_room (set (set w.ends (interval_size * j) lowest) (interval_size * j + 1) highest) (intervals size c ranges (j + 1))
       held_here g = rw intervals_here (held_pair lowest highest (interval_size * j) s.held (intervals_length size c ranges j) (omega arith))
 
       fair_here : Fair (interval lowest highest) → (x : ℕ) → Fair (interval_at (intervals size c ranges (j + 1)) x)
@@ -205,30 +226,30 @@ module _ (change : M.Change) (c ranges : List ℕ) where
           let far : j < x = omega (arith, ltb-false x j p, eqb-false x j q) in
           fair_none (intervals size c ranges (j + 1)) x (omega (arith, intervals_length size c ranges (j + 1)))))
 
-      pub course_more : gates c ≤ most_gates → Fair (interval lowest highest) → {moves' scores' : List ℕ} {outs' more : ℕ}
-          → length moves' ≡ length moves → length scores' ≡ length scores
-          → Stepped c change ends j moves scores outs moves' scores' outs' → more ≡ cond (is_in (gate c j)) 1 0
-          → {ends' : List ℕ} → ends' ≡ set (set ends (interval_size * j) lowest) (interval_size * j + 1) highest
-          → Course change c ranges ends' moves' scores' (ins + more) outs' (j + 1)
-      course_more g f ml sl t m {ends'} e' =
-          let held : Held interval_room ends' (intervals size c ranges (j + 1)) = rw e' (held_here g) in
+      pub course_more : gates c ≤ most_gates → Fair (interval lowest highest) → {w₁ w' : Worked} {more : ℕ} → Stepped c change j w w₁
+          → more ≡ cond (is_in (gate c j)) 1 0
+          → w'.ends ≡ set (set w₁.ends (interval_size * j) lowest) (interval_size * j + 1) highest
+          → (w'.moves ≡ w₁.moves) × (w'.scores ≡ w₁.scores) × (w'.outs ≡ w₁.outs)
+          → Course change c ranges w' (ins + more) (j + 1)
+      course_more g f {w₁} {w'} t m e' o =
+          let held : Held interval_room w'.ends (intervals size c ranges (j + 1)) = rw (e', t.ends) (held_here g) in
           record {
             upto = omega arith;
             counted = omega (arith, count_more is_in c j, s.counted, m);
             stayed = below_more _ _ s.stayed stays_here;
             held = held;
             fair = λ x. rw (held_interval held x) (fair_here f x);
-            moves_long = ml ∙ s.moves_long;
-            scores_long = sl ∙ s.scores_long;
-            low = t.low;
-            few = t.few;
-            kept = t.kept ranges s.held s.kept;
+            moves_long = ap length o.0 ∙ t.moves_long ∙ s.moves_long;
+            scores_long = ap length o.1 ∙ t.scores_long ∙ s.scores_long;
+            low = λ x. rw o.0 (t.low x);
+            few = omega (arith, o.2, t.few);
+            kept = kept_same change c ranges w₁ w' (j + 1) o.0 o.1 o.2 (t.kept ranges s.held s.kept);
           }
 
   -- every gate is gone past
-  module _ {ends moves scores : List ℕ} {ins outs j : ℕ} (s : Course change c ranges ends moves scores ins outs j) (h : gates c ≤ j) where
+  module _ {w : Worked} {ins j : ℕ} (s : Course change c ranges w ins j) (h : gates c ≤ j) where
     pub course_ends : E.Fits ≡ finding size c ranges (gates c)
     course_ends = sym (finding_all size c ranges (gates c) (λ i l. s.stayed i (omega arith)))
 
-    pub course_lists : Held interval_room ends (intervals size c ranges (gates c)) × Kept change c ranges moves scores (gates c) outs × (length scores ≡ move_room)
+    pub course_lists : Held interval_room w.ends (intervals size c ranges (gates c)) × Kept change c ranges w (gates c) × (length w.scores ≡ move_room)
     course_lists = let e : gates c ≡ j = omega (arith, s.upto) in rw e (s.held, s.kept, s.scores_long)

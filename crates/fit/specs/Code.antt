@@ -1,6 +1,6 @@
 -- What the code's types stand for, and what its lists hold.
 -- Assumes nothing.
-use Rattle.std.specs.Prelude.{ℕ, ◌+◌, ◌*◌, ◌<◌, ◌≤◌, ◌≡◌, List, length, get_or, true, Option, None, Some, Result, Ok, Err}
+use Rattle.std.specs.Prelude.{ℕ, ◌+◌, ◌*◌, ◌<◌, ◌≤◌, ◌≡◌, List, [], length, get_or, true, Option, None, Some, Result, Ok, Err}
 use Rattle.field.specs.Words.{size}
 use Rattle.circuit.specs.Gate.{gate_size, entry, gate, gates}
 use Rattle.circuit.specs.Kind.{is_out}
@@ -13,6 +13,7 @@ use Rattle.ranges.specs.Move as M
 use Rattle.ranges.specs.Entry as E
 use Rattle.fit.specs.declared.Interval.{Interval}
 use Rattle.fit.specs.declared.Change.{Change}
+use Rattle.fit.specs.declared.working.Worked.{Worked}
 
 -- a refusal, the gate that leaves, or that every gate fits
 unfoldable pub answer_of : Result (Option ℕ) Refusal → E.Answer
@@ -64,47 +65,52 @@ pub record Tame (c : List ℕ) (j : ℕ) : Type 0 where
   pub second : (gate c j).second < most_gates
   pub output : is_out (gate c j) ≡ true → (gate c j).first < j
 
+-- nothing is worked out yet
+pub record Blank (w : Worked) : Type 0 where
+  pub ends : Held interval_room w.ends []
+  pub moves : Held move_room w.moves []
+  pub scores : Held move_room w.scores []
+  pub none : w.outs ≡ 0
+
 -- what a step past gate j asks: its numbers are there; the tool's own lists are long enough; the intervals before it are fair, the moves elements; and
 -- no more scores have a move than there are gates before it
-pub record Apt (c : List ℕ) (j : ℕ) (ends moves scores : List ℕ) (outs : ℕ) : Type 0 where
+pub record Apt (c : List ℕ) (j : ℕ) (w : Worked) : Type 0 where
   pub there : gate_size * j + gate_size ≤ length c
   pub few : j < most_gates
   pub tame : Tame c j
-  pub ends_long : length ends ≡ interval_room
-  pub fair : (x : ℕ) → Fair (I.interval_at ends x)
-  pub moves_long : length moves ≡ move_room
-  pub scores_long : length scores ≡ move_room
-  pub low : (x : ℕ) → get_or moves x 0 < size
-  pub scored : outs ≤ j
+  pub ends_long : length w.ends ≡ interval_room
+  pub fair : (x : ℕ) → Fair (I.interval_at w.ends x)
+  pub moves_long : length w.moves ≡ move_room
+  pub scores_long : length w.scores ≡ move_room
+  pub low : (x : ℕ) → get_or w.moves x 0 < size
+  pub scored : w.outs ≤ j
 
 -- the moves of the gates before j stand in a list, and those of their scores in another, so many of them
-pub record Tracked (c ranges : List ℕ) (line amount : ℕ) (moves scores : List ℕ) (j outs : ℕ) : Type 0 where
-  pub moved : Held move_room moves (M.moves size c ranges (M.Of line amount) j)
-  pub listed : Held move_room scores (M.score_moves size c ranges (M.Of line amount) j)
-  pub counted : outs ≡ count is_out c j
+pub record Tracked (c ranges : List ℕ) (line amount : ℕ) (w : Worked) (j : ℕ) : Type 0 where
+  pub moved : Held move_room w.moves (M.moves size c ranges (M.Of line amount) j)
+  pub listed : Held move_room w.scores (M.score_moves size c ranges (M.Of line amount) j)
+  pub counted : w.outs ≡ count is_out c j
 
 -- where no change is given nothing is kept
-abbrev pub Kept : M.Change → List ℕ → List ℕ → List ℕ → List ℕ → ℕ → ℕ → Type 0
-Kept M.Nothing c ranges moves scores j outs = outs ≡ 0
-Kept (M.Of line amount) c ranges moves scores j outs = Tracked c ranges line amount moves scores j outs
+abbrev pub Kept : M.Change → List ℕ → List ℕ → Worked → ℕ → Type 0
+Kept M.Nothing c ranges w j = w.outs ≡ 0
+Kept (M.Of line amount) c ranges w j = Tracked c ranges line amount w j
 
--- what a step past gate j leaves, where the gates before it have the intervals that stand in ends
-pub record Stepped (c : List ℕ) (change : M.Change) (ends : List ℕ) (j : ℕ) (moves scores : List ℕ) (outs : ℕ) (moves' scores' : List ℕ) (outs' : ℕ)
-    : Type 0 where
-  pub low : (x : ℕ) → get_or moves' x 0 < size
-  pub few : outs' ≤ j + 1
-  pub kept : (ranges : List ℕ)
-      → Held interval_room ends (I.intervals size c ranges j)
-      → Kept change c ranges moves scores j outs
-      → Kept change c ranges moves' scores' (j + 1) outs'
+-- what a step past gate j leaves, where the gates before it have the intervals that stand in the list
+pub record Stepped (c : List ℕ) (change : M.Change) (j : ℕ) (w w' : Worked) : Type 0 where
+  pub ends : w'.ends ≡ w.ends
+  pub moves_long : length w'.moves ≡ length w.moves
+  pub scores_long : length w'.scores ≡ length w.scores
+  pub low : (x : ℕ) → get_or w'.moves x 0 < size
+  pub few : w'.outs ≤ j + 1
+  pub kept : (ranges : List ℕ) → Held interval_room w.ends (I.intervals size c ranges j) → Kept change c ranges w j → Kept change c ranges w' (j + 1)
 
--- what the walk finds: the gate that leaves; or that none does, and how many scores have a move
-unfoldable pub found_of : Result ℕ ℕ → E.Answer
+-- what the walk finds: the gate that leaves; or that none does
+unfoldable pub found_of : Result (Unit {0}) ℕ → E.Answer
 found_of (Err gate) = E.Leaves gate
-found_of (Ok outs) = E.Fits
+found_of (Ok done) = E.Fits
 
--- and the lists that it leaves, where none does
-abbrev pub Walked : M.Change → List ℕ → List ℕ → List ℕ → List ℕ → List ℕ → Result ℕ ℕ → Type 0
-Walked change c ranges ends moves scores (Err gate) = Unit {0}
-Walked change c ranges ends moves scores (Ok outs) =
-    Held interval_room ends (I.intervals size c ranges (gates c)) × Kept change c ranges moves scores (gates c) outs × (length scores ≡ move_room)
+-- and what it has worked out, where none does
+abbrev pub Walked : M.Change → List ℕ → List ℕ → Worked → Result (Unit {0}) ℕ → Type 0
+Walked change c ranges w (Err gate) = Unit {0}
+Walked change c ranges w (Ok done) = Held interval_room w.ends (I.intervals size c ranges (gates c)) × Kept change c ranges w (gates c) × (length w.scores ≡ move_room)

@@ -33,11 +33,6 @@ pub struct Interval {
 // Numbers of an interval.
 pub const INTERVAL_SIZE: usize = 2;
 
-// Room for the intervals of as many gates as there may be, and for their moves.
-const INTERVAL_ROOM: usize = INTERVAL_SIZE * gates::asking::MOST_GATES;
-
-const MOVE_ROOM: usize = gates::asking::MOST_GATES;
-
 // How many gates a circuit has.
 #[tactic(auto, unfolding(circuit::specs::Gate::gates))]
 fn gates_of(c: &[Word]) -> usize
@@ -63,14 +58,12 @@ pub fn will_fit(
         ≡ fit_moves size (query_of parties c.now ranges.now (change_of change)) (length intervals.old) moves.old }
 {
     asking::ask(parties, c, ranges, change, intervals.len(), moves.len())?;
-    let mut ends: [Word; INTERVAL_ROOM] = [0; INTERVAL_ROOM];
-    let mut each: [Word; MOVE_ROOM] = [0; MOVE_ROOM];
-    let mut scores: [Word; MOVE_ROOM] = [0; MOVE_ROOM];
-    match working::walk(c, ranges, change, &mut ends, &mut each, &mut scores) {
-        Ok(outs) => {
+    let mut worked = working::blank();
+    match worked.walk(c, ranges, change) {
+        Ok(()) => {
             let numbers = INTERVAL_SIZE * gates_of(c);
-            sha256::copy(&ends[..numbers], intervals);
-            sha256::copy(&scores[..outs], moves);
+            sha256::copy(&worked.ends[..numbers], intervals);
+            sha256::copy(&worked.scores[..worked.outs], moves);
             Ok(None)
         }
         Err(gate) => Ok(Some(gate)),

@@ -54,6 +54,7 @@ pub struct Stop {
 }
 
 // A check that is made: the sum of the check shares, and where the run stands if it goes on.
+// No Result: an abort needs the rounds of that stop, too, and what is checked is said of the sum, whatever it is.
 #[derive(Clone, Copy)]
 pub struct Checkup {
     pub sum: Word,

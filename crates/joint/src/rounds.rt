@@ -53,8 +53,7 @@ fn input_round(
         inputs,
         &mut transcript[start..end],
     );
-    let class = g.class;
-    let e = steps::receiving::heard_first(f.parties, class, x, g.words, &transcript[start..end]);
+    let e = steps::receiving::heard_first(f.parties, g.class, x, g.words, &transcript[start..end]);
     receiving::receive_inputs(f, j, s.prep, preps, scratch, e);
     places[x] += 1;
     Stop {
@@ -231,15 +230,13 @@ pub fn run(
         rounds: 0,
     };
     loop {
-        let from = s.gate;
-        let j = receiving::settle(f, c, from, preps, scratch);
+        let j = receiving::settle(f, c, s.gate, preps, scratch);
         if f.layout.gates <= j {
             return Ending::Done(s.rounds);
         }
         s.gate = j;
         let g = gates::reading::shape_at(c, j);
-        let class = g.class;
-        if circuit::shapes::is_in(class) {
+        if circuit::shapes::is_in(g.class) {
             s = input_round(
                 f,
                 s,
@@ -255,7 +252,7 @@ pub fn run(
             );
             continue;
         }
-        if circuit::shapes::opens(class) {
+        if circuit::shapes::opens(g.class) {
             s = opening_round(
                 f,
                 s,

@@ -27,7 +27,7 @@ use Rattle.protocol.specs.declared.Layout.{Layout}
 use Rattle.protocol.specs.declared.Site.{Site}
 use Rattle.protocol.specs.Ask.{most_parties, ask_send_round, ask_receive_round, ask_send, ask_receive}
 use Rattle.protocol.specs.Entry as E
-use Rattle.party.specs.Code.{position_of, leads_to, Posed, place_of, LentTo, RoundAt, Sendable, Receivable}
+use Rattle.party.specs.Code.{position_of, leads_to, Laid, Posed, place_of, LentTo, RoundAt, Sendable, Receivable}
 use Rattle.party.specs.declared.Position.{Position}
 use Rattle.circuit.proofs.Tests.{by_cases, both_left}
 use Rattle.circuit.proofs.Loops.{then_assoc}
@@ -105,10 +105,12 @@ module _ (P : Party) (l : List ℕ) (y : Layout) (site : Site) where
     there = h.lent.sited (gate_occurs size P.circuit (position_of at) h.can)
 
     -- what questions 15 to 20 ask
-    pub round_asks : (r : Round) → Posed P.circuit l y site r
+    pub scratch_laid : Laid P.circuit l y
+    scratch_laid = record { whole = lent.valid.whole; few = lent.valid.few; lay = h.lent.lay; room = slots_room P.parties P.circuit lent.room }
+
+    pub round_asks : (r : Round) → Posed P.circuit site r
     round_asks r =
         record {
-          laid = record { whole = lent.valid.whole; few = lent.valid.few; lay = h.lent.lay; room = slots_room P.parties P.circuit lent.room };
           within = there.within;
           waiting = there.unchecked;
           fits = entries_fit P.circuit site.gate r there.within;

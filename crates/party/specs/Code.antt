@@ -68,8 +68,7 @@ pub record Laid (c l : List ℕ) (y : Layout) : Type 0 where
   pub room : S.slots_size (S.layout c) ≤ length l
 
 -- and of a round's questions: the site is the gate's, and the opened entries fit
-pub record Posed (c l : List ℕ) (y : Layout) (at : Site) (r : Round) : Type 0 where
-  pub laid : Laid c l y
+pub record Posed (c : List ℕ) (at : Site) (r : Round) : Type 0 where
   pub within : at.gate < gates c
   pub waiting : at.unchecked ≡ unchecked c at.gate
   pub fits : opened_in (unchecked c at.gate) r ≤ capacity c

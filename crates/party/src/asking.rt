@@ -8,7 +8,7 @@ ghost use Rattle.circuit.specs.Count.{unchecked};
 ghost use Rattle.circuit.specs.Accept.{ask_circuit};
 ghost use Rattle.circuit.specs.Round.{is_reveal, reveal_words, coefficients_in, nonce_in};
 ghost use Rattle.circuit.specs.Code.{round_of};
-ghost use Rattle.protocol.specs.Scratch.{layout};
+ghost use Rattle.protocol.specs.Scratch.{layout, offset};
 ghost use Rattle.protocol.specs.Position.{may_hold, stage_occurs, occurs};
 ghost use Rattle.protocol.specs.Party.{party_of};
 ghost use Rattle.protocol.specs.Holding.{Within};
@@ -75,7 +75,7 @@ pub fn ask_elements(question: Question, xs: &[Word]) -> Result<(), Refusal>
 // Question 20 of a reveal: of the check shares of so many parties, each the first of its words.
 #[tactic(auto, using(crate::proofs::Loops::asked_each))]
 fn ask_shares(parties: usize, heard: &[Word]) -> Result<(), Refusal>
-    requires { (parties ≤ 8) × (parties * reveal_words ≤ length heard.now) }
+    requires { parties * reveal_words ≤ length heard.now }
     ensures { verdict_of result
         ≡ each parties (λ i. ask 20 (i * reveal_words) (ltb (get_or heard.now (i * reveal_words) 0) size)) }
 {
@@ -88,7 +88,7 @@ fn ask_shares(parties: usize, heard: &[Word]) -> Result<(), Refusal>
 
 // Question 20, by the round.
 fn ask_heard(parties: usize, r: Round, heard: &[Word]) -> Result<(), Refusal>
-    requires { (parties ≤ 8) × (is_reveal (round_of r) ≡ true → parties * reveal_words ≤ length heard.now) }
+    requires { is_reveal (round_of r) ≡ true → parties * reveal_words ≤ length heard.now }
     ensures { verdict_of result ≡ ask_heard size parties (round_of r) heard.now }
 {
     match r {
@@ -197,80 +197,97 @@ impl Sort {
     }
 }
 
-// Does question 15 want slot k of a sort?
-#[tactic(auto, unfolding(crate::specs::Code::wanted_of, crate::specs::Code::sort_of, protocol::specs::Scratch::layout))]
-fn is_wanted(c: &[Word], sort: Sort, k: usize) -> bool
-    requires { (length c.now ≡ gate_size * gates c.now) × Within (layout c.now) (sort_of sort k) }
-    ensures { result ≡ wanted_of c.now sort k }
-{
-    match sort {
-        Sort::Shares | Sort::Macs => !shapes::is_out(reading::class_at(c, k)),
-        Sort::Values | Sort::ValueMacs => true,
-    }
+// A circuit, the scratch of a party's run of it, and the layout by which that scratch is laid.
+#[derive(Clone, Copy)]
+struct Scratch<'a> {
+    circuit: &'a [Word],
+    words: &'a [Word],
+    layout: Layout,
+    ghost laid: { Laid circuit.now words.now layout },
 }
 
-// Question 15 of one slot. Whether it is wanted is asked only if its number is no element.
-fn ask_slot(c: &[Word], l: &[Word], y: Layout, sort: Sort, t: usize) -> Result<(), Refusal>
-    requires { Laid c.now l.now y × Within (layout c.now) (sort_of sort t) }
-    ensures { verdict_of result ≡ slot_question size c.now l.now (wanted_of c.now sort t) (sort_of sort t) }
-{
-    let at = protocol::offset_of(y, sort.slot(t));
-    ask(
-        Question::Scratch,
-        at,
-        l[at] < field::SIZE || !is_wanted(c, sort, t),
-    )
-}
+impl Scratch<'_> {
+    // Where slot t of a sort stands.
+    fn offset(&self, sort: Sort, t: usize) -> usize
+        requires { Within (layout self.now.circuit.now) (sort_of sort t) }
+        ensures { (result ≡ offset (layout self.now.circuit.now) (sort_of sort t)) × (result < length self.now.words.now) }
+    {
+        protocol::offset_of(self.layout, sort.slot(t))
+    }
 
-// Question 15 of the slots of one sort below k, which stand side by side. Where all their numbers are elements, none is looked at alone.
-#[tactic(auto, using(crate::proofs::Loops::asked_each), unfolding(protocol::specs::Ask::ask_slots))]
-fn ask_slots(c: &[Word], l: &[Word], y: Layout, k: usize, sort: Sort) -> Result<(), Refusal>
-    requires { Laid c.now l.now y × ((t : ℕ) → t < k → Within (layout c.now) (sort_of sort t)) }
-    ensures { verdict_of result ≡ ask_slots size c.now l.now k (wanted_of c.now sort) (sort_of sort) }
-{
-    if k == 0 {
-        return Ok(());
+    // Does question 15 want slot t of a sort?
+    #[tactic(auto, unfolding(crate::specs::Code::wanted_of, crate::specs::Code::sort_of, protocol::specs::Scratch::layout))]
+    fn is_wanted(&self, sort: Sort, t: usize) -> bool
+        requires { Within (layout self.now.circuit.now) (sort_of sort t) }
+        ensures { result ≡ wanted_of self.now.circuit.now sort t }
+    {
+        match sort {
+            Sort::Shares | Sort::Macs => !shapes::is_out(reading::class_at(self.circuit, t)),
+            Sort::Values | Sort::ValueMacs => true,
+        }
     }
-    let from = protocol::offset_of(y, sort.slot(0));
-    let to = from + k;
-    if all_elements(&l[from..to]) {
-        return Ok(());
-    }
-    for t in 0..k {
-        ask_slot(c, l, y, sort, t)?;
-    }
-    Ok(())
-}
 
-// Question 15: the gates before j, and the opened entries that are not yet checked.
-#[tactic(auto, using(circuit::proofs::Verdicts::asked), unfolding(protocol::specs::Ask::ask_worked, crate::specs::Code::wanted_of, crate::specs::Code::sort_of))]
-fn ask_worked(c: &[Word], l: &[Word], y: Layout, at: Site, r: Round) -> Result<(), Refusal>
-    requires { Posed c.now l.now y at (round_of r) }
-    ensures { verdict_of result ≡ ask_worked size c.now l.now at.gate (round_of r) }
-{
-    let opened = rounds::opened_in(at.unchecked, r);
-    ask_slots(c, l, y, at.gate, Sort::Shares)?;
-    ask_slots(c, l, y, at.gate, Sort::Macs)?;
-    ask_slots(c, l, y, opened, Sort::Values)?;
-    ask_slots(c, l, y, opened, Sort::ValueMacs)
+    // Question 15 of one slot. Whether it is wanted is asked only if its number is no element.
+    fn ask_slot(&self, sort: Sort, t: usize) -> Result<(), Refusal>
+        requires { Within (layout self.now.circuit.now) (sort_of sort t) }
+        ensures { verdict_of result ≡ slot_question size self.now.circuit.now self.now.words.now (wanted_of self.now.circuit.now sort t) (sort_of sort t) }
+    {
+        let at = self.offset(sort, t);
+        ask(
+            Question::Scratch,
+            at,
+            self.words[at] < field::SIZE || !self.is_wanted(sort, t),
+        )
+    }
+
+    // Question 15 of the slots of one sort below k, which stand side by side. Where all their numbers are elements, none is looked at alone.
+    #[tactic(auto, using(crate::proofs::Loops::asked_each), unfolding(protocol::specs::Ask::ask_slots))]
+    fn ask_slots(&self, k: usize, sort: Sort) -> Result<(), Refusal>
+        requires { (t : ℕ) → t < k → Within (layout self.now.circuit.now) (sort_of sort t) }
+        ensures { verdict_of result ≡ ask_slots size self.now.circuit.now self.now.words.now k (wanted_of self.now.circuit.now sort) (sort_of sort) }
+    {
+        if k == 0 {
+            return Ok(());
+        }
+        let from = self.offset(sort, 0);
+        let to = from + k;
+        if all_elements(&self.words[from..to]) {
+            return Ok(());
+        }
+        for t in 0..k {
+            self.ask_slot(sort, t)?;
+        }
+        Ok(())
+    }
+
+    // Question 15: the gates before that of the site, and the opened entries that are not yet checked.
+    #[tactic(auto, using(circuit::proofs::Verdicts::asked), unfolding(protocol::specs::Ask::ask_worked, crate::specs::Code::wanted_of, crate::specs::Code::sort_of))]
+    fn ask_worked(&self, at: Site, r: Round) -> Result<(), Refusal>
+        requires { Posed self.now.circuit.now at (round_of r) }
+        ensures { verdict_of result ≡ ask_worked size self.now.circuit.now self.now.words.now at.gate (round_of r) }
+    {
+        let opened = rounds::opened_in(at.unchecked, r);
+        self.ask_slots(at.gate, Sort::Shares)?;
+        self.ask_slots(at.gate, Sort::Macs)?;
+        self.ask_slots(opened, Sort::Values)?;
+        self.ask_slots(opened, Sort::ValueMacs)
+    }
 }
 
 // Questions 15 to 18, and 25 before the last.
 #[tactic(auto, using(circuit::proofs::Verdicts::asked), unfolding(protocol::specs::Ask::ask_send_round))]
 fn ask_send_round(
-    c: &[Word],
-    l: &[Word],
-    y: Layout,
+    scratch: &Scratch<'_>,
     at: Site,
     r: Round,
     coefficients: &[Word],
     nonce: &[u8],
     room: usize,
 ) -> Result<(), Refusal>
-    requires { Posed c.now l.now y at (round_of r) }
-    ensures { verdict_of result ≡ ask_send_round size c.now l.now at.gate coefficients.now nonce.now room (round_of r) }
+    requires { Posed scratch.now.circuit.now at (round_of r) }
+    ensures { verdict_of result ≡ ask_send_round size scratch.now.circuit.now scratch.now.words.now at.gate coefficients.now nonce.now room (round_of r) }
 {
-    ask_worked(c, l, y, at, r)?;
+    scratch.ask_worked(at, r)?;
     ask(
         Question::CoefficientCount,
         0,
@@ -278,7 +295,7 @@ fn ask_send_round(
     )?;
     ask_elements(Question::Coefficients, coefficients)?;
     ask(Question::Nonce, 0, nonce.len() == rounds::nonce_in(r))?;
-    let words = rounds::words_in(reading::shape_at(c, at.gate), r);
+    let words = rounds::words_in(reading::shape_at(scratch.circuit, at.gate), r);
     ask(Question::Room, 0, words <= room)
 }
 
@@ -286,18 +303,16 @@ fn ask_send_round(
 #[tactic(auto, using(circuit::proofs::Verdicts::asked), unfolding(protocol::specs::Ask::ask_receive_round))]
 fn ask_receive_round(
     parties: usize,
-    c: &[Word],
-    l: &[Word],
-    y: Layout,
+    scratch: &Scratch<'_>,
     at: Site,
     r: Round,
     heard: &[Word],
 ) -> Result<(), Refusal>
-    requires { Posed c.now l.now y at (round_of r) × (parties ≤ 8) }
-    ensures { verdict_of result ≡ ask_receive_round size c.now parties l.now at.gate heard.now (round_of r) }
+    requires { Posed scratch.now.circuit.now at (round_of r) × (parties ≤ 8) }
+    ensures { verdict_of result ≡ ask_receive_round size scratch.now.circuit.now parties scratch.now.words.now at.gate heard.now (round_of r) }
 {
-    ask_worked(c, l, y, at, r)?;
-    let words = rounds::words_in(reading::shape_at(c, at.gate), r);
+    scratch.ask_worked(at, r)?;
+    let words = rounds::words_in(reading::shape_at(scratch.circuit, at.gate), r);
     ask(Question::HeardSize, 0, heard.len() == parties * words)?;
     ask_heard(parties, r, heard)
 }
@@ -390,7 +405,12 @@ pub fn ask_send(
             index: 0,
         });
     };
-    ask_send_round(c, l, layout, site, round, coefficients, nonce, room)?;
+    let scratch = Scratch {
+        circuit: c,
+        words: l,
+        layout,
+    };
+    ask_send_round(&scratch, site, round, coefficients, nonce, room)?;
     Ok(Asked {
         layout,
         site,
@@ -398,7 +418,7 @@ pub fn ask_send(
     })
 }
 
-// All questions of receiving, likewise.
+// All questions of receiving, likewise. One function for both would be told the half and the questions of its round, which are all that differs.
 pub fn ask_receive(
     parties: usize,
     me: usize,
@@ -422,7 +442,12 @@ pub fn ask_receive(
             index: 0,
         });
     };
-    ask_receive_round(parties, c, l, layout, site, round, heard)?;
+    let scratch = Scratch {
+        circuit: c,
+        words: l,
+        layout,
+    };
+    ask_receive_round(parties, &scratch, site, round, heard)?;
     Ok(Asked {
         layout,
         site,

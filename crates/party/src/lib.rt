@@ -23,7 +23,7 @@ use field::Word;
 use protocol::{Blame, Layout, Site, Stage};
 use steps::{Conclusion, receiving, sending};
 
-// The slots of one sort.
+// The slots of one sort. A closure from numbers to slots in its place would have to promise that they stand side by side.
 #[derive(Clone, Copy)]
 pub enum Sort {
     Shares,

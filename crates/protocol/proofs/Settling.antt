@@ -1,6 +1,6 @@
 -- The linear gates after a gate: what they ask, what they keep, and how the loop over them goes on.
 -- Assumes nothing.
-use Prim.Native.Nat.{ℕ, zero, suc, ◌+◌, ◌-◌, ◌<◌, ◌≤◌}
+use Prim.Native.Nat.{ℕ, zero, suc, ◌+◌, ◌*◌, ◌-◌, ◌<◌, ◌≤◌}
 use mathlib.Core.Path.{◌≡◌, refl, sym, ap, ◌∙◌}
 use mathlib.Core.Bool.{Bool, true, false, cond}
 use mathlib.Core.List.{List}
@@ -11,7 +11,7 @@ use Rattle.std.specs.Prelude.{Option, None, Some, MatchOption, unwrap_or}
 use Rattle.algebra.specs.Ops.{Ops}
 use Rattle.algebra.specs.Field.{Field}
 use Rattle.algebra.proofs.Ring.{inv_lt}
-use Rattle.circuit.specs.Gate.{Kind, In, Add, Sub, Plus, Times, Mul, Out, Sq, Give, Over, Gate, gate_of, gate}
+use Rattle.circuit.specs.Gate.{gate_size, Kind, In, Add, Sub, Plus, Times, Mul, Out, Sq, Give, Over, Gate, gate_of, gate}
 use Rattle.circuit.specs.Kind.{Local, Role, Unused, Party, Wire, Constant, Divisor, kind_shape, shape, is_class, is_linear, is_divisor}
 use Rattle.circuit.specs.Valid.{Fits, ValidGate}
 use Rattle.circuit.proofs.Tests.{false_no}
@@ -270,7 +270,14 @@ module _ {O : Ops} (c : List ℕ) (y : Layout) (i key b : ℕ) (l₀ : List ℕ)
     left : j < y.gates → y.gates - j ≡ suc (y.gates - (j + 1))
     left h = omega arith
 
-    -- gate j can be read off the circuit, and what it reads off the scratch
+    -- before the stop gate j stands in the circuit, and is linear
+    pub settling_there : Settles O.size c y key l₀ b → {stop : ℕ} → stop ≡ reach c (y.gates - b) b → Reaching c y.gates b j → j < stop
+        → (gate_size * j + gate_size ≤ length c) × (j < y.gates) × (is_linear (gate c j) ≡ true)
+    settling_there s e r h =
+        let k = reaching_linear c y.gates b j r (omega (arith, h, e)) in
+        (omega (arith, k.0, s.valid.whole, s.count), k.0, k.1)
+
+    -- what it reads stands in the scratch
     pub settling_asks : Field O
         → Settles O.size c y key l₀ b
         → j < y.gates

@@ -1,44 +1,37 @@
 // Calling the entry of a request and printing its answer.
-ghost use Rattle.std.specs.Prelude.{◌≤◌, ◌≡◌, length};
-
-use crate::sheets::{answer_read, answer_score, answer_write, byte_room};
+use crate::sheets::{answer_read, answer_score, answer_write};
+use circuit::questions::Refusal;
 use field::Word;
-use joint::JointAnswer;
+use joint::Ending;
 use requests::bytes::to_bytes;
-use requests::entries::{
-    answer_open, answer_receive, answer_send, print_blame, print_named, print_refusal,
-};
-use requests::naming::{
-    CIRCUIT, INPUTS, JOINT, NONCES, OPEN, OUT, OUTPUTS, PARTIES, PREP, READ, RECEIVE, SCORE,
-    SCRATCH, SEND, SHOW, WORDS, WRITE,
-};
-use requests::request::{
-    CIRCUIT_ROOM, INPUTS_ROOM, NONCES_ROOM, PREP_ROOM, ROOM, Request, WORDS_ROOM, part, within,
-};
+use requests::entries::{answer_open, answer_receive, answer_send, print_blame, print_refusal};
+use requests::naming::{Entry, Field};
+use requests::request::{ROOM, Request};
+use requests::storing::{Lists, room};
 use std::io;
 use std::io::Write;
 
-fn print_joint<W: Write>(to: &mut W, answer: JointAnswer) -> io::Result<()> {
+fn print_ending<W: Write>(to: &mut W, answer: Result<Ending, Refusal>) -> io::Result<()> {
     match answer {
-        JointAnswer::Refusal { number, index } => print_refusal(to, number, index),
-        JointAnswer::Done(rounds) => {
-            print_named(to, b"done", rounds)?;
-            printing::print(to, b"\n")
-        }
-        JointAnswer::Aborted {
-            gate,
-            blame,
-            rounds,
-        } => {
-            print_named(to, b"stopped", gate)?;
-            printing::print_number(to, rounds as u64)?;
+        Err(refusal) => print_refusal(to, refusal),
+        Ok(Ending::Done(rounds)) => writeln!(to, "done {rounds}"),
+        Ok(
+            Ending::Aborted {
+                gate,
+                blame,
+                rounds,
+            },
+        ) => {
+            write!(to, "stopped {gate} {rounds}")?;
             print_blame(to, blame)
         }
     }
 }
 
+// A joint run of a circuit: the lists that it may write, or its rounds.
 pub fn answer_joint<W: Write>(
     to: &mut W,
+    entry: Entry,
     request: Request,
     c: &[Word],
     preps: &[Word],
@@ -49,10 +42,9 @@ pub fn answer_joint<W: Write>(
     transcript: &mut [Word],
     outputs: &mut [Word],
 ) -> io::Result<()> {
-    let read = request.read;
-    let parties = read[PARTIES];
+    let parties = request.number(Field::Parties);
     let answer = joint::joint_run(
-        parties as usize,
+        parties,
         c,
         preps,
         inputs,
@@ -62,24 +54,16 @@ pub fn answer_joint<W: Write>(
         transcript,
         outputs,
     );
-    print_joint(to, answer)?;
-    if request.entry == JOINT {
-        print_lists(to, scratch, transcript, outputs)
-    } else {
-        print_shown(to, parties, c, answer, transcript, outputs)
+    print_ending(to, answer)?;
+    if entry == Entry::Joint {
+        printing::print_list(to, b"scratch", scratch)?;
+        printing::print_list(to, b"transcript", transcript)?;
+        return printing::print_list(to, b"outputs", outputs);
     }
-}
-
-// The lists that a joint run may write.
-fn print_lists<W: Write>(
-    to: &mut W,
-    scratch: &[Word],
-    transcript: &[Word],
-    outputs: &[Word],
-) -> io::Result<()> {
-    printing::print_list(to, b"scratch", scratch)?;
-    printing::print_list(to, b"transcript", transcript)?;
-    printing::print_list(to, b"outputs", outputs)
+    match answer {
+        Ok(ending) => print_shown(to, parties as u32, c, ending, transcript, outputs),
+        Err(_) => Ok(()),
+    }
 }
 
 // A joint run for a reader: the rounds made, and the outputs of a finished run.
@@ -87,23 +71,16 @@ fn print_shown<W: Write>(
     to: &mut W,
     parties: u32,
     c: &[Word],
-    answer: JointAnswer,
+    ending: Ending,
     transcript: &[Word],
     outputs: &[Word],
 ) -> io::Result<()> {
-    match answer {
-        JointAnswer::Refusal {
-            number: _,
-            index: _,
-        } => Ok(()),
-        JointAnswer::Done(rounds) => {
-            let outs = part(
-                printing::print_rounds(to, parties, c, rounds, transcript)?,
-                outputs,
-            );
-            printing::print_list(to, b"out", &outputs[..outs])
+    match ending {
+        Ending::Done(rounds) => {
+            let made = printing::print_rounds(to, parties, c, rounds, transcript)?;
+            printing::print_list(to, b"out", &outputs[..made.min(outputs.len())])
         }
-        JointAnswer::Aborted {
+        Ending::Aborted {
             gate: _,
             blame: _,
             rounds,
@@ -114,177 +91,51 @@ fn print_shown<W: Write>(
     }
 }
 
-// Calls the entry of a request on what it is lent.
-fn call<W: Write>(
-    to: &mut W,
-    request: Request,
-    c: &[Word],
-    prep: &[Word],
-    inputs: &[Word],
-    scratch: &mut [Word],
-    words: &[Word],
-    nonces: &[u8],
-    out: &mut [Word],
-    outputs: &mut [Word],
-) -> io::Result<()> {
-    let entry = request.entry;
-    match entry {
-        OPEN => answer_open(to, request, c, prep, inputs, scratch),
-        SEND => answer_send(to, request, c, prep, inputs, scratch, words, nonces, out),
-        RECEIVE => answer_receive(to, request, c, prep, inputs, scratch, words),
-        JOINT | SHOW => {
-            answer_joint(
-                to, request, c, prep, inputs, scratch, words, nonces, out, outputs,
-            )
-        }
-        READ => answer_read(to, request, c, out),
-        WRITE => answer_write(to, request, c, out),
-        SCORE => {
-            answer_score(
-                to, request, c, prep, inputs, scratch, words, nonces, out, outputs,
-            )
-        }
-        _ => Ok(()),
-    }
-}
-
-// Calls the entry on nonces, whose bytes are put into a room.
-fn call_bytes<W: Write>(
-    to: &mut W,
-    request: Request,
-    c: &[Word],
-    prep: &[Word],
-    inputs: &[Word],
-    scratch: &mut [Word],
-    words: &[Word],
-    nonces: &[Word],
-    room: &mut [u8],
-    out: &mut [Word],
-    outputs: &mut [Word],
-) -> io::Result<()>
-    requires { length nonces.now ≡ length room.old }
-{
-    to_bytes(nonces, room);
-    call(
-        to, request, c, prep, inputs, scratch, words, room, out, outputs,
-    )
-}
-
-// Calls the entry on nonces. No list of a request is longer than the room.
-fn call_roomed<W: Write>(
-    to: &mut W,
-    request: Request,
-    c: &[Word],
-    prep: &[Word],
-    inputs: &[Word],
-    scratch: &mut [Word],
-    words: &[Word],
-    nonces: &[Word],
-    out: &mut [Word],
-    outputs: &mut [Word],
-) -> io::Result<()> {
-    if ROOM < nonces.len() {
-        return Ok(());
-    }
-    let n = nonces.len();
-    let mut room = byte_room();
-    call_bytes(
-        to,
-        request,
-        c,
-        prep,
-        inputs,
-        scratch,
-        words,
-        nonces,
-        &mut room[..n],
-        out,
-        outputs,
-    )
-}
-
-// Calls the entry on the nonces that were read, which begin their room.
-fn call_noncing<W: Write>(
-    to: &mut W,
-    request: Request,
-    c: &[Word],
-    prep: &[Word],
-    inputs: &[Word],
-    scratch: &mut [Word],
-    words: &[Word],
-    nonces: &[Word],
-    out: &mut [Word],
-    outputs: &mut [Word],
-) -> io::Result<()>
-    requires { 65536 ≤ length nonces.now }
-{
-    let read = request.read;
-    let count = within(read[NONCES] as usize);
-    call_roomed(
-        to,
-        request,
-        c,
-        prep,
-        inputs,
-        scratch,
-        words,
-        &nonces[..count],
-        out,
-        outputs,
-    )
-}
-
-// Calls the entry on the part that was read of each list that it only reads.
-fn call_given<W: Write>(
-    to: &mut W,
-    request: Request,
-    given: &[Word],
-    scratch: &mut [Word],
-    out: &mut [Word],
-    outputs: &mut [Word],
-) -> io::Result<()>
-    requires { 327680 ≤ length given.now }
-{
-    let read = request.read;
-    let c = CIRCUIT_ROOM + within(read[CIRCUIT] as usize);
-    let p = PREP_ROOM + within(read[PREP] as usize);
-    let i = INPUTS_ROOM + within(read[INPUTS] as usize);
-    let w = WORDS_ROOM + within(read[WORDS] as usize);
-    call_noncing(
-        to,
-        request,
-        &given[CIRCUIT_ROOM..c],
-        &given[PREP_ROOM..p],
-        &given[INPUTS_ROOM..i],
-        scratch,
-        &given[WORDS_ROOM..w],
-        &given[NONCES_ROOM..],
-        out,
-        outputs,
-    )
-}
-
-// The answer to a whole request. Each list is the part of its room that was read.
+// The answer to a whole request of an entry. Each list is the part of its room that was read.
 pub fn answer<W: Write>(
     to: &mut W,
+    entry: Entry,
     request: Request,
-    given: &[Word],
-    scratch: &mut [Word],
-    out: &mut [Word],
-    outputs: &mut [Word],
-) -> io::Result<()>
-    requires { 327680 ≤ length given.now }
-{
-    let read = request.read;
-    let s = part(read[SCRATCH] as usize, scratch);
-    let o = part(read[OUT] as usize, out);
-    let q = part(read[OUTPUTS] as usize, outputs);
-    call_given(
-        to,
-        request,
-        given,
-        &mut scratch[..s],
-        &mut out[..o],
-        &mut outputs[..q],
-    )
+    lists: &mut Lists,
+) -> io::Result<()> {
+    let c = &lists.circuit[..request.count(Field::Circuit)];
+    let prep = &lists.prep[..request.count(Field::Prep)];
+    let inputs = &lists.inputs[..request.count(Field::Inputs)];
+    let scratch = &mut lists.scratch[..];
+    let scratch = &mut scratch[..request.count(Field::Scratch)];
+    let words = &lists.words[..request.count(Field::Words)];
+    let out = &mut lists.out[..];
+    let out = &mut out[..request.count(Field::Out)];
+    let outputs = &mut lists.outputs[..];
+    let outputs = &mut outputs[..request.count(Field::Outputs)];
+    let count = request.count(Field::Nonces);
+    let mut bytes = room::<u8, ROOM>(0);
+    let nonces = &mut bytes[..count];
+    to_bytes(&lists.nonces[..count], nonces);
+    match entry {
+        Entry::Open => answer_open(to, request, c, prep, inputs, scratch),
+        Entry::Send => answer_send(to, request, c, prep, inputs, scratch, words, nonces, out),
+        Entry::Receive => answer_receive(to, request, c, prep, inputs, scratch, words),
+        Entry::Joint | Entry::Show => {
+            answer_joint(
+                to, entry, request, c, prep, inputs, scratch, words, nonces, out, outputs,
+            )
+        }
+        Entry::Read => answer_read(to, request, &lists.circuit, out),
+        Entry::Write => answer_write(to, request, c, &mut lists.out),
+        Entry::Score => {
+            answer_score(
+                to,
+                request,
+                &lists.circuit,
+                prep,
+                inputs,
+                scratch,
+                words,
+                nonces,
+                out,
+                outputs,
+            )
+        }
+    }
 }

@@ -1,41 +1,30 @@
 // Requests about sheets: reading, writing, and a score whose circuit is on a sheet. A text stands in a request as a list of numbers.
-ghost use Rattle.std.specs.Prelude.{◌≤◌, ◌≡◌, length};
+ghost use Rattle.std.specs.Prelude.{◌≡◌, length};
 ghost use Rattle.field.specs.Words.{size, largest};
 ghost use Rattle.forms.specs.Entry.{read_answer, read_circuit, write_answer, write_text};
 ghost use Rattle.forms.specs.Code.{answer_of};
 ghost use Rattle.requests.specs.Texts.{lows};
 
 use crate::answering::answer_joint;
+use circuit::questions::Refusal;
 use field::Word;
-use forms::Answer;
+use gates::asking::MOST_GATES;
 use gates::reading::GATE_SIZE;
 use requests::bytes::{to_bytes, to_numbers};
-use requests::entries::{print_named, print_refusal};
-use requests::naming::PARTIES;
-use requests::reading::shorter;
-use requests::request::{ROOM, Request, part};
+use requests::entries::print_refusal;
+use requests::naming::{Entry, Field};
+use requests::request::{ROOM, Request};
+use requests::storing::room;
 use std::io;
 use std::io::Write;
 
-// The most gates of a circuit that is read.
-const MOST_GATES: usize = gates::asking::MOST_GATES;
-
-// Room for a list of bytes.
-pub fn byte_room() -> [u8; 65536]
-    ensures { 65536 ≡ length result }
-{
-    [0; 65536]
-}
-
-// Room for the longest circuit.
-fn circuit_room() -> [Word; 1024]
-    ensures { 1024 ≡ length result }
-{
-    [0; 1024]
-}
-
 // The reader on numbers, whose bytes are put into a room.
-fn read_in(parties: usize, text: &[Word], room: &mut [u8], circuit: &mut [Word]) -> Answer
+fn read_in(
+    parties: usize,
+    text: &[Word],
+    room: &mut [u8],
+    circuit: &mut [Word],
+) -> Result<usize, Refusal>
     requires { length text.now ≡ length room.old }
     ensures { (answer_of result ≡ read_answer parties size largest (lows text.now) (length circuit.old))
         × (circuit.new ≡ read_circuit parties size largest (lows text.now) circuit.old) }
@@ -45,7 +34,12 @@ fn read_in(parties: usize, text: &[Word], room: &mut [u8], circuit: &mut [Word])
 }
 
 // The writer on numbers, whose bytes are put into a room and back.
-fn write_in(parties: usize, c: &[Word], room: &mut [u8], text: &mut [Word]) -> Answer
+fn write_in(
+    parties: usize,
+    c: &[Word],
+    room: &mut [u8],
+    text: &mut [Word],
+) -> Result<usize, Refusal>
     requires { length text.old ≡ length room.old }
     ensures { (answer_of result ≡ write_answer parties size c.now (length text.old))
         × (text.new ≡ write_text parties size c.now (lows text.old)) }
@@ -56,53 +50,42 @@ fn write_in(parties: usize, c: &[Word], room: &mut [u8], text: &mut [Word]) -> A
     answer
 }
 
-// No list of a request is longer than the room.
-fn too_long() -> Answer {
-    Answer::Refusal {
-        number: 0,
-        index: 0,
-    }
+// The reader on the text of a request.
+fn read_text(
+    request: Request,
+    text: &[Word; ROOM],
+    circuit: &mut [Word],
+) -> Result<usize, Refusal> {
+    let count = request.count(Field::Circuit);
+    let mut bytes = room::<u8, ROOM>(0);
+    read_in(
+        request.number(Field::Parties),
+        &text[..count],
+        &mut bytes[..count],
+        circuit,
+    )
 }
 
-// The reader on the numbers of a list.
-fn read_list(parties: usize, text: &[Word], circuit: &mut [Word]) -> Answer {
-    if ROOM < text.len() {
-        return too_long();
-    }
-    let n = text.len();
-    let mut room = byte_room();
-    read_in(parties, text, &mut room[..n], circuit)
-}
-
-// The writer on the numbers of a list.
-fn write_list(parties: usize, c: &[Word], text: &mut [Word]) -> Answer {
-    if ROOM < text.len() {
-        return too_long();
-    }
-    let n = text.len();
-    let mut room = byte_room();
-    write_in(parties, c, &mut room[..n], text)
-}
-
-fn print_answer<W: Write>(to: &mut W, name: &[u8], answer: Answer) -> io::Result<()> {
+// What is counted, by its name, or the refusal.
+fn print_answer<W: Write>(
+    to: &mut W,
+    name: &str,
+    answer: Result<usize, Refusal>,
+) -> io::Result<()> {
     match answer {
-        Answer::Refusal { number, index } => print_refusal(to, number, index),
-        Answer::Done { count } => {
-            print_named(to, name, count)?;
-            printing::print(to, b"\n")
-        }
+        Ok(count) => writeln!(to, "{name} {count}"),
+        Err(refusal) => print_refusal(to, refusal),
     }
 }
 
 pub fn answer_read<W: Write>(
     to: &mut W,
     request: Request,
-    text: &[Word],
+    text: &[Word; ROOM],
     circuit: &mut [Word],
 ) -> io::Result<()> {
-    let read = request.read;
-    let answer = read_list(read[PARTIES] as usize, text, circuit);
-    print_answer(to, b"lines", answer)?;
+    let answer = read_text(request, text, circuit);
+    print_answer(to, "lines", answer)?;
     printing::print_list(to, b"circuit", circuit)
 }
 
@@ -110,48 +93,25 @@ pub fn answer_write<W: Write>(
     to: &mut W,
     request: Request,
     c: &[Word],
-    text: &mut [Word],
+    text: &mut [Word; ROOM],
 ) -> io::Result<()> {
-    let read = request.read;
-    let answer = write_list(read[PARTIES] as usize, c, text);
-    print_answer(to, b"bytes", answer)?;
-    printing::print_list(to, b"text", text)
-}
-
-// A circuit of so many gates, from the start of a list, is run.
-fn answer_gates<W: Write>(
-    to: &mut W,
-    request: Request,
-    count: usize,
-    circuit: &[Word],
-    preps: &[Word],
-    inputs: &[Word],
-    scratch: &mut [Word],
-    coefficients: &[Word],
-    nonces: &[u8],
-    transcript: &mut [Word],
-    outputs: &mut [Word],
-) -> io::Result<()> {
-    let n = part(GATE_SIZE * shorter(count, MOST_GATES), circuit);
-    answer_joint(
-        to,
-        request,
-        &circuit[..n],
-        preps,
-        inputs,
-        scratch,
-        coefficients,
-        nonces,
-        transcript,
-        outputs,
-    )
+    let count = request.count(Field::Out);
+    let mut bytes = room::<u8, ROOM>(0);
+    let answer = write_in(
+        request.number(Field::Parties),
+        c,
+        &mut bytes[..count],
+        &mut text[..count],
+    );
+    print_answer(to, "bytes", answer)?;
+    printing::print_list(to, b"text", &text[..count])
 }
 
 // A sheet that is read is run as its circuit.
 pub fn answer_score<W: Write>(
     to: &mut W,
     request: Request,
-    text: &[Word],
+    text: &[Word; ROOM],
     preps: &[Word],
     inputs: &[Word],
     scratch: &mut [Word],
@@ -160,22 +120,24 @@ pub fn answer_score<W: Write>(
     transcript: &mut [Word],
     outputs: &mut [Word],
 ) -> io::Result<()> {
-    let read = request.read;
-    let mut circuit = circuit_room();
-    match read_list(read[PARTIES] as usize, text, &mut circuit) {
-        Answer::Refusal { number, index } => print_refusal(to, number, index),
-        Answer::Done { count } => answer_gates(
-            to,
-            request,
-            count,
-            &circuit,
-            preps,
-            inputs,
-            scratch,
-            coefficients,
-            nonces,
-            transcript,
-            outputs,
-        ),
+    let mut circuit = room::<Word, 1024>(0);
+    match read_text(request, text, &mut circuit) {
+        Err(refusal) => print_refusal(to, refusal),
+        Ok(count) => {
+            let n = GATE_SIZE * count.min(MOST_GATES);
+            answer_joint(
+                to,
+                Entry::Score,
+                request,
+                &circuit[..n],
+                preps,
+                inputs,
+                scratch,
+                coefficients,
+                nonces,
+                transcript,
+                outputs,
+            )
+        }
     }
 }

@@ -91,6 +91,7 @@ pub fn heard_ends(sums: Ends<Sum>) -> Ends<Word>
 }
 
 // m starts at the gate's record, and e is the owner's word.
+#[tactic(auto, unfolding(protocol::specs::Receive::after_input))]
 pub fn after_input(me: usize, key: Word, y: Layout, l: &mut [Word], j: usize, m: &[Word], e: Word)
     requires { (key < size) × (e < size) × (1 < length m.now) × Below size m.now × (slots_size (layout_of y) ≤ length l.old) × (j < y.gates) }
     ensures { l.new ≡ after_input ops me key (layout_of y) l.old j m.now e }
@@ -101,6 +102,7 @@ pub fn after_input(me: usize, key: Word, y: Layout, l: &mut [Word], j: usize, m:
 
 // The values that a gate opens, k of them, with the party's MAC shares: the last, and then the first. Where one is opened they are one
 // entry, so that there is nothing to test.
+#[tactic(auto, using(protocol::proofs::Steps::differences_made), unfolding(crate::specs::Code::part_of, protocol::specs::Code::layout_of))]
 fn put_differences(
     y: Layout,
     l: &mut [Word],
@@ -141,6 +143,7 @@ fn record_product(me: usize, key: Word, m: &[Word], k: usize, e: Word, d: Word) 
 }
 
 // Gate j, which names x and z and opens k values after u entries; m starts at its record.
+#[tactic(auto, using(protocol::proofs::Steps::opening_made), unfolding(crate::specs::Code::part_of, protocol::specs::Code::layout_of))]
 pub fn after_opening(
     me: usize,
     key: Word,
@@ -164,6 +167,7 @@ pub fn after_opening(
 }
 
 // The sum of the shown shares of an output of gate x is the only opened entry; m starts at the record of a give.
+#[tactic(auto, unfolding(protocol::specs::Receive::after_open_output, crate::specs::Code::part_of))]
 pub fn after_open_output(y: Layout, l: &mut [Word], x: usize, give: bool, m: &[Word], s: Word)
     requires { (slots_size (layout_of y) ≤ length l.old)
         × (0 < y.capacity)
@@ -177,6 +181,7 @@ pub fn after_open_output(y: Layout, l: &mut [Word], x: usize, give: bool, m: &[W
 }
 
 // The score of an output whose second check passes: the number at opened index 0, and of a give that number with the whole mask of its record m.
+#[tactic(auto, unfolding(protocol::specs::Receive::score))]
 pub fn score_of(l: &[Word], y: Layout, give: bool, m: &[Word]) -> Word
     requires { (slots_size (layout_of y) ≤ length l.now)
         × Opened size (layout_of y) l.now 0
@@ -206,6 +211,7 @@ pub fn score_at(c: &[Word], prep: &[Word], l: &[Word], y: Layout, j: usize, star
 }
 
 // What gate j is worked out with, where its constant is for that: a divisor's inverse, and otherwise the constant.
+#[tactic(auto, unfolding(protocol::specs::Receive::operand))]
 pub fn operand_at(c: &[Word], j: usize, role: Role) -> Word
     requires { (gate_size * j + gate_size ≤ length c.now)
         × (role_of role ≡ (shape (gate c.now j)).constant)
@@ -220,6 +226,7 @@ pub fn operand_at(c: &[Word], j: usize, role: Role) -> Word
 }
 
 // What a gate of a local kind comes to, which names x and z and is worked out with k. No other kind is local.
+#[tactic(auto, using(crate::proofs::Concluding::local_first), unfolding(circuit::specs::Kind::kind_shape, circuit::specs::Kind::is_class, protocol::specs::Receive::linear))]
 fn linear(
     me: usize,
     key: Word,
@@ -444,6 +451,7 @@ fn receive_output(
 }
 
 // Does what party i reveals fit its mark?
+#[tactic(auto, using(crate::proofs::Marking::fits_parts))]
 fn fits(marks: &[Word], heard: &[Word], i: usize) -> bool
     requires { (i * commit_words + commit_words ≤ length marks.now) × (i * reveal_words + reveal_words ≤ length heard.now) }
     ensures { result ≡ fits marks.now heard.now i }

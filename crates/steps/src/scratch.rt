@@ -13,6 +13,7 @@ use circuit::rounds::NONCE_WORDS;
 use field::Word;
 use protocol::{Layout, Slot};
 
+#[tactic(auto, using(protocol::proofs::Slots::slot_fits), unfolding(protocol::specs::Scratch::read))]
 pub fn read_slot(l: &[Word], y: Layout, s: Slot) -> Word
     requires { (slots_size (layout_of y) ≤ length l.now) × Within (layout_of y) (slot_of s) }
     ensures { result ≡ read (layout_of y) l.now (slot_of s) }
@@ -21,6 +22,7 @@ pub fn read_slot(l: &[Word], y: Layout, s: Slot) -> Word
     l[at]
 }
 
+#[tactic(auto, using(protocol::proofs::Slots::slot_fits), unfolding(protocol::specs::Scratch::write))]
 fn write_slot(l: &mut [Word], y: Layout, s: Slot, v: Word)
     requires { (slots_size (layout_of y) ≤ length l.old) × Within (layout_of y) (slot_of s) }
     ensures { l.new ≡ write (layout_of y) l.old (slot_of s) v }
@@ -29,6 +31,7 @@ fn write_slot(l: &mut [Word], y: Layout, s: Slot, v: Word)
     l[at] = v;
 }
 
+#[tactic(auto, unfolding(crate::specs::Code::part_of, protocol::specs::Scratch::wire))]
 pub fn wire_at(l: &[Word], y: Layout, x: usize) -> Part
     requires { (slots_size (layout_of y) ≤ length l.now) × Held size (layout_of y) l.now x }
     ensures { IsPart (wire (layout_of y) l.now x) result }
@@ -39,6 +42,7 @@ pub fn wire_at(l: &[Word], y: Layout, x: usize) -> Part
     }
 }
 
+#[tactic(auto, unfolding(protocol::specs::Scratch::put_wire, crate::specs::Code::part_of, protocol::specs::Code::layout_of))]
 pub fn put_wire(l: &mut [Word], y: Layout, j: usize, x: Part)
     requires { (slots_size (layout_of y) ≤ length l.old) × (j < y.gates) }
     ensures { l.new ≡ put_wire (layout_of y) l.old j (part_of x) }
@@ -47,6 +51,7 @@ pub fn put_wire(l: &mut [Word], y: Layout, j: usize, x: Part)
     write_slot(l, y, Slot::Mac(j), x.mac);
 }
 
+#[tactic(auto, unfolding(protocol::specs::Scratch::put_opened, protocol::specs::Code::layout_of))]
 pub fn put_opened(l: &mut [Word], y: Layout, t: usize, v: Word, m: Word)
     requires { (slots_size (layout_of y) ≤ length l.old) × (t < y.capacity) }
     ensures { l.new ≡ put_opened (layout_of y) l.old t v m }
@@ -56,6 +61,7 @@ pub fn put_opened(l: &mut [Word], y: Layout, t: usize, v: Word, m: Word)
 }
 
 // Notes the nonce that a commitment binds.
+#[tactic(auto, using(crate::proofs::Marking::nonce_filled), unfolding(protocol::specs::Scratch::marks_at, protocol::specs::Scratch::nonce_at))]
 pub fn put_nonce(l: &mut [Word], y: Layout, nonce: &[u8])
     requires { (marks_at (layout_of y) ≤ length l.old) × (length nonce.now ≡ nonce_size) }
     ensures { l.new ≡ put_nonce (layout_of y) l.old (words_of nonce.now) }
@@ -66,6 +72,7 @@ pub fn put_nonce(l: &mut [Word], y: Layout, nonce: &[u8])
 }
 
 // Writes the marks of all, as they were heard.
+#[tactic(auto, using(crate::proofs::Marking::marks_filled), unfolding(protocol::specs::Scratch::marks_at, protocol::specs::Scratch::nonce_at, protocol::specs::Send::overwrite))]
 pub fn put_marks(l: &mut [Word], y: Layout, heard: &[Word])
     requires { marks_at (layout_of y) + length heard.now ≤ length l.old }
     ensures { l.new ≡ put_marks (layout_of y) l.old heard.now }

@@ -36,6 +36,7 @@ fn number_at(xs: &[Word], k: usize) -> Word
 }
 
 // The word of an in gate; m starts at the gate's record, and the owner's input for it stands at k.
+#[tactic(auto, unfolding(protocol::specs::Send::input_word))]
 pub fn input_word(me: usize, owner: usize, m: &[Word], inputs: &[Word], k: usize) -> Word
     requires { (2 < length m.now) × Below size m.now × Below size inputs.now }
     ensures { Is size (input_word ops me owner m.now (get_or inputs.now k 0)) result }
@@ -47,6 +48,7 @@ pub fn input_word(me: usize, owner: usize, m: &[Word], inputs: &[Word], k: usize
 }
 
 // The party's part of the difference of gate x and the mask that stands at k; m starts at the gate's record.
+#[tactic(auto, unfolding(protocol::specs::Send::masked))]
 pub fn masked(l: &[Word], y: Layout, x: usize, m: &[Word], k: usize) -> Part
     requires { (slots_size (layout_of y) ≤ length l.now) × Held size (layout_of y) l.now x × (k + 1 < length m.now) × Below size m.now }
     ensures { IsPart (masked ops (layout_of y) l.now x m.now k) result }
@@ -55,6 +57,7 @@ pub fn masked(l: &[Word], y: Layout, x: usize, m: &[Word], k: usize) -> Part
 }
 
 // The party's part of what an output of gate x shows; a give shows it less its mask, and m starts at its record.
+#[tactic(auto, unfolding(protocol::specs::Send::shown))]
 pub fn shown_part(l: &[Word], y: Layout, x: usize, give: bool, m: &[Word]) -> Part
     requires { (slots_size (layout_of y) ≤ length l.now)
         × Held size (layout_of y) l.now x
@@ -243,6 +246,7 @@ fn send_own(
 }
 
 // The opening of output j, whose record stands at number start of the preprocessing.
+#[tactic(auto, using(protocol::proofs::Sent::overwrite_one, protocol::proofs::Readiness::tail_part, crate::proofs::Numbers::share_is))]
 fn send_output(
     c: &[Word],
     prep: &[Word],
@@ -270,6 +274,7 @@ fn send_output(
 }
 
 // What a reveal sends: the check share, and the nonce that stands in the scratch.
+#[tactic(auto, using(crate::proofs::Marking::revealed_written), unfolding(protocol::specs::Scratch::marks_at, protocol::specs::Scratch::nonce_at))]
 pub fn reveal_words(share: Word, l: &[Word], y: Layout, out: &mut [Word])
     requires { (marks_at (layout_of y) ≤ length l.now) × (reveal_words ≤ length out.old) }
     ensures { out.new ≡ overwrite (revealed share (nonce_of (layout_of y) l.now)) out.old }

@@ -40,10 +40,6 @@ pub starts_of-places-requires : goal.starts_of-places-requires
 starts_of-places-requires c =
     let s = settled _ _ (sym c.ask_setting.ensures ∙ ap verdict_of c.in_ok-ask_setting.was) in (s.valid, count_is s.valid, s.few)
 
-pub slice_bounds-run-end : goal.slice_bounds-run-end
-slice_bounds-run-end c =
-    sym c.starts_of-places.ensures.eight
-
 pub run-requires : goal.run-requires
 run-requires c =
     entry_runs _ _ _ _ _ _ _ _ _ (sym c.ask_setting.ensures ∙ ap verdict_of c.in_ok-ask_setting.was) _ c.frame_of-f.ensures (sym c.ask_lent.ensures ∙ ap verdict_of c.in_ok-ask_lent.was) c.starts_of-places.ensures

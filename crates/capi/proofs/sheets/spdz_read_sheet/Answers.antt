@@ -7,22 +7,22 @@ use lib.ListN.{length}
 use Rattle.protocol.specs.Send.{overwrite}
 use Rattle.forms.specs.Entry.{Answer}
 use Rattle.capi.specs.Numbers.{places}
-use Rattle.capi.specs.Sheets.{sheet_read, sheet_numbers, sheet_verdict}
+use Rattle.capi.specs.Sheets.{sheet_read, sheet_numbers}
 use Rattle.capi.proofs.Calling.{short_refused, short_kept, long_returned, long_left}
-use Rattle.capi.proofs.SheetCalls.{no_circuit, read_verdict, read_left, circuit_left, circuit_kept}
+use Rattle.capi.proofs.SheetCalls.{sheet_told, no_circuit, read_verdict, read_left, circuit_left, circuit_kept}
 use Rattle.capi.proofs.sheets.spdz_read_sheet.Goals as goal
 
 pub returns-then-answer-lt-PLACES : goal.returns-then-answer-lt-PLACES
 returns-then-answer-lt-PLACES c =
     let run = c.read_sheet.ensures in
-    record { returned = short_refused _ _ (omega arith) (c.sheet_verdict.ensures ∙ ap sheet_verdict run.0 ∙ read_verdict _ _ _ ∙ no_circuit _ _ _) c.returned_of.ensures; answer = short_kept _ _ (omega arith) _ _; circuit = rw (run.1 ∙ circuit_kept _ _) (short_kept _ _ (omega arith) _ _) }
+    record { returned = short_refused _ _ (omega arith) (sheet_told c.read_sheet.result run.0 (read_verdict _ _ _) ∙ no_circuit _ _ _) c.returned_of.ensures; answer = short_kept _ _ (omega arith) _ _; circuit = rw (run.1 ∙ circuit_kept _ _) (short_kept _ _ (omega arith) _ _) }
 
 pub returns : goal.returns
 returns c =
-    let run = c.read_sheet-a.ensures in
+    let run = c.read_sheet-read.ensures in
     let long : places ≤ length c.args.answer.now = omega arith in
     record {
-      returned = long_returned _ _ long (c.sheet_verdict-2.ensures ∙ ap sheet_verdict run.0 ∙ read_verdict _ _ _) c.returned_of-2.ensures;
+      returned = long_returned _ _ long (sheet_told c.read_sheet-read.result run.0 (read_verdict _ _ _)) c.returned_of-2.ensures;
       answer = long_left _ _ long _ _ (read_left _ _ _ _)
           (c.put_sheet.ensures ∙ ap (λ (a : Answer). overwrite (sheet_numbers sheet_read a) c.args.answer.now) run.0);
       circuit = long_left _ _ long _ _ (circuit_left _ _ _) run.1;

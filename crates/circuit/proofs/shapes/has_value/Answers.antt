@@ -12,12 +12,12 @@ pub returns-then-number-2 : goal.returns-then-number-2
 returns-then-number-2 c =
     ⊎_elim
     (λ l. elim c.if-number.branch [
-      then-number w ↦ rw (w.t-3-is, lt-ltb c.args.number kind_out l) (rw (lt-ltb c.args.number kind_out l) at (kind_valued _ c.requires))
-    | else-number w ↦ absurd (omega (arith, l, w.if-number.false))
+      | then-number w ↦ rw (w.t-3-is, lt-ltb c.args.number kind_out l) (rw (lt-ltb c.args.number kind_out l) at (kind_valued _ c.requires))
+      | else-number w ↦ absurd (omega (arith, l, w.if-number.false))
     ])
     (λ p. elim c.if-number.branch [
-      then-number w ↦ absurd (omega (arith, p.0, w.if-number.true))
-    | else-number w ↦ rw (w.t-3-is, eq-eqb c.args.number kind_sq p.1) (rw (le-ltb c.args.number kind_out p.0, eq-eqb c.args.number kind_sq p.1) at (kind_valued _ c.requires))
+      | then-number w ↦ absurd (omega (arith, p.0, w.if-number.true))
+      | else-number w ↦ rw (w.t-3-is, eq-eqb c.args.number kind_sq p.1) (rw (le-ltb c.args.number kind_out p.0, eq-eqb c.args.number kind_sq p.1) at (kind_valued _ c.requires))
     ])
     c.if-number-2.either
 

@@ -6,14 +6,6 @@ use Rattle.circuit.specs.Kind.{Owned, is_class}
 use Rattle.joint.proofs.Arrays.{counted_other, owner_there, owner_few, counted_in}
 use Rattle.joint.proofs.framing.count_input.Goals as goal
 
-pub class_at-requires : goal.class_at-requires
-class_at-requires c =
-    omega (arith, c.requires.2, c.requires.0.whole)
-
-pub first_at-owner-requires : goal.first_at-owner-requires
-first_at-owner-requires c =
-    omega (arith, c.requires.2, c.requires.0.whole)
-
 pub offset_bounds-counts-owner : goal.offset_bounds-counts-owner
 offset_bounds-counts-owner c =
     omega (arith, owner_there c.requires.3 c.requires.0 c.requires.1 c.requires.2 (sym (c.is_in.ensures ∙ ap (is_class Owned) c.class_at.ensures) ∙ c.if-is_in.true) c.first_at-owner.ensures, c.requires.3.eight)

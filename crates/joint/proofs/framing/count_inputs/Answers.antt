@@ -9,10 +9,6 @@ pub loop-j-init : goal.loop-j-init
 loop-j-init c =
     (omega arith, counted_none _ _)
 
-pub slice_bounds-count_input-end : goal.slice_bounds-count_input-end
-slice_bounds-count_input-end c =
-    sym c.loop-j.invariant.1.eight
-
 pub count_input-requires : goal.count_input-requires
 count_input-requires c =
     (c.requires.0, c.requires.2, omega (arith, c.loop-j-test.true, c.requires.1), counted_small c.loop-j.invariant.1 (omega (arith, c.loop-j-test.true, c.requires.1, c.requires.0.few)))

@@ -5,29 +5,9 @@ use native.Mathlib.Omega.{arith}
 use Rattle.joint.proofs.Arrays.{starting, starting_small, starting_again, starting_done}
 use Rattle.joint.proofs.framing.starts_of.Goals as goal
 
-pub count_inputs-counts-requires : goal.count_inputs-counts-requires
-count_inputs-counts-requires c =
-    (c.requires.0, c.requires.1, c.requires.2)
-
 pub loop-i-init : goal.loop-i-init
 loop-i-init c =
     starting _ _ refl
-
-pub offset_bounds-starts-i : goal.offset_bounds-starts-i
-offset_bounds-starts-i c =
-    omega (arith, c.requires.2)
-
-pub bounds-starts-i : goal.bounds-starts-i
-bounds-starts-i c =
-    omega (arith, c.requires.2)
-
-pub offset_bounds-counts-i : goal.offset_bounds-counts-i
-offset_bounds-counts-i c =
-    omega (arith, c.requires.2)
-
-pub bounds-counts-i : goal.bounds-counts-i
-bounds-counts-i c =
-    omega (arith, c.requires.2)
 
 pub overflow_add-at : goal.overflow_add-at
 overflow_add-at c =

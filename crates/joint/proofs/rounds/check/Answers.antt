@@ -22,26 +22,6 @@ pub overflow_add-last : goal.overflow_add-last
 overflow_add-last c =
     omega (arith, c.well_formed, nonces_end c.args.f.parties c.args.s.checks c.args.nonces.now c.requires.0.nonce_count)
 
-pub overflow_mul-middle : goal.overflow_mul-middle
-overflow_mul-middle c =
-    omega (arith, c.well_formed, c.requires.0.words_fit)
-
-pub overflow_add-middle : goal.overflow_add-middle
-overflow_add-middle c =
-    omega (arith, c.well_formed, c.requires.0.words_fit)
-
-pub overflow_mul-end : goal.overflow_mul-end
-overflow_mul-end c =
-    omega (arith, c.well_formed, c.requires.0.words_fit)
-
-pub overflow_add-end : goal.overflow_add-end
-overflow_add-end c =
-    omega (arith, c.well_formed, c.requires.0.words_fit)
-
-pub slice_bounds-held-end : goal.slice_bounds-held-end
-slice_bounds-held-end c =
-    omega (arith, c.requires.0.few)
-
 pub check_shares-requires : goal.check_shares-requires
 check_shares-requires c =
     (c.requires.0.few, c.requires.0.keys, c.requires.0.banded, c.requires.0.has_coefficient_count, c.requires.0.coefficients_low, c.requires.0.opened, c.requires.0.some, c.requires.0.entries, c.requires.0.common, held_room c.args.f.parties c.requires.0.few)
@@ -53,10 +33,6 @@ slice_bounds-put_nonces-end c =
 pub put_nonces-requires : goal.put_nonces-requires
 put_nonces-requires c =
     (c.requires.0.banded, nonces_cut c.args.f.parties c.args.s.checks c.args.nonces.now c.requires.0.nonce_count)
-
-pub offset_bounds-transcript-start : goal.offset_bounds-transcript-start
-offset_bounds-transcript-start c =
-    omega (arith, c.well_formed, c.requires.0.words_fit)
 
 pub commit_words-requires : goal.commit_words-requires
 commit_words-requires c =
@@ -94,17 +70,9 @@ pub heard_sum-sum-requires : goal.heard_sum-sum-requires
 heard_sum-sum-requires c =
     reveals_sum c.requires.0 c.put_nonces.ensures c.check_shares.ensures c.commit_words.ensures c.receive_marks.ensures c.reveal_words.ensures
 
-pub overflow_add-result : goal.overflow_add-result
-overflow_add-result c =
-    omega (arith, c.well_formed, c.requires.0.has_coefficient_count)
-
 pub overflow_add-result-2 : goal.overflow_add-result-2
 overflow_add-result-2 c =
     omega (arith, c.well_formed, begun_few c.requires.0)
-
-pub overflow_add-result-3 : goal.overflow_add-result-3
-overflow_add-result-3 c =
-    omega (arith, c.requires.1)
 
 pub returns : goal.returns
 returns c =

@@ -16,10 +16,6 @@ pub loop-f-init : goal.loop-f-init
 loop-f-init c =
     standing_start c.requires.0 c.requires.1
 
-pub settle-j-requires : goal.settle-j-requires
-settle-j-requires c =
-    c.loop-f.invariant.settles
-
 pub returns-then-f-j : goal.returns-then-f-j
 unfolding ending_of ended
 returns-then-f-j c =

@@ -43,10 +43,6 @@ pub receive_outputs-requires : goal.receive_outputs-requires
 receive_outputs-requires c =
     show_asks c.requires.0 c.first_at-x.ensures (shape_gives _ _ c.requires.1 c.is_give-give.ensures) c.output_words.ensures
 
-pub overflow_add-result : goal.overflow_add-result
-overflow_add-result c =
-    omega (arith, c.requires.0.rounds_few, c.requires.0.going.lent.valid.few)
-
 pub returns : goal.returns
 returns c =
     (show_moved c.requires.0 c.first_at-x.ensures (shape_gives _ _ c.requires.1 c.is_give-give.ensures) c.output_words.ensures c.heard_sum-e.ensures c.receive_outputs.ensures refl refl refl refl refl refl, record { used = refl; released = refl }, refl, refl)

@@ -23,14 +23,6 @@ pub opening_words-ends-requires : goal.opening_words-ends-requires
 opening_words-ends-requires c =
     rw (c.band.ensures, c.prep_from.ensures) (band_room c.requires.3 c.loop-i.i c.loop-i-test.true, (c.requires.4 c.loop-i.i c.loop-i-test.true).0, (c.requires.4 c.loop-i.i c.loop-i-test.true).1, c.requires.0, c.requires.1, omega (arith, cut_long c.requires.2 c.loop-i.i c.loop-i-test.true), cut_low c.requires.2 c.loop-i.i c.loop-i-test.true, part_room _ _ _ (filled_fits _ _ _ _ (put_room c.args.f.parties c.args.k c.args.out.now c.requires.5) (λ m h. opened_words_lem ops _ _ _ _ _ _ c.requires.0 c.requires.1) c.loop-i.invariant.0 c.loop-i-test.true))
 
-pub hear-sums-requires : goal.hear-sums-requires
-hear-sums-requires c = (
-  omega (arith, c.loop-i.invariant.1.below, c.loop-i-test.true, c.requires.6),
-  omega (arith, c.loop-i.invariant.2.below, c.loop-i-test.true, c.requires.6),
-  c.opening_words-ends.ensures.ends.first.below,
-  c.opening_words-ends.ensures.ends.last.below,
-)
-
 pub loop-i-preserved : goal.loop-i-preserved
 loop-i-preserved c =
     let ends : AreEnds (opened_words c.args.f c.args.preps.now c.args.scratch.now c.args.at c.args.x c.args.z c.args.k c.loop-i.i) c.args.k c.opening_words-ends.result = rw (c.band.ensures, c.prep_from.ensures) at c.opening_words-ends.ensures.ends in (
@@ -38,12 +30,6 @@ loop-i-preserved c =
       running_more laws _ _ _ c.loop-i.invariant.1 ends.first.is (omega (arith, c.loop-i.invariant.1.below, c.hear-sums.ensures.first.0), c.hear-sums.ensures.first.1),
       running_more laws _ _ _ c.loop-i.invariant.2 ends.last.is (omega (arith, c.loop-i.invariant.2.below, c.hear-sums.ensures.last.0), c.hear-sums.ensures.last.1),
     )
-
-pub heard_ends-requires : goal.heard_ends-requires
-heard_ends-requires c = (
-  omega (arith, c.loop-i.invariant.1.below, c.loop-i.invariant.0.upto, c.requires.6),
-  omega (arith, c.loop-i.invariant.2.below, c.loop-i.invariant.0.upto, c.requires.6),
-)
 
 pub returns : goal.returns
 returns c =

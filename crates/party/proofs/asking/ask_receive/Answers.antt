@@ -8,8 +8,12 @@ use Rattle.protocol.specs.Code.{stage_of}
 use Rattle.protocol.specs.Ask.{ask_receive}
 use Rattle.party.specs.Code.{position_of}
 use Rattle.protocol.proofs.Entries.{half_decides}
-use Rattle.party.proofs.Halves.{placed, receives_nothing, round_asks, few_parties, receive_asked, receivable}
+use Rattle.party.proofs.Halves.{placed, receives_nothing, scratch_laid, round_asks, few_parties, receive_asked, receivable}
 use Rattle.party.proofs.asking.ask_receive.Goals as goal
+
+pub invariant_of-scratch : goal.invariant_of-scratch
+invariant_of-scratch c =
+    record { laid = scratch_laid _ _ _ _ _ c.in_ok-layout.ensures.accepted }
 
 pub ask_receive_round-requires : goal.ask_receive_round-requires
 ask_receive_round-requires c =

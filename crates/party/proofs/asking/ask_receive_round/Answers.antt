@@ -21,4 +21,4 @@ overflow_mul-parties c =
 pub ask_heard-requires : goal.ask_heard-requires
 ask_heard-requires c =
     let long = eqb-true _ _ (ask_true 19 0 _ (sym c.ask.ensures ∙ ap verdict_of c.in_ok-ask.was)) in
-    (c.requires.1, λ e. omega (arith, long ∙ ap (λ (w : ℕ). c.args.parties * w) (c.words_in-words.ensures ∙ reveal_words_lem _ _ e)))
+    λ e. omega (arith, long ∙ ap (λ (w : ℕ). c.args.parties * w) (c.words_in-words.ensures ∙ reveal_words_lem _ _ e))

@@ -8,8 +8,12 @@ use Rattle.protocol.specs.Code.{stage_of}
 use Rattle.protocol.specs.Ask.{ask_send}
 use Rattle.party.specs.Code.{position_of}
 use Rattle.protocol.proofs.Entries.{half_decides}
-use Rattle.party.proofs.Halves.{placed, sends_nothing, round_asks, send_asked, sendable}
+use Rattle.party.proofs.Halves.{placed, sends_nothing, scratch_laid, round_asks, send_asked, sendable}
 use Rattle.party.proofs.asking.ask_send.Goals as goal
+
+pub invariant_of-scratch : goal.invariant_of-scratch
+invariant_of-scratch c =
+    record { laid = scratch_laid _ _ _ _ _ c.in_ok-layout.ensures.accepted }
 
 pub ask_send_round-requires : goal.ask_send_round-requires
 ask_send_round-requires c =

@@ -2,11 +2,11 @@
 -- Assumes nothing.
 use mathlib.Core.Path.{ap, ◌∙◌}
 use lib.ListN.{length}
-use Rattle.requests.proofs.Passing.{length_lows}
+use Rattle.std.proofs.lemmas.List.{length-map}
 use Rattle.replay.proofs.sheets.write_in.Goals as goal
 
 pub returns : goal.returns
 returns c =
     let put = c.to_bytes.ensures in
     let written = c.write_sheet-answer.ensures in
-    (rw (← ap length put ∙ length_lows _) written.0, rw (← put) (c.to_numbers.ensures ∙ written.1))
+    (rw (← ap length put ∙ length-map _ _) written.0, rw (← put) (c.to_numbers.ensures ∙ written.1))

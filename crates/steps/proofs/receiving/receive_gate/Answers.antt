@@ -48,7 +48,3 @@ receive_own-requires c =
 pub resume-requires : goal.resume-requires
 resume-requires c =
     stands _ _ _ _ c.requires.ready c.reach-stop.ensures
-
-pub returns : goal.returns
-returns c =
-    record { point = c.resume.ensures; scratch = c.receive_own.ensures }

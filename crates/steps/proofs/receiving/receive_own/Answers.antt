@@ -28,10 +28,6 @@ pub after_input-requires : goal.after_input-requires
 after_input-requires c =
     input_asks _ _ _ _ c.requires.0.ready (own_owned c.requires.0.ready c.requires.2 (sym c.is_in.ensures ∙ c.if-is_in.true)) c.requires.4.first.below (tail_part c.args.at.prep c.args.prep.now)
 
-pub overflow_add-j : goal.overflow_add-j
-overflow_add-j c =
-    omega (arith, c.requires.0.ready.sited.within, c.requires.0.ready.valid.few)
-
 pub settle-requires : goal.settle-requires
 settle-requires c =
     (input_settles laws _ _ _ _ c.requires.0.ready _ _ _ c.after_input.ensures, c.requires.1)
@@ -55,10 +51,6 @@ slice_bounds-after_opening-start c =
 pub after_opening-requires : goal.after_opening-requires
 after_opening-requires c =
     (opening_asks _ _ _ _ c.requires.0.ready (own_opens c.requires.0.ready c.requires.2 (sym c.is_in.ensures ∙ c.if-is_in.false)) (tail_part c.args.at.prep c.args.prep.now) c.requires.3 c.requires.4.first.below c.requires.4.second.below)
-
-pub overflow_add-j-2 : goal.overflow_add-j-2
-overflow_add-j-2 c =
-    omega (arith, c.requires.0.ready.sited.within, c.requires.0.ready.valid.few)
 
 pub settle-requires-2 : goal.settle-requires-2
 settle-requires-2 c =

@@ -34,10 +34,6 @@ pub judge-ruling-requires : goal.judge-ruling-requires
 judge-ruling-requires c =
     judge_asks _ _ _ _ _ c.requires c.marks_at-start.ensures
 
-pub release-requires : goal.release-requires
-release-requires c =
-    (rw c.in-Second.is at c.requires.ready)
-
 pub returns-in-Err : goal.returns-in-Err
 returns-in-Err c =
     concludes_stopped _ _ _ _ _ (judged _ _ _ _ _ c.requires c.marks_at-start.ensures c.judge-ruling.ensures) c.in-Err.is c.aborted_at.ensures

@@ -7,21 +7,9 @@ use Rattle.protocol.proofs.Received.{commit_received}
 use Rattle.steps.proofs.Concluding.{marks_ask, found_other, concludes_passed}
 use Rattle.steps.proofs.receiving.receive_step.Goals as goal
 
-pub receive_gate-requires : goal.receive_gate-requires
-receive_gate-requires c =
-    (rw c.in-Own.is at c.requires)
-
-pub receive_output-requires : goal.receive_output-requires
-receive_output-requires c =
-    (rw c.in-Open.is at c.requires)
-
 pub put_marks-requires : goal.put_marks-requires
 put_marks-requires c =
     marks_ask _ _ _ _ _ (rw c.in-Commit.is at c.requires)
-
-pub receive_reveal-requires : goal.receive_reveal-requires
-receive_reveal-requires c =
-    (rw c.in-Reveal.is at c.requires)
 
 pub returns-in-Own : goal.returns-in-Own
 returns-in-Own c =
@@ -37,7 +25,3 @@ pub returns-in-Commit : goal.returns-in-Commit
 returns-in-Commit c =
     let asked = (rw c.in-Commit.is at c.requires) in
     rw c.in-Commit.is (concludes_passed _ _ _ (Commit _) _ (found_other _ _ (Commit _) _ refl) refl asked.ready.occurs c.sending_at-in-Commit.ensures (commit_received ops _ _ _ _ _ _ asked.ready c.put_marks.ensures))
-
-pub returns-in-Reveal : goal.returns-in-Reveal
-returns-in-Reveal c =
-    rw c.in-Reveal.is c.receive_reveal.ensures

@@ -9,10 +9,6 @@ use Rattle.protocol.proofs.Readiness.{resume_waits}
 use Rattle.circuit.proofs.KindLaws.{shape_small}
 use Rattle.steps.proofs.receiving.resume.Goals as goal
 
-pub shape_at-requires : goal.shape_at-requires
-shape_at-requires c =
-    omega (arith, c.requires.within, c.requires.whole)
-
 pub unchecked_after-waiting_after-requires : goal.unchecked_after-waiting_after-requires
 unchecked_after-waiting_after-requires c =
     (omega (arith, c.requires.waits, unchecked_few c.args.c.now c.args.j, c.requires.within, c.requires.few), (shape_small _ _ c.shape_at.ensures).1)

@@ -1,17 +1,10 @@
 -- `steps::sending::opening_words` meets its contract: one word or two are written in order, and the first and the last are told.
 -- Assumes nothing.
-use borrow.Author.Rules.{rules}
 use native.Mathlib.Omega.{arith}
-use Prim.Native.Nat.{◌<◌}
-use lib.ListN.{length}
 use Rattle.field.specs.Words.{ops}
 use Rattle.steps.proofs.Numbers.{share_is, ends_one, ends_two}
 use Rattle.protocol.proofs.Sent.{opening_one, opening_two}
 use Rattle.steps.proofs.sending.opening_words.Goals as goal
-
-pub bounds-out-1 : goal.bounds-out-1
-bounds-out-1 c =
-    let h : 1 < length c.args.out.now = omega (arith, c.requires.7, c.if-k-eq2.true) in search rules
 
 pub returns-then-k-eq2 : goal.returns-then-k-eq2
 returns-then-k-eq2 c =

@@ -10,14 +10,6 @@ use Rattle.protocol.proofs.Readiness.{tail_part, part_below, part_longer, gate_t
 use Rattle.circuit.proofs.KindLaws.{shape_class, shape_openings}
 use Rattle.steps.proofs.sending.send_own.Goals as goal
 
-pub shape_at-s-requires : goal.shape_at-s-requires
-shape_at-s-requires c =
-    gate_there _ _ _ _ _ c.requires.0
-
-pub first_at-x-requires : goal.first_at-x-requires
-first_at-x-requires c =
-    gate_there _ _ _ _ _ c.requires.0
-
 pub offset_bounds-prep-start : goal.offset_bounds-prep-start
 offset_bounds-prep-start c =
     omega (arith, (sends_input _ _ _ _ 0 [] [] _ (own_sends _ _ _ _ c.requires.0 c.requires.1) (own_owned c.requires.0 (shape_class _ _ c.shape_at-s.ensures) (sym c.is_in.ensures ∙ c.if-is_in.true))).1, c.well_formed)

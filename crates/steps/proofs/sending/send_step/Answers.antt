@@ -11,10 +11,6 @@ use Rattle.protocol.proofs.Readiness.{prep_some, capacity_some}
 use Rattle.steps.proofs.Committing.{commit_asks, commit_sent, commit_noted, reveal_asks, reveal_sent, noted_none}
 use Rattle.steps.proofs.sending.send_step.Goals as goal
 
-pub send_own-requires : goal.send_own-requires
-send_own-requires c =
-    let s = (rw c.in-Own.is at c.requires) in (s.ready, s.space)
-
 pub send_output-requires : goal.send_output-requires
 send_output-requires c =
     sends_output _ _ _ _ _ _ _ _ (rw c.in-Open.is at c.requires)

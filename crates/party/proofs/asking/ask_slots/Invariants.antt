@@ -1,8 +1,0 @@
-use Rattle.field.specs.Words.{size}
-use Rattle.protocol.specs.Ask.{slot_question}
-use Rattle.party.specs.Code.{sort_of, wanted_of}
-use Rattle.circuit.proofs.Loops.{Asking}
-use Rattle.party.proofs.asking.ask_slots.Given as goal
-
-abbrev pub invariant-loop-t : goal.invariant-loop-t
-invariant-loop-t l = Asking (λ t. slot_question size l.c l.l (wanted_of l.c l.sort t) (sort_of l.sort t)) l.k l.t
