@@ -1,17 +1,15 @@
 -- Loops that ask the same question of one thing after another.
 -- Assumes nothing.
 use Prim.Native.Nat.{ℕ, ◌+◌, ◌<◌, ◌≤◌}
-use mathlib.Core.Path.{◌≡◌, refl, sym, ap, ◌∙◌}
+use mathlib.Core.Path.{◌≡◌, refl, sym}
 use mathlib.Core.Logic.{◌↔◌}
 use mathlib.Core.Bool.{Bool, true, false}
 use mathlib.Core.List.{List}
 use native.Mathlib.Omega.{arith}
 use lib.ListN.{length, get_or}
 use borrow.Author.Count.{below_more}
-use Rattle.circuit.specs.Verdict.{Verdict, Accepted, Refused, ask, ◌then◌, each}
-use Rattle.circuit.specs.Code.{verdict_was}
-use Rattle.circuit.specs.declared.Verdict as D
-use Rattle.circuit.proofs.Verdicts.{ask_yes, ask_no, each_none, each_more, each_refused, each_done, then_refused, then_passed}
+use Rattle.circuit.specs.Verdict.{Verdict, Accepted, Refused, ◌then◌, each}
+use Rattle.circuit.proofs.Verdicts.{each_none, each_more, each_refused, each_done}
 
 -- of the n questions the first k are asked and passed
 pub record Asking (f : ℕ → Verdict) (n k : ℕ) : Type 0 where
@@ -56,21 +54,3 @@ pub then_assoc : (a b c : Verdict) → ((a then b) then c) ≡ (a then b then c)
 unfolding ◌then◌
 then_assoc Accepted b c = refl
 then_assoc (Refused number index) b c = refl
-
--- for a `return` in a chain of questions: v is the answer so far
-module _ (number index : ℕ) {b : Bool} (rest : Verdict) where
-  pub yes_then : {v : Verdict} → b ≡ true → v ≡ rest → v ≡ (ask number index b then rest)
-  yes_then e g = g ∙ sym (then_passed rest (ask_yes number index e))
-
-  pub no_then : b ≡ false → Refused number index ≡ (ask number index b then rest)
-  no_then e = sym (then_refused rest (ask_no number index e))
-
--- the same where the question is a call, which answered r
-module _ (a rest : Verdict) {r : D.Verdict} (e : verdict_was r ≡ a) where
-  pub call_then : {v : Verdict} → r ≡ D.Verdict.Accepted → v ≡ rest → v ≡ (a then rest)
-  unfolding verdict_was
-  call_then t g = g ∙ sym (then_passed rest (sym e ∙ ap verdict_was t))
-
-  pub refused_then : {number index : ℕ} → r ≡ D.Verdict.Refused number index → Refused number index ≡ (a then rest)
-  unfolding verdict_was
-  refused_then t = sym (then_refused rest (sym e ∙ ap verdict_was t))

@@ -1,13 +1,10 @@
 -- What the code's types stand for.
 -- Assumes nothing.
 use Rattle.std.specs.Prelude.{ℕ, ◌≡◌, List}
-use Rattle.circuit.specs.Verdict as Q
 use Rattle.circuit.specs.Gate as G
 use Rattle.circuit.specs.Kind as K
 use Rattle.circuit.specs.Count.{total, count, prep_at, input_at, unchecked}
 use Rattle.circuit.specs.Round as R
-use Rattle.circuit.specs.declared.Verdict.{Verdict}
-use Rattle.circuit.specs.declared.Verdict.TheVariants.{Accepted, Refused}
 use Rattle.circuit.specs.declared.Kind.{Kind}
 use Rattle.circuit.specs.declared.Kind.TheVariants.{In, Add, Sub, Plus, Times, Mul, Out, Sq, Give, Over}
 use Rattle.circuit.specs.declared.Class.{Class}
@@ -21,11 +18,6 @@ use Rattle.circuit.specs.declared.Round.TheVariants.{Own, Open, Commit, Reveal}
 use Rattle.circuit.specs.declared.Shape.{Shape}
 use Rattle.circuit.specs.declared.Tally.{Tally}
 use Rattle.circuit.specs.declared.Totals.{Totals}
-
--- a refusal's number and index
-unfoldable pub verdict_was : Verdict → Q.Verdict
-verdict_was Accepted = Q.Accepted
-verdict_was (Refused number index) = Q.Refused number index
 
 abbrev pub kind_of : Kind → G.Kind
 kind_of In = G.In

@@ -1,17 +1,10 @@
-// The circuit format as far as no field element is in it: kinds and what they tell, rounds, counts, and verdicts on questions.
+// The circuit format as far as no field element is in it: kinds and what they tell, rounds, counts, and questions.
 #![tactic(auto)]
 
 pub mod counting;
 pub mod questions;
 pub mod rounds;
 pub mod shapes;
-
-// What a list of questions comes to: the first no has a number and an index.
-#[derive(Clone, Copy)]
-pub enum Verdict {
-    Accepted,
-    Refused { number: u32, index: usize },
-}
 
 // Each kind has its number.
 #[derive(Clone, Copy, PartialEq, Eq)]
