@@ -18,14 +18,6 @@ const ROOM: usize = 4096;
 // The most bytes of a number and the space before it.
 const WIDTH: usize = 11;
 
-pub fn print<W: Write>(to: &mut W, text: &[u8]) -> io::Result<()> {
-    to.write_all(text)
-}
-
-pub fn print_number<W: Write>(to: &mut W, n: u64) -> io::Result<()> {
-    write!(to, " {n}")
-}
-
 // Puts a space and a number's digits at a place of a text. Where they end. `write!` of them takes more than twice the time.
 fn put_number(text: &mut [u8], at: usize, n: Word) -> usize
     requires { at + 11 ≤ length text.old }

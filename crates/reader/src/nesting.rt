@@ -24,6 +24,7 @@ use tokens::{numbers, table, words};
 pub const DEEPEST: usize = 16;
 
 // The byte that is wanted stands here, or it is refused.
+#[inline(always)]
 pub fn want(text: &[u8], at: usize, b: u8) -> Result<(), Refusal>
     ensures { verdict_of result ≡ ask 22 at (is_at text.now at b) }
 {
@@ -31,6 +32,7 @@ pub fn want(text: &[u8], at: usize, b: u8) -> Result<(), Refusal>
 }
 
 // What was read of words and numbers, or a refusal of the byte at which it dies.
+#[inline(always)]
 fn placed<T>(read: Result<T, usize>) -> Result<T, Refusal>
     ensures { Placed read result }
 {
@@ -44,6 +46,7 @@ fn placed<T>(read: Result<T, usize>) -> Result<T, Refusal>
 }
 
 // Closes a form at its bracket: its gate is written, unless there are 256 before it.
+#[inline(always)]
 fn close_gate(
     lines: &mut [Word; crate::MOST_NUMBERS],
     at: usize,
@@ -69,6 +72,7 @@ fn close_gate(
 }
 
 // The gate of a form with an operand and a number, which is its constant or its second number, as its word has it.
+#[inline(always)]
 fn close_scaled(
     lines: &mut [Word; crate::MOST_NUMBERS],
     at: usize,
@@ -87,6 +91,7 @@ fn close_scaled(
 }
 
 // (w N). A name makes no gate of its own.
+#[inline(always)]
 fn read_leaf(
     text: &&[u8],
     table: &&[Word],
@@ -117,6 +122,7 @@ fn read_leaf(
 
 // (w F)
 #[cycle(nesting)]
+#[inline(always)]
 fn read_one(
     text: &&[u8],
     table: &&[Word],
@@ -137,6 +143,7 @@ fn read_one(
 
 // (w F N)
 #[cycle(nesting)]
+#[inline(always)]
 fn read_scaled(
     text: &&[u8],
     table: &&[Word],
@@ -158,6 +165,7 @@ fn read_scaled(
 
 // (w F F)
 #[cycle(nesting)]
+#[inline(always)]
 fn read_two(
     text: &&[u8],
     table: &&[Word],

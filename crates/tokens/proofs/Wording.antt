@@ -1,19 +1,18 @@
 -- Letters against the table of words: the library's tests of slices are the machine's, and the words are asked along the table.
 -- Assumes nothing.
-use Prim.Native.Nat.{ℕ, suc, ◌+◌, ◌≤◌, ◌<◌}
+use Prim.Native.Nat.{ℕ, suc, ◌+◌, ◌-◌, ◌≤◌, ◌<◌}
 use mathlib.Core.Path.{◌≡◌, refl, sym, ap, ◌∙◌}
 use mathlib.Core.Bool.{Bool, true, false, cond, not, ◌&&◌, ◌||◌, true≢false}
 use mathlib.Core.List.{List, [], ◌∷◌, ◌++◌}
 use mathlib.Core.Option.{some, none}
 use native.Mathlib.Omega.{arith}
 use native.Mathlib.Numerals.{add-one}
-use lib.ListN.{length, get_or, drop, drop_of_length-le, length-drop}
+use lib.ListN.{length, get_or, take, drop, drop_of_length-le, length-drop}
 use lib.Seq.{drop-cons, get_or-drop}
 use lib.Dec.{eqb, ltb, eqb-suc-suc, eqb-zero-suc}
 use lib.Pointwise.{pointwise}
-use borrow.Author.Tests.{eqb-true}
-use Rattle.std.specs.List.{between, starts_with}
-use Rattle.std.proofs.lemmas.Slice.{between_to_end}
+use borrow.Author.Tests.{eq-eqb, ne_eqb, eqb-true}
+use Rattle.std.specs.List.{starts_with}
 use Rattle.std.proofs.lemmas.Bool.Decides.{nat_tests}
 use Rattle.circuit.proofs.Tests.{both_left, both_right}
 use Rattle.forms.specs.declared.Head.{Head}
@@ -58,35 +57,36 @@ pub right_no : (a : Bool) {b : Bool} → b ≡ false → (a && b) ≡ false
 right_no true e = e
 right_no false e = refl
 
--- bytes and one more
-last_in : (w ys : List ℕ) (b : ℕ) → starts (w ++ (b ∷ [])) ys ≡ (starts w ys && is_at ys (length w) b)
-unfolding starts is_at
-last_in [] [] b = refl
-last_in [] (y ∷ ys) b = grind (arith, nat_tests)
-last_in (x ∷ w) [] b = refl
-last_in (x ∷ w) (y ∷ ys) b =
-    let e : ltb (suc (length w)) (suc (length ys)) ≡ ltb (length w) (length ys) = grind (arith, nat_tests) in
-    rw (e, last_in w ys b) (and_assoc (eqb x y) (starts w ys) (is_at ys (length w) b))
+-- bytes that stand in front of others, byte by byte
+pub stand_short : (w ys : List ℕ) → length ys < length w → starts w ys ≡ false
+unfolding starts
+stand_short [] ys h = absurd (omega arith)
+stand_short (x ∷ w) [] h = refl
+stand_short (x ∷ w) (y ∷ ys) h = rw (stand_short w ys (omega arith)) (go (eqb x y))
+  where
+    go : (b : Bool) → (b && false) ≡ false
+    go true = refl
+    go false = refl
 
-at_drop : (text : List ℕ) (from k b : ℕ) → is_at (drop from text) k b ≡ is_at text (from + k) b
-unfolding is_at
-at_drop text from k b = rw (get_or-drop from text k 0, length-drop from text) (grind (arith, nat_tests))
+module _ (w text : List ℕ) (from : ℕ) where
+  pub stand_none : starts w (drop from text) ≡ starts (drop 0 w) (drop (from + 0) text)
+  stand_none = let e : from + 0 ≡ from = omega arith in rw e
 
-pub last_stands : (w text : List ℕ) (from b : ℕ) → starts (w ++ (b ∷ [])) (drop from text) ≡ (starts w (drop from text) && is_at text (from + length w) b)
-last_stands w text from b = last_in w (drop from text) b ∙ ap (λ (c : Bool). starts w (drop from text) && c) (at_drop text from (length w) b)
+  module _ (k : ℕ) (h : k < length w) (l : from + k < length text) where
+    pub stand_differs : (get_or w k 0 ≡ get_or text (from + k) 0 → ⊥) → starts (drop k w) (drop (from + k) text) ≡ false
+    unfolding starts
+    stand_differs d = rw (drop-cons w k 0 h, drop-cons text (from + k) 0 l, ne_eqb (get_or w k 0) (get_or text (from + k) 0) d)
 
--- the code's tests of the bytes l, which are w, and of one more
-module _ {r : Bool} {l : List ℕ} (w text : List ℕ) (from : ℕ) (e : l ≡ w) where
-  pub stands_here : r ≡ starts_with eqb (between from (length text) text) l → starts w (drop from text) ≡ r
-  stands_here f =
-      ap (starts w) (sym (between_to_end text from (length text) (omega arith))) ∙ rw e at (sym (starts_lem l (between from (length text) text)) ∙ sym f)
+    pub stand_more : get_or w k 0 ≡ get_or text (from + k) 0 →
+        starts (drop k w) (drop (from + k) text) ≡ starts (drop (k + 1) w) (drop (from + (k + 1)) text)
+    unfolding starts
+    stand_more d =
+        let e : from + (k + 1) ≡ suc (from + k) = omega arith in
+        rw (drop-cons w k 0 h, drop-cons text (from + k) 0 l, eq-eqb (get_or w k 0) (get_or text (from + k) 0) d, e, add-one k)
 
-  module _ (b : ℕ) where
-    pub stands_told : starts w (drop from text) ≡ true → r ≡ is_at text (from + length l) b → r ≡ starts (w ++ (b ∷ [])) (drop from text)
-    stands_told s t = t ∙ rw e (sym (last_stands w text from b ∙ rw s))
-
-    pub stands_not : starts w (drop from text) ≡ r → r ≡ false → r ≡ starts (w ++ (b ∷ [])) (drop from text)
-    stands_not s t = t ∙ sym (last_stands w text from b ∙ rw (s ∙ t))
+  pub stand_all : (k : ℕ) → length w ≤ k → starts (drop k w) (drop (from + k) text) ≡ true
+  unfolding starts
+  stand_all k h = rw (drop_of_length-le w h)
 
 -- what stands in front of a list begins it
 pub stand_rest : (w ys : List ℕ) → starts w ys ≡ true → (r : List ℕ) × (ys ≡ w ++ r)

@@ -7,7 +7,7 @@ ghost use Rattle.forms.specs.Form.{named, naught};
 ghost use Rattle.forms.specs.Machine.{is_digit, begins, name_lives, any_named};
 ghost use Rattle.tokens.specs.Code.{known, lives_as, fits_as, NumberRead, DigitsAre, leading, Behind, NameIs};
 
-use crate::{Name, Number};
+use crate::{Name, Number, words};
 use field::Word;
 
 const TEN: usize = 10;
@@ -91,7 +91,7 @@ fn lives(table: &[Word], naming: bool, v: usize) -> bool
     }
 }
 
-// May they end?
+// May they end? (A function of its own: it has but the numbers in common with the one above, and a closure for the names would be no plainer.)
 #[tactic(auto, unfolding(crate::specs::Code::fits_as))]
 fn fits(table: &[Word], naming: bool, v: usize) -> bool
     ensures { result ≡ fits_as table.now naming v }
@@ -104,6 +104,7 @@ fn fits(table: &[Word], naming: bool, v: usize) -> bool
 }
 
 // Digits without a leading zero as far as a bracket, if that is what stands here, and their value is no larger than a word.
+#[inline(always)]
 fn read_digits(text: &[u8], from: usize) -> Option<Number>
     ensures { IfSome result (λ n. DigitsAre text.now from n.value n.to) }
 {
@@ -170,6 +171,7 @@ fn read_slowly(text: &[u8], table: &[Word], from: usize, naming: bool) -> Result
 }
 
 // A number or a name and where its bracket is, or the byte at which it dies.
+#[inline(always)]
 pub fn read_number(text: &[u8], table: &[Word], from: usize, naming: bool) -> Result<Number, usize>
     requires { (from ≤ length text.now) × (length table.now ≤ most_gates) }
     ensures { NumberRead text.now table.now naming from result }
@@ -187,7 +189,7 @@ fn read_behind(text: &[u8], from: usize, w: &[u8]) -> Option<Number>
     requires { from ≤ length text.now }
     ensures { IfSome result (λ n. Behind text.now w.now from n.value n.to) }
 {
-    if !text[from..].starts_with(w) {
+    if !words::bytes_stand(text, from, w) {
         return None;
     }
     read_digits(text, from + w.len())

@@ -57,6 +57,7 @@ fn valued(sort: Sort, kind: Word, first: Role, second: Role, constant: Role) -> 
     }
 }
 
+#[inline(always)]
 pub fn row(h: Head) -> Row
     ensures { RowOf h result }
 {
