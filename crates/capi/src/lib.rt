@@ -61,7 +61,7 @@ const DONE: u64 = 1;
 
 const ABORTED_RUN: u64 = 2;
 
-// The numbers of halves, and of the ends of a run.
+// The numbers that C knows of halves, and of the ends of a run.
 const SEND: u32 = 0;
 
 const RECEIVE: u32 = 1;
@@ -288,7 +288,7 @@ fn without_room<T>(asked: &Result<T, questions::Refusal>) -> Refusal
             number: Question::Room.number(),
             index: 0,
         },
-        Err(refusal) => Refusal::from(*refusal),
+        Err(_) => returned_of(asked),
     }
 }
 

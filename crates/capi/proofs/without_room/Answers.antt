@@ -12,4 +12,4 @@ returns-in-Ok g c =
 pub returns-in-Err : goal.returns-in-Err
 unfolding ◌then◌ returned
 returns-in-Err g c =
-    rw c.in-Err.is c.from.ensures
+    rw c.in-Err.is (rw c.in-Err.is at c.returned_of.ensures)
