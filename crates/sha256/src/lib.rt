@@ -28,12 +28,15 @@ const WORD_BITS: usize = 32;
 // The bit 1 that ends a message.
 const END: u32 = 0x8000_0000;
 
-// Writes words over the front of a list.
+// Writes words over the front of a list. One by one: where the compiler cannot tell that the lists lie apart, `copy_from_slice` is a call of `memmove`,
+// which whoever links the archive would have to bring.
 pub fn copy(from: &[u32], to: &mut [u32])
     requires { length from.now ≤ length to.old }
     ensures { to.new ≡ from.now ++ drop (length from.now) to.old }
 {
-    to[..from.len()].copy_from_slice(from);
+    for i in 0..from.len() {
+        to[i] = from[i];
+    }
 }
 
 // The hash of a message. The message is padded where its schedule is worked out, so that nothing is copied twice.
