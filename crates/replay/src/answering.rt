@@ -28,10 +28,15 @@ fn print_ending<W: Write>(to: &mut W, answer: Result<Ending, Refusal>) -> io::Re
     }
 }
 
+// So many numbers of a list, no more than it has.
+fn part(list: &mut [Word], n: usize) -> &mut [Word] {
+    let n = n.min(list.len());
+    &mut list[..n]
+}
+
 // A joint run of a circuit: the lists that it may write, or its rounds.
 pub fn answer_joint<W: Write>(
     to: &mut W,
-    entry: Entry,
     request: Request,
     c: &[Word],
     preps: &[Word],
@@ -55,7 +60,7 @@ pub fn answer_joint<W: Write>(
         outputs,
     );
     print_ending(to, answer)?;
-    if entry == Entry::Joint {
+    if request.entry == Some(Entry::Joint) {
         printing::print_list(to, b"scratch", scratch)?;
         printing::print_list(to, b"transcript", transcript)?;
         return printing::print_list(to, b"outputs", outputs);
@@ -91,51 +96,36 @@ fn print_shown<W: Write>(
     }
 }
 
-// The answer to a whole request of an entry. Each list is the part of its room that was read.
-pub fn answer<W: Write>(
-    to: &mut W,
-    entry: Entry,
-    request: Request,
-    lists: &mut Lists,
-) -> io::Result<()> {
-    let c = &lists.circuit[..request.count(Field::Circuit)];
-    let prep = &lists.prep[..request.count(Field::Prep)];
-    let inputs = &lists.inputs[..request.count(Field::Inputs)];
-    let scratch = &mut lists.scratch[..];
-    let scratch = &mut scratch[..request.count(Field::Scratch)];
-    let words = &lists.words[..request.count(Field::Words)];
-    let out = &mut lists.out[..];
-    let out = &mut out[..request.count(Field::Out)];
-    let outputs = &mut lists.outputs[..];
-    let outputs = &mut outputs[..request.count(Field::Outputs)];
-    let count = request.count(Field::Nonces);
+// The answer to a whole request. Each list is the part of its room that was read.
+pub fn answer<W: Write>(to: &mut W, request: Request, lists: &mut Lists) -> io::Result<()> {
+    let c = part(&mut *lists.circuit, request.count(Field::Circuit));
+    let prep = part(&mut *lists.prep, request.count(Field::Prep));
+    let inputs = part(&mut *lists.inputs, request.count(Field::Inputs));
+    let scratch = part(&mut *lists.scratch, request.count(Field::Scratch));
+    let words = part(&mut *lists.words, request.count(Field::Words));
+    let out = part(&mut *lists.out, request.count(Field::Out));
+    let outputs = part(&mut *lists.outputs, request.count(Field::Outputs));
+    let read = part(&mut *lists.nonces, request.count(Field::Nonces));
+    let count = read.len().min(ROOM);
     let mut bytes = room::<u8, ROOM>(0);
     let nonces = &mut bytes[..count];
-    to_bytes(&lists.nonces[..count], nonces);
-    match entry {
-        Entry::Open => answer_open(to, request, c, prep, inputs, scratch),
-        Entry::Send => answer_send(to, request, c, prep, inputs, scratch, words, nonces, out),
-        Entry::Receive => answer_receive(to, request, c, prep, inputs, scratch, words),
-        Entry::Joint | Entry::Show => {
+    to_bytes(&read[..count], nonces);
+    match request.entry {
+        Some(Entry::Open) => answer_open(to, request, c, prep, inputs, scratch),
+        Some(Entry::Send) => answer_send(to, request, c, prep, inputs, scratch, words, nonces, out),
+        Some(Entry::Receive) => answer_receive(to, request, c, prep, inputs, scratch, words),
+        Some(Entry::Joint | Entry::Show) => {
             answer_joint(
-                to, entry, request, c, prep, inputs, scratch, words, nonces, out, outputs,
+                to, request, c, prep, inputs, scratch, words, nonces, out, outputs,
             )
         }
-        Entry::Read => answer_read(to, request, &lists.circuit, out),
-        Entry::Write => answer_write(to, request, c, &mut lists.out),
-        Entry::Score => {
+        Some(Entry::Read) => answer_read(to, request, c, out),
+        Some(Entry::Write) => answer_write(to, request, c, out),
+        Some(Entry::Score) => {
             answer_score(
-                to,
-                request,
-                &lists.circuit,
-                prep,
-                inputs,
-                scratch,
-                words,
-                nonces,
-                out,
-                outputs,
+                to, request, c, prep, inputs, scratch, words, nonces, out, outputs,
             )
         }
+        None => Ok(()),
     }
 }

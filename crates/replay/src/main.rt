@@ -31,16 +31,15 @@ fn next_line(number: u64, request: Request) -> Course {
     }
 }
 
-// A byte of a line, where there is room for it.
-fn put_byte(line: &mut [u8], b: u8, course: Course) -> Course {
-    let length = match course.length {
+// A byte of a line, where there is room for it. How many bytes the line has then.
+fn put_byte(line: &mut [u8], b: u8, length: Option<usize>) -> Option<usize> {
+    match length {
         Some(at) if at < line.len() => {
             line[at] = b;
             Some(at + 1)
         }
         _ => None,
-    };
-    Course { length, ..course }
+    }
 }
 
 // A whole line. A request that is complete is answered.
@@ -52,9 +51,9 @@ fn take_line<W: Write>(
     lists: &mut Lists,
 ) -> io::Result<Request> {
     let read = storing::read_line(to, number, line, request, lists)?;
-    if let Wanted::Complete(entry) = read.wanted {
-        answering::answer(to, entry, read, lists)?;
-        return Ok(started(Wanted::Outside));
+    if read.wanted == Wanted::Complete {
+        answering::answer(to, read, lists)?;
+        return Ok(started(None, Wanted::Outside));
     }
     Ok(read)
 }
@@ -73,7 +72,7 @@ fn end_line<W: Write>(
             take_line(to, number, &line[..end], course.request, lists)?
         }
         None => {
-            reading::complain(to, number, "more than 1048576 bytes")?;
+            reading::complain(to, number, b"more than 1048576 bytes")?;
             dropped(course.request)
         }
     };
@@ -90,11 +89,11 @@ fn feed<W: Write>(
 ) -> io::Result<Course> {
     let mut now = course;
     for b in piece {
-        now = if *b == b'\n' {
-            end_line(to, line, now, lists)?
+        if *b == b'\n' {
+            now = end_line(to, line, now, lists)?;
         } else {
-            put_byte(line, *b, now)
-        };
+            now.length = put_byte(line, *b, now.length);
+        }
     }
     Ok(now)
 }
@@ -116,7 +115,7 @@ fn replay<R: Read, W: Write>(
     line: &mut [u8],
     lists: &mut Lists,
 ) -> io::Result<()> {
-    let mut course = next_line(0, started(Wanted::Outside));
+    let mut course = next_line(0, started(None, Wanted::Outside));
     for _ in 0..u64::MAX {
         let count = from.read(piece)?;
         if count == 0 {
@@ -128,15 +127,23 @@ fn replay<R: Read, W: Write>(
 }
 
 fn main(rt: HostRuntime) -> io::Result<()> {
+    let mut circuit = room::<Word, ROOM>(0);
+    let mut prep = room::<Word, ROOM>(0);
+    let mut inputs = room::<Word, ROOM>(0);
+    let mut scratch = room::<Word, ROOM>(0);
+    let mut words = room::<Word, ROOM>(0);
+    let mut nonces = room::<Word, ROOM>(0);
+    let mut out = room::<Word, ROOM>(0);
+    let mut outputs = room::<Word, ROOM>(0);
     let mut lists = Lists {
-        circuit: room::<Word, ROOM>(0),
-        prep: room::<Word, ROOM>(0),
-        inputs: room::<Word, ROOM>(0),
-        scratch: room::<Word, ROOM>(0),
-        words: room::<Word, ROOM>(0),
-        nonces: room::<Word, ROOM>(0),
-        out: room::<Word, ROOM>(0),
-        outputs: room::<Word, ROOM>(0),
+        circuit: &mut circuit,
+        prep: &mut prep,
+        inputs: &mut inputs,
+        scratch: &mut scratch,
+        words: &mut words,
+        nonces: &mut nonces,
+        out: &mut out,
+        outputs: &mut outputs,
     };
     replay(
         &mut rt.stdin(),

@@ -12,7 +12,7 @@ use gates::asking::MOST_GATES;
 use gates::reading::GATE_SIZE;
 use requests::bytes::{to_bytes, to_numbers};
 use requests::entries::print_refusal;
-use requests::naming::{Entry, Field};
+use requests::naming::Field;
 use requests::request::{ROOM, Request};
 use requests::storing::room;
 use std::io;
@@ -50,13 +50,9 @@ fn write_in(
     answer
 }
 
-// The reader on the text of a request.
-fn read_text(
-    request: Request,
-    text: &[Word; ROOM],
-    circuit: &mut [Word],
-) -> Result<usize, Refusal> {
-    let count = request.count(Field::Circuit);
+// The reader on the text of a request, which is no longer than its room.
+fn read_text(request: Request, text: &[Word], circuit: &mut [Word]) -> Result<usize, Refusal> {
+    let count = text.len().min(ROOM);
     let mut bytes = room::<u8, ROOM>(0);
     read_in(
         request.number(Field::Parties),
@@ -81,7 +77,7 @@ fn print_answer<W: Write>(
 pub fn answer_read<W: Write>(
     to: &mut W,
     request: Request,
-    text: &[Word; ROOM],
+    text: &[Word],
     circuit: &mut [Word],
 ) -> io::Result<()> {
     let answer = read_text(request, text, circuit);
@@ -93,9 +89,9 @@ pub fn answer_write<W: Write>(
     to: &mut W,
     request: Request,
     c: &[Word],
-    text: &mut [Word; ROOM],
+    text: &mut [Word],
 ) -> io::Result<()> {
-    let count = request.count(Field::Out);
+    let count = text.len().min(ROOM);
     let mut bytes = room::<u8, ROOM>(0);
     let answer = write_in(
         request.number(Field::Parties),
@@ -104,14 +100,14 @@ pub fn answer_write<W: Write>(
         &mut text[..count],
     );
     print_answer(to, "bytes", answer)?;
-    printing::print_list(to, b"text", &text[..count])
+    printing::print_list(to, b"text", text)
 }
 
 // A sheet that is read is run as its circuit.
 pub fn answer_score<W: Write>(
     to: &mut W,
     request: Request,
-    text: &[Word; ROOM],
+    text: &[Word],
     preps: &[Word],
     inputs: &[Word],
     scratch: &mut [Word],
@@ -127,7 +123,6 @@ pub fn answer_score<W: Write>(
             let n = GATE_SIZE * count.min(MOST_GATES);
             answer_joint(
                 to,
-                Entry::Score,
                 request,
                 &circuit[..n],
                 preps,

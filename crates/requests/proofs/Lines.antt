@@ -123,7 +123,7 @@ module _ (line : List ℕ) (q : Request) {w : Span} (first : Word line 0 w) wher
       unfolding take_line empty
       named_line = rw (is_named, word_text first, ← word_start first, ← word_end first, ne_eqb w.start w.end some, ne_eqb (get_or line 0 0) 35 plain)
 
-      pub line_entry : {entry : Entry} {v : Span} → named ≡ Some entry → Word line w.end v → goes (begin entry (eqb v.start v.end) q) ≡ take_line line q
+      pub line_entry : {entry : Entry} {v : Span} → named ≡ Some entry → Word line w.end v → goes (begin (Some entry) (eqb v.start v.end) q) ≡ take_line line q
       unfolding empty
       line_entry e after = rw (named_line, e, ← word_end first, ← word_start after, ← word_end after)
 

@@ -1,6 +1,6 @@
 -- The fields of a request come in the order of docs/REPLAY.md's table.
 -- Assumes nothing.
-use Rattle.std.specs.Prelude.{ℕ, zero, suc, List, [], ◌∷◌, ◌++◌, Option, Some, None}
+use Rattle.std.specs.Prelude.{ℕ, zero, suc, List, [], ◌∷◌, ◌++◌, Option}
 use Prim.Native.String as T
 use mathlib.Core.Path.{◌≡◌, refl}
 use Rattle.text.specs.Text.{is_space, belongs}
@@ -10,23 +10,17 @@ use Rattle.requests.specs.declared.request.Wanted.{Wanted}
 use Rattle.requests.specs.declared.request.Wanted.TheVariants as W
 use Rattle.requests.specs.Words.{start_from, end_from, word_from, ends, nth}
 use Rattle.requests.specs.Names.{bytes, entry_name, entries, entry_named, row, fields, field_name, has}
-use Rattle.requests.specs.Order.{following}
+use Rattle.requests.specs.Order.{wanted_name, following, next}
 
--- the names of the fields from what is wanted on, at most so many, each before a space
-unfoldable pub course : ℕ → Wanted → List ℕ
-course zero wanted = []
-course (suc n) (W.Field entry field) = field_name entry field ++ (32 ∷ course n (following entry field))
-course (suc n) (W.Complete entry) = []
-course (suc n) W.Outside = []
-course (suc n) W.Lost = []
+-- the names of an entry's fields from what is wanted on, at most so many, each before a space
+unfoldable pub course : ℕ → Option Entry → Wanted → List ℕ
+course zero entry wanted = []
+course (suc n) entry W.Complete = []
+course (suc n) entry wanted = wanted_name entry wanted ++ (32 ∷ course n entry (next entry wanted))
 
--- those of an entry, and of the entry of a name
-unfoldable pub lent_to : Option Entry → List ℕ
-lent_to None = []
-lent_to (Some entry) = course 11 (W.Field entry F.Parties)
-
+-- those of the entry of a name
 unfoldable pub lent : T.String → List ℕ
-lent name = lent_to (entry_named (bytes name))
+lent name = course 11 (entry_named (bytes name)) (W.Field F.Parties)
 
 pub record Table : Type 0 where
   pub opened : lent "open" ≡ bytes "parties party circuit prep inputs scratch "
@@ -39,5 +33,5 @@ pub record Table : Type 0 where
   pub scored : lent "score" ≡ bytes "parties text preps inputs scratch coefficients nonces transcript outputs "
 
 pub in_order : Table
-unfolding is_space belongs start_from end_from word_from ends nth bytes entry_name entries entry_named row fields field_name has following course lent_to lent
+unfolding is_space belongs start_from end_from word_from ends nth bytes entry_name entries entry_named row fields field_name has following course lent
 in_order = record { opened = refl; sent = refl; received = refl; joined = refl; shown = refl; read = refl; written = refl; scored = refl }

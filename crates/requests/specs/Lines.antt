@@ -7,15 +7,14 @@ use Rattle.text.specs.declared.Fault.{Fault}
 use Rattle.text.specs.declared.Fault.TheVariants.{Unlike, TooLarge, TooMany}
 use Rattle.party.specs.declared.Position as At
 use Rattle.requests.specs.declared.naming.Entry.{Entry}
-use Rattle.requests.specs.declared.naming.Field.{Field}
 use Rattle.requests.specs.declared.naming.Field.TheVariants as F
 use Rattle.requests.specs.declared.reading.Step.{Step}
 use Rattle.requests.specs.declared.request.Request.{Request}
 use Rattle.requests.specs.declared.request.Wanted.{Wanted}
 use Rattle.requests.specs.declared.request.Wanted.TheVariants as W
 use Rattle.requests.specs.Words.{start_from, end_from, word_from, ends, nth}
-use Rattle.requests.specs.Names.{field_name, entry_named, stage_named}
-use Rattle.requests.specs.Order.{started, moved_on, dropped, with_number, standing, placed}
+use Rattle.requests.specs.Names.{entry_named, stage_named}
+use Rattle.requests.specs.Order.{wanted_name, started, moved_on, dropped, with_number, standing, placed}
 
 -- "`parties` and `party` are followed by one number."
 unfoldable pub one_of : X.Ending → List ℕ → Result ℕ Fault
@@ -59,26 +58,24 @@ abbrev pub lists : Request → ℕ → Step
 lists q place = record { request = q; list = Some place }
 
 -- what follows the name of what is wanted
-abbrev pub take_wanted : Field → List ℕ → ℕ → Request → Step
-take_wanted F.Parties rest place q = goes (take_number rest q)
-take_wanted F.Party rest place q = goes (take_number rest q)
-take_wanted F.Position rest place q = goes (take_position rest q)
-take_wanted field rest place q = lists q place
+abbrev pub take_wanted : Wanted → List ℕ → ℕ → Request → Step
+take_wanted (W.Field F.Parties) rest place q = goes (take_number rest q)
+take_wanted (W.Field F.Party) rest place q = goes (take_number rest q)
+take_wanted (W.Field F.Position) rest place q = goes (take_position rest q)
+take_wanted wanted rest place q = lists q place
 
 -- "Reading goes on with the next line that begins with an entry's name": others are skipped in a dropped request, and "a line that begins with another word" drops it.
 abbrev pub take_at : Wanted → List ℕ → List ℕ → ℕ → Request → Step
-take_at (W.Field entry field) name rest place q =
-    cond (alike name (field_name entry field)) (take_wanted field rest place q) (goes (dropped q))
-take_at (W.Complete entry) name rest place q = goes (dropped q)
-take_at W.Outside name rest place q = goes (dropped q)
 take_at W.Lost name rest place q = goes q
+take_at wanted name rest place q =
+    cond (alike name (wanted_name q.entry wanted)) (take_wanted wanted rest place q) (goes (dropped q))
 
 abbrev pub take_field : List ℕ → List ℕ → ℕ → Request → Step
 take_field name rest place q = take_at q.wanted name rest place q
 
 -- "Nothing may follow the name of an entry": bare says that nothing does.
-abbrev pub begin : Entry → Bool → Request → Request
-begin entry bare q = cond bare (started (W.Field entry F.Parties)) (dropped q)
+abbrev pub begin : Option Entry → Bool → Request → Request
+begin entry bare q = cond bare (started entry (W.Field F.Parties)) (dropped q)
 
 -- whether there is no word at or after a place
 unfoldable pub empty : List ℕ → ℕ → Bool
@@ -86,7 +83,7 @@ empty line from = eqb (start_from line from) (end_from line from)
 
 -- a line with a word, by the entry that its first word names
 abbrev pub take_named : Option Entry → List ℕ → Request → Step
-take_named (Some entry) line q = goes (begin entry (empty line (end_from line 0)) q)
+take_named (Some entry) line q = goes (begin (Some entry) (empty line (end_from line 0)) q)
 take_named None line q = take_field (word_from line 0) (drop (end_from line 0) line) (end_from line 0) q
 
 -- "A line with no word, or whose first byte is `#`, is skipped, within a request too."

@@ -1,6 +1,6 @@
 -- The names of entries, fields and stages, as docs/REPLAY.md has them, and which of them a word is.
 -- Assumes nothing.
-use Rattle.std.specs.Prelude.{ℕ, Bool, not, List, [], ◌∷◌, ◌++◌, Option}
+use Rattle.std.specs.Prelude.{ℕ, Bool, not, List, [], ◌∷◌, ◌++◌, Option, Some, None}
 use Rattle.std.specs.List.{find}
 use Prim.Native.Char.{code}
 use Prim.Native.String as T
@@ -34,16 +34,17 @@ entry_name E.Score = bytes "score"
 unfoldable pub entries : List Entry
 entries = E.Open ∷ E.Send ∷ E.Receive ∷ E.Joint ∷ E.Show ∷ E.Read ∷ E.Write ∷ E.Score ∷ []
 
--- docs/REPLAY.md's table, a row for each entry: the names of what it is lent, in their order, and `-` for what it is not lent
-unfoldable pub row : Entry → List ℕ
-row E.Open = bytes "parties party circuit prep inputs scratch - - - - -"
-row E.Send = bytes "parties party circuit prep inputs scratch position coefficients nonce out -"
-row E.Receive = bytes "parties party circuit prep inputs scratch position heard - - -"
-row E.Joint = bytes "parties - circuit preps inputs scratch - coefficients nonces transcript outputs"
-row E.Show = bytes "parties - circuit preps inputs scratch - coefficients nonces transcript outputs"
-row E.Read = bytes "parties - text - - - - - - circuit -"
-row E.Write = bytes "parties - circuit - - - - - - text -"
-row E.Score = bytes "parties - text preps inputs scratch - coefficients nonces transcript outputs"
+-- docs/REPLAY.md's table, a row for each entry: the names of what it is lent, in their order, and `-` for what it is not lent; that of an entry of another name is `joint`'s
+unfoldable pub row : Option Entry → List ℕ
+row (Some E.Open) = bytes "parties party circuit prep inputs scratch - - - - -"
+row (Some E.Send) = bytes "parties party circuit prep inputs scratch position coefficients nonce out -"
+row (Some E.Receive) = bytes "parties party circuit prep inputs scratch position heard - - -"
+row (Some E.Joint) = bytes "parties - circuit preps inputs scratch - coefficients nonces transcript outputs"
+row (Some E.Show) = bytes "parties - circuit preps inputs scratch - coefficients nonces transcript outputs"
+row (Some E.Read) = bytes "parties - text - - - - - - circuit -"
+row (Some E.Write) = bytes "parties - circuit - - - - - - text -"
+row (Some E.Score) = bytes "parties - text preps inputs scratch - coefficients nonces transcript outputs"
+row None = bytes "parties - circuit preps inputs scratch - coefficients nonces transcript outputs"
 
 -- all fields, in the order of their names in a row, and the place of each
 unfoldable pub fields : List Field
@@ -62,11 +63,11 @@ place F.Nonces = 8
 place F.Out = 9
 place F.Outputs = 10
 
-unfoldable pub field_name : Entry → Field → List ℕ
+unfoldable pub field_name : Option Entry → Field → List ℕ
 field_name entry field = nth (place field) (row entry)
 
 -- whether an entry is lent a field
-unfoldable pub has : Entry → Field → Bool
+unfoldable pub has : Option Entry → Field → Bool
 has entry field = not (alike (bytes "-") (field_name entry field))
 
 unfoldable pub round_name : Round → List ℕ

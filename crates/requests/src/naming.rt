@@ -106,24 +106,24 @@ fn entry_name(entry: Entry) -> &'static [u8]
     }
 }
 
-// The names of an entry's fields. A row has - where the entry lacks the field.
+// The names of an entry's fields; None is an entry of another name, whose row is that of joint. A row has - where the entry lacks the field.
 #[tactic(auto, unfolding(crate::specs::Names::bytes, crate::specs::Names::row))]
-fn row(entry: Entry) -> &'static [u8]
+fn row(entry: Option<Entry>) -> &'static [u8]
     ensures { result.now ≡ row entry }
 {
     match entry {
-        Entry::Open => b"parties party circuit prep inputs scratch - - - - -",
-        Entry::Send => {
+        Some(Entry::Open) => b"parties party circuit prep inputs scratch - - - - -",
+        Some(Entry::Send) => {
             b"parties party circuit prep inputs scratch position coefficients nonce out -"
         }
-        Entry::Receive => b"parties party circuit prep inputs scratch position heard - - -",
-        Entry::Joint | Entry::Show => {
-            b"parties - circuit preps inputs scratch - coefficients nonces transcript outputs"
-        }
-        Entry::Read => b"parties - text - - - - - - circuit -",
-        Entry::Write => b"parties - circuit - - - - - - text -",
-        Entry::Score => {
+        Some(Entry::Receive) => b"parties party circuit prep inputs scratch position heard - - -",
+        Some(Entry::Read) => b"parties - text - - - - - - circuit -",
+        Some(Entry::Write) => b"parties - circuit - - - - - - text -",
+        Some(Entry::Score) => {
             b"parties - text preps inputs scratch - coefficients nonces transcript outputs"
+        }
+        Some(Entry::Joint | Entry::Show) | None => {
+            b"parties - circuit preps inputs scratch - coefficients nonces transcript outputs"
         }
     }
 }
@@ -141,7 +141,7 @@ pub fn nth_word(words: &[u8], k: usize) -> Span
 }
 
 #[tactic(auto, using(crate::proofs::Lines::nth_text), unfolding(crate::specs::Names::field_name))]
-pub fn field_name(entry: Entry, field: Field) -> &'static [u8]
+pub fn field_name(entry: Option<Entry>, field: Field) -> &'static [u8]
     ensures { result.now ≡ field_name entry field }
 {
     let names = row(entry);
@@ -151,7 +151,7 @@ pub fn field_name(entry: Entry, field: Field) -> &'static [u8]
 
 // Is an entry lent a field?
 #[tactic(auto, unfolding(crate::specs::Names::bytes, crate::specs::Names::has))]
-pub fn has(entry: Entry, field: Field) -> bool
+pub fn has(entry: Option<Entry>, field: Field) -> bool
     ensures { result ≡ has entry field }
 {
     field_name(entry, field) != b"-".as_slice()

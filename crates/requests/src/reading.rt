@@ -1,13 +1,14 @@
 // Reading a line of a request. An error is the writer's, where a complaint is printed, and leaves what is lent as it was.
-ghost use Rattle.std.specs.Prelude.{◌≡◌, ◌⊎◌, true, IfOk, OnErr};
+ghost use Rattle.std.specs.Prelude.{◌≡◌, ◌⊎◌, true, IfOk, IsOk, OnErr};
 ghost use Rattle.requests.specs.Order.{placed, awaits, dropped as drops};
 ghost use Rattle.requests.specs.Lines as L;
 ghost use Rattle.requests.specs.Lines.{goes as skips, one_in, position_in, goes, take_number, take_position, take_wanted, take_field, take_line};
 
-use crate::naming::{Entry, Field, entry_named, field_name, nth_word, stage_named};
+use crate::naming::{Entry, Field, entry_named, nth_word, stage_named};
 use crate::request::{Request, Wanted, dropped, moved_on, started, with_number, with_position};
 use party::Position;
 use protocol::Stage;
+use std::convert::AsSlice;
 use std::io;
 use std::io::Write;
 use text::Fault;
@@ -21,26 +22,40 @@ pub struct Step {
     pub list: Option<usize>,
 }
 
-pub fn complain<W: Write>(to: &mut W, number: u64, message: &str) -> io::Result<()> {
-    writeln!(to, "line {number}: {message}")
+// A message is a text or its bytes.
+pub fn complain<W: Write, M: AsSlice<u8> + Drop>(
+    to: &mut W,
+    number: u64,
+    message: M,
+) -> io::Result<()> {
+    write!(to, "line {number}: ")?;
+    to.write_all(message.as_slice())?;
+    writeln!(to)
 }
 
 // What was to come in a request, or outside of one.
-fn complain_wanted<W: Write>(to: &mut W, number: u64, wanted: Wanted) -> io::Result<()> {
+fn complain_wanted<W: Write>(to: &mut W, number: u64, request: Request) -> io::Result<()> {
     write!(to, "line {number}: ")?;
-    match wanted {
-        Wanted::Field(entry, field) => to.write_all(field_name(entry, field))?,
-        _ => write!(to, "the name of an entry")?,
+    match request.wanted {
+        Wanted::Outside => write!(to, "the name of an entry")?,
+        _ => to.write_all(request.wanted_name())?,
     }
     writeln!(to, " is wanted")
 }
 
-// What is wrong with numbers.
-pub fn complain_numbers<W: Write>(to: &mut W, number: u64, fault: Fault) -> io::Result<()> {
-    match fault {
-        Fault::Unlike => complain(to, number, "not a number"),
-        Fault::TooLarge => complain(to, number, "a number above 4294967295"),
-        Fault::TooMany => complain(to, number, "more than 65536 numbers"),
+// What is wrong with numbers, where anything is.
+pub fn complain_numbers<W: Write>(
+    to: &mut W,
+    number: u64,
+    read: Result<usize, Fault>,
+) -> io::Result<()>
+    ensures { IsOk read → IsOk result }
+{
+    match read {
+        Ok(_) => Ok(()),
+        Err(Fault::Unlike) => complain(to, number, "not a number"),
+        Err(Fault::TooLarge) => complain(to, number, "a number above 4294967295"),
+        Err(Fault::TooMany) => complain(to, number, "more than 65536 numbers"),
     }
 }
 
@@ -58,7 +73,7 @@ fn one_number(rest: &[u8]) -> Result<u32, Fault>
 fn complain_one<W: Write>(to: &mut W, number: u64, fault: Fault) -> io::Result<()> {
     match fault {
         Fault::TooMany => complain(to, number, "one number is wanted"),
-        _ => complain_numbers(to, number, fault),
+        _ => complain_numbers(to, number, Err(fault)),
     }
 }
 
@@ -140,21 +155,22 @@ fn goes(request: Request) -> Step
     }
 }
 
-// The line of the field that is wanted; its list begins at a place.
+// The line of what is wanted; its list begins at a place.
 fn take_wanted<W: Write>(
     to: &mut W,
     number: u64,
-    field: Field,
     rest: &[u8],
     start: usize,
     request: Request,
 ) -> io::Result<Step>
-    ensures told { IfOk result (λ s. s ≡ take_wanted field rest.now start request) }
-    ensures err { OnErr result (take_wanted field rest.now start request ≡ skips (drops request)) }
+    ensures told { IfOk result (λ s. s ≡ take_wanted request.wanted rest.now start request) }
+    ensures err { OnErr result (take_wanted request.wanted rest.now start request ≡ skips (drops request)) }
 {
-    match field {
-        Field::Parties | Field::Party => Ok(goes(take_number(to, number, rest, request)?)),
-        Field::Position => Ok(goes(take_position(to, number, rest, request)?)),
+    match request.wanted {
+        Wanted::Field(Field::Parties | Field::Party) => {
+            Ok(goes(take_number(to, number, rest, request)?))
+        }
+        Wanted::Field(Field::Position) => Ok(goes(take_position(to, number, rest, request)?)),
         _ => Ok(Step {
             request,
             list: Some(start),
@@ -176,11 +192,9 @@ fn take_field<W: Write>(
 {
     match request.wanted {
         Wanted::Lost => Ok(goes(request)),
-        Wanted::Field(entry, field) if name == field_name(entry, field) => {
-            take_wanted(to, number, field, rest, start, request)
-        }
-        wanted => {
-            complain_wanted(to, number, wanted)?;
+        _ if name == request.wanted_name() => take_wanted(to, number, rest, start, request),
+        _ => {
+            complain_wanted(to, number, request)?;
             Ok(goes(dropped(request)))
         }
     }
@@ -190,7 +204,7 @@ fn take_field<W: Write>(
 fn begin<W: Write>(
     to: &mut W,
     number: u64,
-    entry: Entry,
+    entry: Option<Entry>,
     bare: bool,
     request: Request,
 ) -> io::Result<Request>
@@ -202,7 +216,7 @@ fn begin<W: Write>(
         complain(to, number, "nothing may follow the name of an entry")?;
         return Ok(dropped(request));
     }
-    Ok(started(Wanted::Field(entry, Field::Parties)))
+    Ok(started(entry, Wanted::Field(Field::Parties)))
 }
 
 // A line of the input.
@@ -222,7 +236,8 @@ pub fn take_line<W: Write>(
     match entry_named(&line[word.start..word.end]) {
         Some(entry) => {
             let after = text::word_from(line, word.end);
-            Ok(goes(begin(to, number, entry, after.start == after.end, request)?))
+            let bare = after.start == after.end;
+            Ok(goes(begin(to, number, Some(entry), bare, request)?))
         }
         None => take_field(
             to,
@@ -239,8 +254,8 @@ pub fn take_line<W: Write>(
 pub fn take_end<W: Write>(to: &mut W, number: u64, request: Request) -> io::Result<()>
     ensures { OnErr result (awaits request.wanted ≡ true) }
 {
-    if let Wanted::Field(_, _) = request.wanted {
-        complain_wanted(to, number, request.wanted)?;
+    if let Wanted::Field(_) = request.wanted {
+        complain_wanted(to, number, request)?;
     }
     Ok(())
 }

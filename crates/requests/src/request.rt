@@ -2,7 +2,7 @@
 ghost use Rattle.std.specs.Prelude.{◌≤◌, ◌≡◌};
 ghost use Rattle.requests.specs.Order as O;
 
-use crate::naming::{Entry, FIELDS, Field, has};
+use crate::naming::{Entry, FIELDS, Field, field_name, has};
 use circuit::Round;
 use party::Position;
 use protocol::Stage;
@@ -10,24 +10,35 @@ use protocol::Stage;
 // The most numbers of a list.
 pub const ROOM: usize = 65536;
 
-// What the next line is to have: a field of an entry; or none, for the request is complete, has not begun, or is dropped.
-#[derive(Clone, Copy)]
+// What the next line is to have: a field; or none, for the request is complete, has not begun, or is dropped.
+#[derive(Clone, Copy, PartialEq, Eq)]
 pub enum Wanted {
-    Field(Entry, Field),
-    Complete(Entry),
+    Field(Field),
+    Complete,
     Outside,
     Lost,
 }
 
-// What comes next, the position, and the number that is read of each field: of a list it is the length.
+// The entry, what comes next, the position, and the number that is read of each field: of a list it is the length.
 #[derive(Clone, Copy)]
 pub struct Request {
+    pub entry: Option<Entry>,
     pub wanted: Wanted,
     pub at: Position,
     pub read: [u32; 11],
 }
 
 impl Request {
+    // The name of the field that is wanted; it is empty where none is.
+    pub fn wanted_name(self) -> &'static [u8]
+        ensures { result.now ≡ O.wanted_name self.entry self.wanted }
+    {
+        match self.wanted {
+            Wanted::Field(field) => field_name(self.entry, field),
+            _ => b"",
+        }
+    }
+
     // The number that is read of a field.
     pub fn number(self, field: Field) -> usize
         ensures { result ≡ O.number_of self field }
@@ -43,11 +54,12 @@ impl Request {
     }
 }
 
-// A request of which nothing is read.
-pub fn started(wanted: Wanted) -> Request
-    ensures { result ≡ O.started wanted }
+// A request of which only the entry is known.
+pub fn started(entry: Option<Entry>, wanted: Wanted) -> Request
+    ensures { result ≡ O.started entry wanted }
 {
     Request {
+        entry,
         wanted,
         at: Position {
             gate: 0,
@@ -59,26 +71,25 @@ pub fn started(wanted: Wanted) -> Request
 }
 
 // What comes next in a request of an entry: the first field after one that the entry has.
-fn following(entry: Entry, field: Field) -> Wanted
+fn following(entry: Option<Entry>, field: Field) -> Wanted
     ensures { result ≡ O.following entry field }
 {
     let after = field.place() + 1;
     match FIELDS[after..].iter().find(|next| has(entry, **next)) {
-        Some(next) => Wanted::Field(entry, *next),
-        None => Wanted::Complete(entry),
+        Some(next) => Wanted::Field(*next),
+        None => Wanted::Complete,
     }
 }
 
+// After no field a request is complete.
 pub fn moved_on(request: Request) -> Request
     ensures { result ≡ O.moved_on request }
 {
-    match request.wanted {
-        Wanted::Field(entry, field) => Request {
-            wanted: following(entry, field),
-            ..request
-        },
-        _ => request,
-    }
+    let wanted = match request.wanted {
+        Wanted::Field(field) => following(request.entry, field),
+        _ => Wanted::Complete,
+    };
+    Request { wanted, ..request }
 }
 
 pub fn dropped(request: Request) -> Request
@@ -95,7 +106,7 @@ pub fn with_number(request: Request, n: u32) -> Request
     ensures { result ≡ O.with_number request n }
 {
     let mut next = request;
-    if let Wanted::Field(_, field) = request.wanted {
+    if let Wanted::Field(field) = request.wanted {
         next.read[field.place()] = n;
     }
     next

@@ -2,37 +2,37 @@
 ghost use Rattle.std.specs.Prelude.{◌≡◌, length};
 
 use crate::bytes::all_bytes;
-use crate::naming::{Field, field_name};
+use crate::naming::Field;
 use crate::reading::{complain, complain_numbers, take_line};
 use crate::request::{ROOM, Request, Wanted, dropped, moved_on, with_number};
 use field::Word;
 use std::io;
 use std::io::Write;
 
-// Room for a list of each field that is one.
+// Room for a list of each field that is one; a list has no more numbers than its room.
 #[derive(Drop)]
-pub struct Lists {
-    pub circuit: [Word; ROOM],
-    pub prep: [Word; ROOM],
-    pub inputs: [Word; ROOM],
-    pub scratch: [Word; ROOM],
-    pub words: [Word; ROOM],
-    pub nonces: [Word; ROOM],
-    pub out: [Word; ROOM],
-    pub outputs: [Word; ROOM],
+pub struct Lists<'a> {
+    pub circuit: &'a mut [Word],
+    pub prep: &'a mut [Word],
+    pub inputs: &'a mut [Word],
+    pub scratch: &'a mut [Word],
+    pub words: &'a mut [Word],
+    pub nonces: &'a mut [Word],
+    pub out: &'a mut [Word],
+    pub outputs: &'a mut [Word],
 }
 
-impl Lists {
+impl Lists<'_> {
     fn room(&mut self, field: Field) -> Option<&mut [Word]> {
         match field {
-            Field::Circuit => Some(&mut self.circuit),
-            Field::Prep => Some(&mut self.prep),
-            Field::Inputs => Some(&mut self.inputs),
-            Field::Scratch => Some(&mut self.scratch),
-            Field::Words => Some(&mut self.words),
-            Field::Nonces => Some(&mut self.nonces),
-            Field::Out => Some(&mut self.out),
-            Field::Outputs => Some(&mut self.outputs),
+            Field::Circuit => Some(&mut *self.circuit),
+            Field::Prep => Some(&mut *self.prep),
+            Field::Inputs => Some(&mut *self.inputs),
+            Field::Scratch => Some(&mut *self.scratch),
+            Field::Words => Some(&mut *self.words),
+            Field::Nonces => Some(&mut *self.nonces),
+            Field::Out => Some(&mut *self.out),
+            Field::Outputs => Some(&mut *self.outputs),
             Field::Parties | Field::Party | Field::Position => None,
         }
     }
@@ -46,13 +46,8 @@ pub fn room<T: Copy, const N: usize>(zero: T) -> [T; N]
 }
 
 // Is what is wanted bytes? A text is, and so are nonces.
-fn wants_bytes(wanted: Wanted) -> bool {
-    match wanted {
-        Wanted::Field(entry, field) => {
-            field == Field::Nonces || field_name(entry, field) == b"text".as_slice()
-        }
-        _ => false,
-    }
+fn wants_bytes(request: Request) -> bool {
+    request.wanted == Wanted::Field(Field::Nonces) || request.wanted_name() == b"text".as_slice()
 }
 
 // Reads the list that is wanted, which begins at a place of the line, into its room.
@@ -65,19 +60,18 @@ fn take_list<W: Write>(
     list: &mut [Word],
 ) -> io::Result<Request> {
     let start = from.min(line.len());
-    match text::read_numbers(&line[start..], list) {
+    let read = text::read_numbers(&line[start..], list);
+    complain_numbers(to, number, read)?;
+    match read {
         Ok(n) => {
             let count = n.min(list.len());
-            if wants_bytes(request.wanted) && !all_bytes(&list[..count]) {
+            if wants_bytes(request) && !all_bytes(&list[..count]) {
                 complain(to, number, "a byte above 255")?;
                 return Ok(dropped(request));
             }
             Ok(moved_on(with_number(request, n.min(ROOM) as u32)))
         }
-        Err(fault) => {
-            complain_numbers(to, number, fault)?;
-            Ok(dropped(request))
-        }
+        Err(_) => Ok(dropped(request)),
     }
 }
 
@@ -91,7 +85,7 @@ pub fn read_line<W: Write>(
 ) -> io::Result<Request> {
     let step = take_line(to, number, line, request)?;
     let next = step.request;
-    let (Some(from), Wanted::Field(_, field)) = (step.list, next.wanted) else {
+    let (Some(from), Wanted::Field(field)) = (step.list, next.wanted) else {
         return Ok(next);
     };
     match lists.room(field) {
