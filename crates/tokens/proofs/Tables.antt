@@ -11,7 +11,7 @@ use borrow.Author.Tests.{ltb-true, ltb-false}
 use Rattle.circuit.proofs.Tests.{by_cases}
 use Rattle.circuit.specs.Code.{role_of}
 use Rattle.forms.specs.declared.Head.{Head}
-use Rattle.forms.specs.Words.{sort, kind, names, valued, shape_of}
+use Rattle.forms.specs.Words.{sort, kind, letters, names, valued, shape_of}
 use Rattle.forms.specs.Form.{named}
 use Rattle.forms.specs.Machine.{any_named}
 use Rattle.tokens.specs.declared.Row.{Row}
@@ -19,11 +19,12 @@ use Rattle.tokens.specs.Code.{RowOf, known, gates_at}
 
 -- words -----------------------------------------------------------------------------------------------------------------
 
-pub row_as : {h k : Head} {r s : Row} → h ≡ k → r ≡ s → s.sort ≡ sort k → s.kind ≡ kind k →
+pub row_as : {h k : Head} {r s : Row} → h ≡ k → r ≡ s → s.length ≡ length (letters k) → s.sort ≡ sort k → s.kind ≡ kind k →
     s.naming ≡ names k → s.valued ≡ valued k → role_of s.first ≡ (shape_of k).first → role_of s.second ≡ (shape_of k).second →
     role_of s.constant ≡ (shape_of k).constant → RowOf h r
-row_as {h} {k} {r} {s} e d sort kind naming valued first second constant =
+row_as {h} {k} {r} {s} e d length sort kind naming valued first second constant =
     rw (e, d) (record {
+      length_is = length;
       sort_is = sort;
       kind_is = kind;
       naming_is = naming;

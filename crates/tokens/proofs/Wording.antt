@@ -1,24 +1,22 @@
 -- Letters against the table of words: the library's tests of slices are the machine's, and the words are asked along the table.
 -- Assumes nothing.
-use Prim.Native.Nat.{ℕ, suc, ◌+◌, ◌-◌, ◌≤◌, ◌<◌}
+use Prim.Native.Nat.{ℕ, suc, ◌+◌, ◌≤◌, ◌<◌}
 use mathlib.Core.Path.{◌≡◌, refl, sym, ap, ◌∙◌}
 use mathlib.Core.Bool.{Bool, true, false, cond, not, ◌&&◌, ◌||◌, true≢false}
 use mathlib.Core.List.{List, [], ◌∷◌, ◌++◌}
 use mathlib.Core.Option.{some, none}
 use native.Mathlib.Omega.{arith}
 use native.Mathlib.Numerals.{add-one}
-use lib.ListN.{length, get_or, take, drop, drop_of_length-le, length-drop}
-use lib.Seq.{drop-cons, get_or-drop}
-use lib.Dec.{eqb, ltb, eqb-suc-suc, eqb-zero-suc}
+use lib.ListN.{length, get_or, drop, drop_of_length-le}
+use lib.Seq.{drop-cons}
+use lib.Dec.{eqb, eqb-suc-suc, eqb-zero-suc}
 use lib.Pointwise.{pointwise}
 use borrow.Author.Tests.{eq-eqb, ne_eqb, eqb-true}
 use Rattle.std.specs.List.{starts_with}
-use Rattle.std.proofs.lemmas.Bool.Decides.{nat_tests}
 use Rattle.circuit.proofs.Tests.{both_left, both_right}
 use Rattle.forms.specs.declared.Head.{Head}
 use Rattle.forms.specs.Words.{heads, letters, names, valued, outer, inner, stands}
 use Rattle.forms.specs.Machine.{starts, same, may, word_lives, word_is}
-use Rattle.tokens.specs.Code.{is_at}
 
 -- a word ----------------------------------------------------------------------------------------------------------------
 

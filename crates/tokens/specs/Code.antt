@@ -36,6 +36,7 @@ use Rattle.tokens.specs.declared.Number.{Number}
 
 -- the row of the table for a word
 pub record RowOf (h : Head) (r : Row) : Type 0 where
+  pub length_is : r.length ≡ length (letters h)
   pub sort_is : r.sort ≡ sort h
   pub kind_is : r.kind ≡ kind h
   pub naming_is : r.naming ≡ names h
@@ -45,8 +46,9 @@ pub record RowOf (h : Head) (r : Row) : Type 0 where
   pub constant_is : role_of r.constant ≡ (shape_of h).constant
 
 -- the row of a word with a gate that has a value
-abbrev pub valued_row : Sort → ℕ → Role → Role → Role → Row
-valued_row sort kind first second constant = record {
+abbrev pub valued_row : ℕ → Sort → ℕ → Role → Role → Role → Row
+valued_row length sort kind first second constant = record {
+  length = length;
   sort = sort;
   kind = kind;
   naming = false;

@@ -20,10 +20,11 @@ pub const SPACE: u8 = b' ';
 
 pub const FEED: u8 = b'\n';
 
-// What the table says of a word: what follows it, the kind of its gate, whether it names a row, whether its gate has a value, and what the
-// gate's numbers are for.
+// What the table says of a word: how long it is, what follows it, the kind of its gate, whether it names a row, whether its gate has a value,
+// and what the gate's numbers are for.
 #[derive(Clone, Copy)]
 pub struct Row {
+    pub length: usize,
     pub sort: Sort,
     pub kind: Word,
     pub naming: bool,

@@ -1,4 +1,4 @@
-// The table of words: one match over them.
+// The table of words: all of them in their order, and of each its letters and its row.
 ghost use Rattle.std.specs.Prelude.{◌≡◌};
 ghost use Rattle.tokens.specs.Code.{RowOf, valued_row};
 ghost use Rattle.forms.specs.Words.{letters};
@@ -43,10 +43,11 @@ pub fn letters(h: Head) -> &'static [u8]
 }
 
 // A row of a word with a gate that has a value.
-fn valued(sort: Sort, kind: Word, first: Role, second: Role, constant: Role) -> Row
-    ensures { result ≡ valued_row sort kind first second constant }
+fn valued(length: usize, sort: Sort, kind: Word, first: Role, second: Role, constant: Role) -> Row
+    ensures { result ≡ valued_row length sort kind first second constant }
 {
     Row {
+        length,
         sort,
         kind,
         naming: false,
@@ -62,13 +63,14 @@ pub fn row(h: Head) -> Row
     ensures { RowOf h result }
 {
     match h {
-        Head::In => valued(Sort::Leaf, 1, Role::Party, Role::Unused, Role::Unused),
-        Head::Add => valued(Sort::Two, 2, Role::Wire, Role::Wire, Role::Unused),
-        Head::Sub => valued(Sort::Two, 3, Role::Wire, Role::Wire, Role::Unused),
-        Head::Plus => valued(Sort::Scaled, 4, Role::Wire, Role::Unused, Role::Constant),
-        Head::Times => valued(Sort::Scaled, 5, Role::Wire, Role::Unused, Role::Constant),
-        Head::Mul => valued(Sort::Two, 6, Role::Wire, Role::Wire, Role::Unused),
+        Head::In => valued(2, Sort::Leaf, 1, Role::Party, Role::Unused, Role::Unused),
+        Head::Add => valued(3, Sort::Two, 2, Role::Wire, Role::Wire, Role::Unused),
+        Head::Sub => valued(3, Sort::Two, 3, Role::Wire, Role::Wire, Role::Unused),
+        Head::Plus => valued(4, Sort::Scaled, 4, Role::Wire, Role::Unused, Role::Constant),
+        Head::Times => valued(5, Sort::Scaled, 5, Role::Wire, Role::Unused, Role::Constant),
+        Head::Mul => valued(3, Sort::Two, 6, Role::Wire, Role::Wire, Role::Unused),
         Head::Out => Row {
+            length: 3,
             sort: Sort::One,
             kind: 7,
             naming: false,
@@ -78,6 +80,7 @@ pub fn row(h: Head) -> Row
             constant: Role::Unused,
         },
         Head::Line => Row {
+            length: 4,
             sort: Sort::Leaf,
             kind: 0,
             naming: true,
@@ -86,8 +89,9 @@ pub fn row(h: Head) -> Row
             second: Role::Unused,
             constant: Role::Unused,
         },
-        Head::Sq => valued(Sort::One, 8, Role::Wire, Role::Unused, Role::Unused),
+        Head::Sq => valued(2, Sort::One, 8, Role::Wire, Role::Unused, Role::Unused),
         Head::Give => Row {
+            length: 4,
             sort: Sort::Scaled,
             kind: 9,
             naming: false,
@@ -96,6 +100,6 @@ pub fn row(h: Head) -> Row
             second: Role::Party,
             constant: Role::Unused,
         },
-        Head::Over => valued(Sort::Scaled, 10, Role::Wire, Role::Unused, Role::Divisor),
+        Head::Over => valued(4, Sort::Scaled, 10, Role::Wire, Role::Unused, Role::Divisor),
     }
 }

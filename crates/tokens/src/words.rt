@@ -133,7 +133,8 @@ pub fn read_word(
     if let [b, next, ..] = &text[from..] {
         let head = suggested(*b, *next);
         if word_stands(*text, from, head) && may_stand(head, false, outermost) {
-            let to = from + table::letters(head).len() + 1;
+            let row = table::row(head);
+            let to = from + row.length + 1;
             return Ok(Spelt { head, to });
         }
     }

@@ -6,5 +6,5 @@ use Rattle.tokens.proofs.words.read_word.Goals as goal
 
 pub returns-then-may_stand : goal.returns-then-may_stand
 returns-then-may_stand c =
-    rw c.letters.ensures
+    rw c.row-row.ensures.length_is
     (standing_word _ _ _ _ _ c.requires.0 (may_more _ _ _ (sym c.if-may_stand.ensures)) (sym c.if-word_stands.ensures))
