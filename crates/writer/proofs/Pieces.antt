@@ -1,43 +1,22 @@
 -- What a row is made of, and how many bytes it has.
 -- Assumes nothing.
 use Prim.Native.Nat.{ℕ, ◌+◌, ◌*◌, ◌^◌, ◌≤◌, ◌<◌}
-use mathlib.Core.Path.{◌≡◌, refl}
-use mathlib.Core.Logic.{◌≢◌}
-use mathlib.Core.Bool.{Bool, true, false, cond}
+use mathlib.Core.Path.{◌≡◌}
 use mathlib.Core.List.{List, [], ◌∷◌}
 use native.Mathlib.Nat.{add-zero}
-use native.Mathlib.Numerals.{add-one}
 use native.Mathlib.Omega.{arith}
-use Rattle.std.proofs.lemmas.List.{drop_all}
-use lib.Dec.{eqb}
-use lib.ListN.{length, get_or, drop, length-append}
-use lib.Seq.{drop-cons}
-use borrow.Author.Tests.{eq-eqb, ne_eqb}
+use lib.ListN.{length, get_or, length-append}
 use Rattle.circuit.specs.Gate.{gate_size, entry}
 use Rattle.forms.specs.declared.Head.{Head}
-use Rattle.forms.specs.declared.Head.TheVariants.{In, Line}
+use Rattle.forms.specs.declared.Head.TheVariants.{Line}
 use Rattle.forms.specs.declared.Sort.{Sort}
 use Rattle.forms.specs.declared.Sort.TheVariants.{Leaf, One, Two, Scaled}
-use Rattle.forms.specs.Words.{heads, kind, sort, shape_of}
+use Rattle.forms.specs.Words.{sort, shape_of}
 use Rattle.forms.specs.Form as R
 use Rattle.forms.specs.Form.{leaf, one, two, scaled, feed, print}
-use Rattle.forms.specs.Entry.{head_of, picked, number_of, name, form_of, row_for, row_of}
+use Rattle.forms.specs.Entry.{head_of, number_of, name, form_of, row_for, row_of}
 use Rattle.forms.proofs.Lengths.{letters_few, length_word, length_leaf, length_one, length_two, length_scaled}
 use Rattle.writer.specs.Code.{row_text, row_room}
-
--- the words are looked through in their order
-module _ (i k : ℕ) where
-  pub picked_here : (h : Head) → h ≡ get_or heads i In → i < length heads → kind h ≡ k → picked (drop i heads) k ≡ h
-  unfolding picked
-  picked_here h e l q = rw (drop-cons heads i In l, ← e) (rw (eq-eqb _ _ q))
-
-  pub picked_later : (h : Head) → h ≡ get_or heads i In → i < length heads → kind h ≢ k → picked (drop (i + 1) heads) k ≡ picked (drop i heads) k
-  unfolding picked
-  picked_later h e l q = rw (add-one, drop-cons heads i In l, ← e) (rw (ne_eqb _ _ q))
-
-  pub picked_none : length heads ≤ i → picked (drop i heads) k ≡ Line
-  unfolding picked
-  picked_none h = rw (drop_all i heads h)
 
 -- how many bytes --------------------------------------------------------------------------------------------------------
 

@@ -100,6 +100,35 @@ unfolding over
 put_part text bytes at {part} e =
     record { ends = refl; holds = put_mid-paste at (at + length bytes - at) text part bytes (length bytes) e (omega arith) refl ∙ rw take-length }
 
+-- byte by byte ----------------------------------------------------------------------------------------------------------
+
+-- the first k bytes are put
+pub record Begun (before : List ℕ) (at : ℕ) (bytes text : List ℕ) (to k : ℕ) : Type 0 where
+  pub upto : k ≤ length bytes
+  pub so_far : Put before text at to (take k bytes)
+
+module _ (before : List ℕ) (at : ℕ) (bytes : List ℕ) where
+  pub begun_none : Begun before at bytes before at 0
+  begun_none = record { upto = omega arith; so_far = record { ends = sym (add-zero at); holds = sym (over_nothing before at) } }
+
+  module _ (fits : at + length bytes ≤ length before) {text : List ℕ} {to k : ℕ} (s : Begun before at bytes text to k) where
+    one_more : k < length bytes → at + length (take k bytes ++ (get_or bytes k 0 ∷ [])) ≤ length before
+    one_more h = omega (arith, length-append (take k bytes) (get_or bytes k 0 ∷ []), length-take-le k bytes s.upto)
+
+    pub begun_fits : k < length bytes → to < length text
+    begun_fits h = omega (arith, next_fits (take k bytes) (get_or bytes k 0 ∷ []) (one_more h) s.so_far)
+
+    pub begun_more : k < length bytes → {later : List ℕ} {end : ℕ} → Put text later to end (get_or bytes k 0 ∷ []) → Begun before at bytes later end (k + 1)
+    begun_more h q = record {
+      upto = omega arith;
+      so_far = rw (add-one, take-suc bytes k 0 h) (put_next (take k bytes) (get_or bytes k 0 ∷ []) (one_more h) s.so_far q);
+    }
+
+    pub begun_all : length bytes ≤ k → Put before text at to bytes
+    begun_all h =
+        let e : k ≡ length bytes = omega (arith, s.upto) in
+        rw (e, take-length) at s.so_far
+
 -- three pieces, one after another: each fits where those before it are put
 module _ (a : List ℕ) (at : ℕ) (xs ys zs : List ℕ) (fits : at + length (xs ++ ys ++ zs) ≤ length a) where
   two_fit : at + length (xs ++ ys) ≤ length a

@@ -1,20 +1,20 @@
 -- The rows of a circuit one after another: that they are put, and handed over; what the writer answers.
 -- Assumes nothing.
-use Prim.Native.Nat.{ℕ, ◌+◌, ◌-◌, ◌*◌, ◌/◌, ◌≤◌, ◌<◌}
-use mathlib.Core.Path.{◌≡◌, refl, sym, ap, ◌∙◌}
+use Prim.Native.Nat.{ℕ, ◌+◌, ◌*◌, ◌/◌, ◌≤◌, ◌<◌}
+use mathlib.Core.Path.{◌≡◌, refl, sym, ◌∙◌}
 use mathlib.Core.List.{List, ◌++◌}
 use native.Mathlib.Numerals.{add-one}
 use native.Mathlib.Omega.{arith}
 use lib.Dec.{leb}
-use lib.ListN.{length, take, drop, length-append}
-use borrow.Author.Tests.{le-leb, lt-leb}
+use lib.ListN.{length, take, length-append}
+use borrow.Author.Tests.{le-leb}
 use Rattle.field.specs.Words.{size}
 use Rattle.circuit.specs.Gate.{gate_size, gates}
 use Rattle.circuit.specs.Accept.{most_gates, ask_circuit}
 use Rattle.circuit.specs.Verdict.{Accepted, Refused, ask, ◌then◌}
 use Rattle.circuit.specs.Valid.{Valid}
 use Rattle.circuit.proofs.Valid.{valid}
-use Rattle.circuit.proofs.Verdicts.{ask_yes, ask_no, then_right, then_refused, then_passed, asked_last}
+use Rattle.circuit.proofs.Verdicts.{ask_yes, then_right, then_refused, then_passed, asked_last}
 use Rattle.circuit.proofs.Loops.{then_assoc}
 use Rattle.protocol.specs.Ask.{ask_parties}
 use Rattle.protocol.specs.Send.{overwrite}

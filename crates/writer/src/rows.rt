@@ -14,16 +14,23 @@ use gates::reading;
 use tokens::table;
 
 // The word whose form makes a gate of this kind, or the word of a name.
-#[tactic(auto, unfolding(forms::specs::Entry::head_of))]
+#[tactic(auto, unfolding(forms::specs::Entry::head_of, forms::specs::Entry::picked))]
 fn head_of(kind: Word) -> Head
     ensures { result ≡ head_of kind }
 {
-    for h in table::HEADS {
-        if table::row(h).kind == kind {
-            return h;
-        }
+    match kind {
+        1 => Head::In,
+        2 => Head::Add,
+        3 => Head::Sub,
+        4 => Head::Plus,
+        5 => Head::Times,
+        6 => Head::Mul,
+        7 => Head::Out,
+        8 => Head::Sq,
+        9 => Head::Give,
+        10 => Head::Over,
+        _ => Head::Line,
     }
-    Head::Line
 }
 
 // A number of a gate, if its form has it as its number; else 0.

@@ -1,5 +1,5 @@
 // Bytes, numbers, forms and rows are put over a text from a place on. Each answers where they end.
-ghost use Rattle.std.specs.Prelude.{[], ◌∷◌, ◌++◌, ◌+◌, ◌*◌, ◌≤◌, ◌<◌, length};
+ghost use Rattle.std.specs.Prelude.{◌≡◌, [], ◌∷◌, ◌++◌, ◌+◌, ◌*◌, ◌≤◌, ◌<◌, length};
 ghost use Rattle.circuit.specs.Gate.{gate_size};
 ghost use Rattle.forms.specs.Form.{leaf, one, two, scaled, space, begin, print, print_rows, decimal};
 ghost use Rattle.forms.specs.Entry.{name, rows_up_to};
@@ -8,7 +8,6 @@ ghost use Rattle.writer.specs.Code.{Put, form_in, row_text, row_room};
 use crate::{Form, lengths, rows};
 use field::Word;
 use forms::Head;
-use tokens::table;
 
 const NAUGHT: u8 = b'0';
 
@@ -30,14 +29,37 @@ pub fn put_bytes(text: &mut [u8], at: usize, bytes: &[u8]) -> usize
     to
 }
 
-// A bracket, a word and a space.
+// The bytes of a bracket, a word and a space. (All of them here: with the table's letters between two bytes writing a sheet takes longer.)
+#[inline(always)]
+#[tactic(auto, unfolding(forms::specs::Form::begin))]
+fn begin(h: Head) -> &'static [u8]
+    ensures { result.now ≡ begin h }
+{
+    match h {
+        Head::In => b"(in ",
+        Head::Add => b"(add ",
+        Head::Sub => b"(sub ",
+        Head::Plus => b"(plus ",
+        Head::Times => b"(times ",
+        Head::Mul => b"(mul ",
+        Head::Out => b"(out ",
+        Head::Line => b"(line ",
+        Head::Sq => b"(sq ",
+        Head::Give => b"(give ",
+        Head::Over => b"(over ",
+    }
+}
+
+// They are put byte by byte: a copy of so few bytes is a call here, and writing a sheet took up to two fifths longer with it.
 fn put_begin(text: &mut [u8], at: usize, h: Head) -> usize
     requires { at + length (begin h) ≤ length text.old }
     ensures { Put text.old text.new at result (begin h) }
 {
-    let word = put_byte(text, at, tokens::OPENING);
-    let end = put_bytes(text, word, table::letters(h));
-    put_byte(text, end, tokens::SPACE)
+    let mut end = at;
+    for b in begin(h) {
+        end = put_byte(text, end, *b);
+    }
+    end
 }
 
 // The digits from the last to the first.
