@@ -3,7 +3,7 @@
 use Rattle.std.specs.Prelude.{ℕ, Result, Ok, Err}
 use Rattle.circuit.specs.Verdict as Q
 use Rattle.circuit.specs.declared.questions.Question.{Question}
-use Rattle.circuit.specs.declared.questions.Question.TheVariants.{Parties, Party, CircuitSize, Kind, Named, Rest, Last, PrepSize, Prep, InputCount, Inputs, ScratchSize, Position, Half, Scratch, CoefficientCount, Coefficients, Room, HeardSize, Heard, Form, Depth, GateCount, Nonce, Ranges, Change}
+use Rattle.circuit.specs.declared.questions.Question.TheVariants.{Parties, Party, CircuitSize, Kind, Named, Rest, Last, PrepSize, Prep, InputCount, Inputs, ScratchSize, Position, Half, Scratch, CoefficientCount, Coefficients, Room, HeardSize, Heard, Form, Depth, GateCount, Nonce, Ranges, Change, Own}
 use Rattle.circuit.specs.declared.questions.Refusal.{Refusal}
 
 -- the number by which a question is refused
@@ -34,6 +34,7 @@ number_of GateCount = 24
 number_of Nonce = 25
 number_of Ranges = 26
 number_of Change = 27
+number_of (Own number) = number
 
 -- "A refusal gives its number and an index"; whatever a step has worked out, its questions are then accepted
 abbrev pub verdict_of : {A : Type 0} → Result A Refusal → Q.Verdict

@@ -1,4 +1,4 @@
-// What all parties work out of the words of all: a loop for each sort of round, in which each party is lent its own band of the scratch.
+// What all parties work out of the words of all, a function for each sort of round, in which each party is lent its own band of the scratch.
 // What is common to the parties is found once. Nothing is asked here: what is needed is what the entry has asked.
 ghost use Rattle.std.specs.Prelude.{◌≡◌, true, ◌+◌, ◌-◌, ◌*◌, ◌<◌, ◌≤◌, length};
 ghost use Rattle.field.specs.Words.{size, ops};

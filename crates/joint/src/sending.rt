@@ -1,4 +1,4 @@
-// What all parties send: a loop for each sort of word, in which each party gets its own part of the joined lists. Nothing is
+// What all parties send, a function for each sort of word, in which each party gets its own part of the joined lists. Nothing is
 // asked here: what is needed is what the entry has asked.
 ghost use Rattle.std.specs.Prelude.{◌≡◌, true, [], ◌∷◌, ℕ, ◌+◌, ◌-◌, ◌*◌, ◌<◌, ◌≤◌, length, get_or};
 ghost use Rattle.algebra.specs.Element.{Is};

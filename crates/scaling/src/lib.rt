@@ -14,10 +14,10 @@ use field::Word;
 // What scaling returns where nothing refuses; else the number of the question that does.
 const SCALED: u32 = 0;
 
-// The questions of scaling are its own, and are asked under the names that have their numbers, 1 and 2.
-const FACTOR: Question = Question::Parties;
+// The questions of scaling are its own.
+const FACTOR: Question = Question::Own(1);
 
-const VALUES: Question = Question::Party;
+const VALUES: Question = Question::Own(2);
 
 // Each number of a list times a factor, in place; nothing is written where one of them is no element.
 #[tactic(auto, unfolding(crate::specs::Scale::refusal_number, protocol::specs::Entry::leave))]
