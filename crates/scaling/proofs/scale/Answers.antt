@@ -3,13 +3,14 @@
 use Prim.Native.Nat.{ℕ, ◌+◌, ◌/◌}
 use mathlib.Core.Path.{◌≡◌, ap, ◌∙◌}
 use native.Mathlib.Omega.{arith}
+use borrow.Author.Rules.{rules}
 use Rattle.field.specs.Prime.{mul}
 use Rattle.scaling.proofs.Scaling.{scaling_starts, scaling_again, scaling_ends}
 use Rattle.scaling.proofs.scale.Goals as goal
 
 -- half of twice a factor is the factor
-half : (k x : ℕ) → mul x ((k + k) / 2) ≡ mul x k
-half k x = let e : (k + k) / 2 ≡ k = omega arith in ap (λ (n : ℕ). mul x n) e
+half : {t : ℕ} (k x : ℕ) → t ≡ k + k → mul x (t / 2) ≡ mul x k
+half {t} k x h = let e : t / 2 ≡ k = omega (arith, h) in ap (λ (n : ℕ). mul x n) e
 
 pub overflow_add-twice : goal.overflow_add-twice
 overflow_add-twice c =
@@ -25,7 +26,7 @@ mul_twice-requires c =
 
 pub loop-x-preserved : goal.loop-x-preserved
 loop-x-preserved c =
-    scaling_again _ _ c.loop-x.invariant (omega arith) (c.mul_twice.ensures.is ∙ half c.args.by _)
+    scaling_again _ _ c.loop-x.invariant (omega arith) (c.mul_twice.ensures.is ∙ half c.args.by _ (search rules))
 
 pub returns : goal.returns
 returns c =
